@@ -1,0 +1,8 @@
+# The commands of the repository. Each needs the Rattle kit's `rt` on the path.
+
+.PHONY: test
+
+# Every proof from nothing, every must-fail edit, every test and program run.
+# The last line of the output is `N passed, M failed`.
+test:
+	@rt ci
