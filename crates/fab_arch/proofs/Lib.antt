@@ -1,0 +1,4 @@
+pub mod Accepted
+pub mod Sides
+pub mod Standing
+pub mod Perimeter

@@ -1,0 +1,130 @@
+-- What an architecture text means (VPR manual: the lines `io_rat`, `inpin` and `outpin`; all others concern
+-- routing and timing, and mean nothing to placement).
+use Rattle.std.specs.Prelude.{ℕ, ◌<◌, ◌≤◌, ◌≡◌, Bool, false, not, ◌||◌, ◌&&◌, ◌==◌, nat_lt, List, [], ◌∷◌, ◌++◌, if◌then◌else◌, length, map, filter, count_by, drop, slice_get, codes, Option, Some, None, Result, Ok, Err}
+use Rattle.std.specs.List.{list_any, list_all, AllByRecursion}
+use Rattle.std.specs.Result.{result_ok}
+use Rattle.std.specs.Str.{bytes_eq}
+use Rattle.fab_text.specs.Lines.{TextLine, lines}
+use Rattle.fab_text.specs.FirstFault.{or_else, fault_behind, fault_of_all}
+use Rattle.fab_text.specs.Decimal.{decimal_of}
+use Rattle.fab_text.specs.declared.numbers.NumFault.{NumFault}
+use Rattle.fab_text.specs.declared.numbers.NumFault.TheVariants as num
+use Rattle.fab_arch.specs.declared.architecture.PinKind.{PinKind}
+use Rattle.fab_arch.specs.declared.architecture.PinKind.TheVariants.{Reads, Drives}
+use Rattle.fab_arch.specs.declared.fault.ArchFault.{ArchFault}
+use Rattle.fab_arch.specs.declared.fault.ArchFault.TheVariants.{NoIoRat, RepeatedIoRat, BadNumber, BadPinLine, NoPins, TooLarge, NoMemory}
+
+-- whether a word is there and is this one
+abbrev pub is_word : Option (List ℕ) → List ℕ → Bool
+is_word None name = false
+is_word (Some word) name = bytes_eq word name
+
+-- whether a line begins with this word
+abbrev pub begins_with : List ℕ → TextLine → Bool
+begins_with name l = is_word (slice_get l.words 0) name
+
+unfoldable pub is_io_rat : TextLine → Bool
+is_io_rat l = begins_with (codes "io_rat") l
+
+unfoldable pub is_inpin : TextLine → Bool
+is_inpin l = begins_with (codes "inpin") l
+
+unfoldable pub is_outpin : TextLine → Bool
+is_outpin l = begins_with (codes "outpin") l
+
+abbrev pub is_pin : TextLine → Bool
+is_pin l = is_inpin l || is_outpin l
+
+abbrev pub kind_of : TextLine → PinKind
+kind_of l = if is_inpin l then Reads else Drives
+
+-- a whole number within limits, or what is wrong with it on line n
+abbrev pub within : ℕ → ℕ → ℕ → Result ℕ NumFault → Result ℕ ArchFault
+within n low high (Ok value) = if nat_lt value low then Err (BadNumber n) else if nat_lt high value then Err (TooLarge n) else Ok value
+within n low high (Err num.BadDigit) = Err (BadNumber n)
+within n low high (Err num.TooManyPlaces) = Err (BadNumber n)
+within n low high (Err num.TooLarge) = Err (TooLarge n)
+
+abbrev pub number_of : ℕ → ℕ → ℕ → Option (List ℕ) → Result ℕ ArchFault
+number_of n low high None = Err (BadNumber n)
+number_of n low high (Some word) = within n low high (decimal_of word 0)
+
+-- the pads for each position that a line gives
+unfoldable pub ratio_of : TextLine → Result ℕ ArchFault
+ratio_of l = number_of l.number 1 64 (slice_get l.words 1)
+
+abbrev pub is_side : List ℕ → Bool
+is_side w = bytes_eq w (codes "top") || bytes_eq w (codes "bottom") || bytes_eq w (codes "left") || bytes_eq w (codes "right")
+
+-- the words behind a leading `global`
+abbrev pub without_global : List (List ℕ) → List (List ℕ)
+without_global [] = []
+without_global (w ∷ ws) = if bytes_eq w (codes "global") then ws else w ∷ ws
+
+-- sides, and at least one
+abbrev pub are_sides : List (List ℕ) → Bool
+are_sides ws = list_all is_side ws && not (length ws == 0)
+
+abbrev pub pin_fault_from : TextLine → Result ℕ ArchFault → Option ArchFault
+pin_fault_from l (Err e) = Some e
+pin_fault_from l (Ok class) = if are_sides (without_global (drop 3 l.words)) then None else Some (BadPinLine l.number)
+
+-- what is wrong with a pin's line, whatever stands before it
+unfoldable pub pin_fault : TextLine → Option ArchFault
+pin_fault l = if is_word (slice_get l.words 1) (codes "class:") then pin_fault_from l (number_of l.number 0 65535 (slice_get l.words 2)) else Some (BadPinLine l.number)
+
+abbrev pub err_of : {A : Type 0} → Result A ArchFault → Option ArchFault
+err_of (Ok value) = None
+err_of (Err e) = Some e
+
+-- the first fault of a line, where an `io_rat` stands before it or not, and so many pins
+unfoldable pub line_fault : Bool → ℕ → TextLine → Option ArchFault
+line_fault has_ratio pins l =
+    if is_io_rat l then (if has_ratio then Some (RepeatedIoRat l.number) else err_of (ratio_of l))
+    else if is_pin l then or_else (pin_fault l) (if nat_lt pins 1024 then None else Some (TooLarge l.number))
+    else None
+
+-- the first fault of a line behind others
+abbrev pub fault_of : List TextLine → TextLine → Option ArchFault
+fault_of before l = line_fault (list_any is_io_rat before) (count_by is_pin before) l
+
+-- the fault of a whole text, whose lines have none
+abbrev pub text_fault : List TextLine → Option ArchFault
+text_fault ls = if not (list_any is_io_rat ls) then Some NoIoRat else if count_by is_pin ls == 0 then Some NoPins else None
+
+-- the first fault of lines behind others
+abbrev pub fault_after : List TextLine → List TextLine → Option ArchFault
+fault_after before ls = fault_behind fault_of text_fault before ls
+
+-- the first fault of a text
+abbrev pub first_fault : List TextLine → Option ArchFault
+first_fault ls = fault_of_all fault_of text_fault ls
+
+-- what lines mean: one of them gives the pads for each position, every pin's line is lawful, and the pins are theirs
+pub record IsArch (ls : List TextLine) (ratio : ℕ) (pins : List PinKind) : Type 0 where
+  pub line : TextLine
+  pub one : filter is_io_rat ls ≡ line ∷ []
+  pub given : ratio_of line ≡ Ok ratio
+  pub lawful : AllByRecursion (λ l. pin_fault l ≡ None) (filter is_pin ls)
+  pub kinds : pins ≡ map kind_of (filter is_pin ls)
+  pub some : 0 < length pins
+  pub few : length pins ≤ 1024
+
+-- a fault that was answered is want of memory, or this one
+abbrev pub FaultIs : ArchFault → Option ArchFault → Type 0
+FaultIs NoMemory fault = Unit {0}
+FaultIs e fault = fault ≡ Some e
+
+-- the pads for each position that lines have given, behind one more
+abbrev pub ratio_after : Option ℕ → TextLine → Option ℕ
+ratio_after before l = if is_io_rat l then result_ok (ratio_of l) else before
+
+-- the pins of a line
+abbrev pub pins_in : TextLine → List PinKind
+pins_in l = if is_pin l then kind_of l ∷ [] else []
+
+-- a text's lines mean an architecture, or have a first fault, and never both
+abbrev pub MeansOrFaults : List TextLine → Type 0
+MeansOrFaults ls =
+    ((ratio : ℕ) (pins : List PinKind) → IsArch ls ratio pins → first_fault ls ≡ None)
+    × (first_fault ls ≡ None → (ratio : ℕ) × ((pins : List PinKind) × IsArch ls ratio pins))

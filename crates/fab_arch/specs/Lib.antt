@@ -1,0 +1,2 @@
+pub mod Arch
+pub mod Grid

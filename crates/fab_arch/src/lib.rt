@@ -1,0 +1,14 @@
+//! Architectures: what an architecture text says, and the array of sites that blocks are placed on.
+#![tactic(auto)]
+
+pub mod architecture;
+pub mod array;
+pub mod fault;
+pub mod reading;
+#[cfg(test)]
+mod tests;
+
+pub use architecture::{Arch, PinKind};
+pub use array::{Grid, Site, SiteKind};
+pub use fault::{ArchFault, GridFault};
+pub use reading::read_arch;

@@ -1,0 +1,39 @@
+-- The first fault of a text: one notion for every reader (our own).
+use Rattle.std.specs.Prelude.{ℕ, ◌≡◌, ◌==◌, Bool, List, [], ◌∷◌, ◌++◌, length, Option, Some, None, if◌then◌else◌, refl}
+
+-- the first of two faults, the earlier of which comes first
+abbrev pub or_else : {E : Type 0} → Option E → Option E → Option E
+or_else None later = later
+or_else (Some fault) later = Some fault
+
+-- a fault where a test fails
+abbrev pub unless : {E : Type 0} → Bool → E → Option E
+unless passed fault = if passed then None else Some fault
+
+-- the first fault of lines that stand behind others. A line is judged behind the lines before it; the faults
+-- of the whole text come after those of all lines
+abbrev pub fault_behind : {L E : Type 0} → (List L → L → Option E) → (List L → Option E) → List L → List L → Option E
+fault_behind of_line of_text before [] = of_text before
+fault_behind of_line of_text before (l ∷ ls) = or_else (of_line before l) (fault_behind of_line of_text (before ++ l ∷ []) ls)
+
+-- the first fault of all the lines of a text
+abbrev pub fault_of_all : {L E : Type 0} → (List L → L → Option E) → (List L → Option E) → List L → Option E
+fault_of_all of_line of_text ls = fault_behind of_line of_text [] ls
+
+-- in the examples a line is a number, faulty where it equals how many stand before it, and a text is faulty
+-- where it is empty
+abbrev stands_at_its_number : List ℕ → ℕ → Option ℕ
+stands_at_its_number before n = if length before == n then Some n else None
+
+abbrev is_empty : List ℕ → Option ℕ
+is_empty [] = Some 1000
+is_empty (n ∷ ns) = None
+
+pub first_of_two_faulty_lines : fault_of_all stands_at_its_number is_empty (5 ∷ 1 ∷ 2 ∷ []) ≡ Some 1
+first_of_two_faulty_lines = refl
+
+pub fault_of_the_whole_text : fault_of_all stands_at_its_number is_empty [] ≡ Some 1000
+fault_of_the_whole_text = refl
+
+pub no_fault_at_all : fault_of_all stands_at_its_number is_empty (7 ∷ 7 ∷ []) ≡ None
+no_fault_at_all = refl

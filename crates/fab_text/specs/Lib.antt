@@ -1,0 +1,9 @@
+pub mod Decimal
+pub mod Examples
+pub mod Failures
+pub mod FirstFault
+pub mod Fixed
+pub mod Lines
+pub mod Runs
+pub mod Shown
+pub mod Steps

@@ -1,0 +1,105 @@
+-- What the lines of a text are.
+use Rattle.std.specs.Prelude.{ℕ, ◌+◌, ◌-◌, Bool, true, false, not, ◌||◌, ◌==◌, List, [], ◌∷◌, ◌++◌, if◌then◌else◌, length, map, filter, slice_range, slice_index, take, drop}
+use Rattle.std.specs.List.{before_first, suffix_len}
+use Rattle.fab_text.specs.declared.pieces.Span.{Span}
+
+-- a space, a tab or a carriage return
+abbrev pub is_separator : ℕ → Bool
+is_separator c = c == 32 || c == 9 || c == 13
+
+-- a `#`
+abbrev pub is_hash : ℕ → Bool
+is_hash c = c == 35
+
+-- a line feed
+abbrev pub is_line_feed : ℕ → Bool
+is_line_feed c = c == 10
+
+-- a physical line: the place of its first byte in the source, and its bytes
+pub record Physical : Type 0 where
+  pub start : ℕ
+  pub bytes : List ℕ
+
+-- a byte at a place, before the lines of what follows it on its line
+abbrev pub put_first : ℕ → ℕ → List Physical → List Physical
+put_first at c [] = record { start = at; bytes = c ∷ [] } ∷ []
+put_first at c (p ∷ ps) = record { start = at; bytes = c ∷ p.bytes } ∷ ps
+
+-- the physical lines of a text that begins at a place: each ends at a line feed or at the end
+abbrev pub physical : ℕ → List ℕ → List Physical
+physical at [] = []
+physical at (c ∷ cs) = if is_line_feed c then record { start = at; bytes = [] } ∷ physical (at + 1) cs else put_first at c (physical (at + 1) cs)
+
+-- without the separators at its end
+unfoldable pub trimmed : List ℕ → List ℕ
+trimmed xs = take (length xs - suffix_len is_separator xs) xs
+
+-- what a physical line has before its first `#`, without separators at the end
+unfoldable pub content : List ℕ → List ℕ
+content bytes = trimmed (before_first is_hash bytes)
+
+-- whether the last byte left is a backslash
+unfoldable pub is_continued : List ℕ → Bool
+is_continued xs = slice_index xs (length xs - 1) == 92
+
+-- without that backslash
+unfoldable pub without_backslash : List ℕ → List ℕ
+without_backslash xs = take (if is_continued xs then length xs - 1 else length xs) xs
+
+-- the run from a place on to another, before the words of what stands there: one word with the first
+-- of them where that one begins right there
+abbrev pub run : ℕ → ℕ → List Span → List Span
+run from at [] = record { start = from; stop = at } ∷ []
+run from at (s ∷ ss) = if s.start == at then record { start = from; stop = s.stop } ∷ ss else record { start = from; stop = at } ∷ s ∷ ss
+
+-- the words of bytes that begin at a place: the greatest runs without separators
+abbrev pub words_at : ℕ → List ℕ → List Span
+words_at at [] = []
+words_at at (c ∷ cs) = if is_separator c then words_at (at + 1) cs else run at (at + 1) (words_at (at + 1) cs)
+
+-- a line: the number of its first physical line, and the places of its words
+pub record Placed : Type 0 where
+  pub number : ℕ
+  pub spans : List Span
+
+-- words of a physical line, and the line that continues it, if any
+abbrev pub join_first : ℕ → List Span → List Placed → List Placed
+join_first n ws [] = record { number = n; spans = ws } ∷ []
+join_first n ws (l ∷ ls) = record { number = n; spans = ws ++ l.spans } ∷ ls
+
+-- the words of a physical line
+unfoldable pub words_of : Physical → List Span
+words_of p = words_at p.start (without_backslash (content p.bytes))
+
+-- the lines that physical lines make, the first of them with this number
+abbrev pub joined : ℕ → List Physical → List Placed
+joined n [] = []
+joined n (p ∷ ps) = if is_continued (content p.bytes) then join_first n (words_of p) (joined (n + 1) ps) else record { number = n; spans = words_of p } ∷ joined (n + 1) ps
+
+abbrev pub has_words : Placed → Bool
+has_words l = not (is_nil l.spans)
+  where
+    is_nil : List Span → Bool
+    is_nil [] = true
+    is_nil (s ∷ ss) = false
+
+-- a line as a reader gives it: its number, its words, and the place of each
+pub record TextLine : Type 0 where
+  pub number : ℕ
+  pub words : List (List ℕ)
+  pub spans : List Span
+
+-- what a text has from the start of a span to its stop
+abbrev pub bytes_at : List ℕ → Span → List ℕ
+bytes_at text s = slice_range text s.start s.stop
+
+abbrev pub line_of : List ℕ → Placed → TextLine
+line_of text l = record { number = l.number; words = map (bytes_at text) l.spans; spans = l.spans }
+
+-- the lines of a text from a place on, where the physical line there has this number
+unfoldable pub lines_from : List ℕ → ℕ → ℕ → List TextLine
+lines_from text at n = map (line_of text) (filter has_words (joined n (physical at (drop at text))))
+
+-- the lines of a text
+abbrev pub lines : List ℕ → List TextLine
+lines text = lines_from text 0 1

@@ -1,0 +1,7 @@
+-- A line that a reader gave, as a line of the text.
+use Rattle.std.specs.Prelude.{map}
+use Rattle.fab_text.specs.declared.pieces.Line.{Line}
+use Rattle.fab_text.specs.Lines.{TextLine}
+
+abbrev pub shown : Line → TextLine
+shown l = record { number = l.number; words = map (λ w. w.now) l.words.items; spans = l.spans.items }

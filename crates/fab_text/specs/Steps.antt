@@ -1,0 +1,11 @@
+-- What the private steps of the reader do.
+use Rattle.std.specs.Prelude.{ℕ, ◌≡◌, Bool, List, ◌∷◌, ◌++◌, drop}
+use Rattle.fab_text.specs.declared.pieces.Span.{Span}
+use Rattle.fab_text.specs.Lines.{Physical, physical, is_continued, content, words_of}
+
+-- the physical line at a place of a text: what it says of its continuation, where the next begins, and the words it adds
+pub record IsNextLine (text : List ℕ) (at : ℕ) (continued : Bool) (next : ℕ) (old new : List Span) : Type 0 where
+  pub line : Physical
+  pub first : physical at (drop at text) ≡ line ∷ physical next (drop next text)
+  pub continues : continued ≡ is_continued (content line.bytes)
+  pub words : new ≡ old ++ words_of line

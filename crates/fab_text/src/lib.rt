@@ -1,0 +1,17 @@
+//! Text in and text out: the lines of a text and their words, decimal numbers read and printed, and
+//! writes that put out all of their bytes or say that they did not.
+#![tactic(auto)]
+
+pub mod numbers;
+pub mod output;
+pub mod pieces;
+pub mod printing;
+pub mod reading;
+#[cfg(test)]
+mod tests;
+
+pub use numbers::{NumFault, decimal};
+pub use output::{Counted, Sink, WriteFault, write_whole};
+pub use pieces::{Line, Span};
+pub use printing::{push_fixed3, push_fixed4, push_number};
+pub use reading::Lines;

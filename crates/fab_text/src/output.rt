@@ -1,0 +1,110 @@
+//! Whole writes: what takes bytes, and a write that goes on until all of them are out or one fails.
+
+ghost use Rattle.std.specs.Prelude.{◌≡◌, ℕ, Option, ◌≤◌, ◌<◌, List, length, take, IfOk, OnOk, OnErr};
+ghost use Rattle.std.specs.Io.KnownBytes.{Appends, WriteAppends};
+ghost use Rattle.fab_text.specs.Failures.{grown, failed_after};
+
+use std::io::Write;
+use std::marker::Model;
+use thiserror::Error;
+
+/// A writer that failed, or that took nothing of some bytes.
+#[derive(Clone, Copy, Debug, PartialEq, Eq, Error)]
+#[error("the writer failed")]
+pub struct WriteFault;
+
+/// What takes bytes, and counts the writes that failed.
+pub trait Sink {
+    /// What it has taken, where that is known.
+    ghost contents: { Self → Option (List ℕ) };
+
+    /// How often it failed.
+    ghost failed: { Self → ℕ };
+
+    /// Takes the first so many of the bytes, which then stand at the end of its contents. A fault takes none.
+    fn write(&mut self, bytes: &[u8]) -> Result<usize, WriteFault>
+        ensures within { IfOk result (λ n. n ≤ length bytes.now) }
+        ensures taken { WriteAppends (contents self.old) (contents self.new) result bytes.now }
+        ensures failed { failed self.new ≡ failed_after bytes.now result (failed self.old) };
+
+    /// How many writes failed: those that answered a fault, and those that took nothing of bytes that are not
+    /// empty. At the greatest number it stays.
+    fn failures(&self) -> u64
+        ensures { result ≡ failed self.now };
+}
+
+/// Any writer as a `Sink`.
+#[derive(Drop)]
+pub struct Counted<W: Write> {
+    inner: W,
+    failures: u64,
+}
+
+impl<W: Write> Model for Counted<W> {
+    ghost use Rattle.fab_text.specs.Failures.{Written};
+
+    ghost Value = { Written };
+
+    ghost view = { λ c. record { contents = W.contents c.inner; failures = c.failures } };
+}
+
+impl<W: Write> Counted<W> {
+    /// A writer, none of whose writes has failed yet.
+    pub fn new(inner: W) -> Self
+        ensures contents { result.contents ≡ W.contents inner }
+        ensures failures { result.failures ≡ 0 }
+    {
+        Counted { inner, failures: 0 }
+    }
+
+    /// The writer.
+    pub fn into_inner(self) -> W
+        ensures { W.contents result ≡ self.contents }
+    {
+        let Counted { inner, failures: _ } = self;
+        inner
+    }
+}
+
+impl<W: Write> Sink for Counted<W> {
+    ghost contents = { λ c. c.contents };
+
+    ghost failed = { λ c. c.failures };
+
+    fn write(&mut self, bytes: &[u8]) -> Result<usize, WriteFault> {
+        match self.inner.write(bytes) {
+            Ok(taken) => {
+                if taken == 0 && !bytes.is_empty() {
+                    self.failures = self.failures.saturating_add(1);
+                }
+                Ok(taken)
+            }
+            Err(_) => {
+                self.failures = self.failures.saturating_add(1);
+                Err(WriteFault)
+            }
+        }
+    }
+
+    fn failures(&self) -> u64 {
+        self.failures
+    }
+}
+
+/// Writes all of the bytes. Where a write fails, a beginning of them has gone out.
+pub fn write_whole<W: Sink>(out: &mut W, bytes: &[u8]) -> Result<(), WriteFault>
+    ensures whole { OnOk result (Appends (W.contents out.old) (W.contents out.new) bytes.now) }
+    ensures beginning { OnErr result ((n : ℕ) × (n < length bytes.now) × Appends (W.contents out.old) (W.contents out.new) (take n bytes.now)) }
+    ensures sound { OnOk result (W.failed out.new ≡ W.failed out.old) }
+    ensures failed { OnErr result (W.failed out.new ≡ grown (W.failed out.old)) }
+{
+    let mut done = 0;
+    while done < bytes.len() {
+        let taken = out.write(&bytes[done..])?;
+        if taken == 0 {
+            return Err(WriteFault);
+        }
+        done += taken;
+    }
+    Ok(())
+}

@@ -1,0 +1,283 @@
+//! The lines of a text, one after the other, with no copy of its bytes: the reader that every input
+//! format stands on.
+
+ghost use Rattle.std.specs.Prelude.{◌≡◌, ℕ, ◌+◌, ◌-◌, ◌++◌, ◌∷◌, [], ◌≤◌, ◌<◌, length, map, take, drop, slice_range, position, IfOk, OnOk, OnErr, IfSome, IfNone, if◌then◌else◌};
+ghost use Rattle.std.specs.List.{before_first};
+ghost use Rattle.fab_text.specs.Steps.{IsNextLine};
+ghost use Rattle.fab_text.specs.Runs.{SeparatorsPassed, RunsAreWords};
+ghost use Rattle.fab_text.specs.Shown.{shown};
+ghost use Rattle.fab_text.specs.Lines.{is_separator, is_hash, is_line_feed, trimmed, content, is_continued, words_at, bytes_at, physical, without_backslash, joined, lines, lines_from};
+
+use crate::pieces::{Line, Span};
+use std::alloc::{AllocError, Global};
+use std::marker::Model;
+
+fn is_separator(byte: u8) -> bool
+    ensures { result ≡ is_separator byte }
+{
+    byte == b' ' || byte == b'\t' || byte == b'\r'
+}
+
+fn hash_place(line: &[u8]) -> Option<usize>
+    ensures { result ≡ position is_hash line.now }
+{
+    line.iter().position(|byte| *byte == b'#')
+}
+
+fn before_comment(line: &[u8]) -> &[u8]
+    ensures { result.now ≡ before_first is_hash line.now }
+{
+    match hash_place(line) {
+        Some(i) => &line[..i],
+        None => line,
+    }
+}
+
+#[tactic(auto, unfolding(crate::specs::Lines::trimmed))]
+fn trim_end(line: &[u8]) -> &[u8]
+    ensures { result.now ≡ trimmed line.now }
+{
+    let mut end = line.len();
+    while end > 0 && is_separator(line[end - 1]) {
+        end -= 1;
+    }
+    &line[..end]
+}
+
+#[tactic(auto, unfolding(crate::specs::Lines::content))]
+fn content(line: &[u8]) -> &[u8]
+    ensures { result.now ≡ content line.now }
+{
+    trim_end(before_comment(line))
+}
+
+#[tactic(auto, unfolding(crate::specs::Lines::is_continued))]
+fn is_continued(line: &[u8]) -> bool
+    ensures { result ≡ is_continued line.now }
+{
+    match line.last() {
+        Some(byte) => *byte == b'\\',
+        None => false,
+    }
+}
+
+fn line_feed_place(rest: &[u8]) -> Option<usize>
+    ensures { result ≡ position is_line_feed rest.now }
+{
+    rest.iter().position(|byte| *byte == b'\n')
+}
+
+/// The physical line at the front of a text that is not empty, and how many bytes it takes with its end.
+fn first_line(rest: &[u8]) -> (&[u8], usize)
+    requires { 0 < length rest.now }
+    ensures line { result.0.now ≡ before_first is_line_feed rest.now }
+    ensures taken { (0 < result.1) × (result.1 ≤ length rest.now) × (length result.0.now ≤ result.1) }
+    ensures rest { (at : ℕ) → physical at rest.now ≡ record { start = at; bytes = result.0.now } ∷ physical (at + result.1) (drop result.1 rest.now) }
+{
+    match line_feed_place(rest) {
+        Some(i) => (&rest[..i], i + 1),
+        None => (rest, rest.len()),
+    }
+}
+
+/// How many bytes of a physical line hold its words.
+fn kept_len(line: &[u8]) -> (bool, usize)
+    ensures continued { result.0 ≡ is_continued (content line.now) }
+    ensures within { result.1 ≤ length line.now }
+    ensures kept { take result.1 line.now ≡ without_backslash (content line.now) }
+{
+    let kept = content(line);
+    if is_continued(kept) {
+        (true, kept.len() - 1)
+    } else {
+        (false, kept.len())
+    }
+}
+
+/// The words found so far, each as bytes and as a place.
+#[derive(Drop)]
+struct Gathered<'a> {
+    text: &'a [u8],
+    words: Vec<&'a [u8]>,
+    spans: Vec<Span>,
+    ghost matched: { map (λ w. w.now) words.items ≡ map (bytes_at text.now) spans.items },
+}
+
+impl<'a> Gathered<'a> {
+    fn new(alloc: Global, text: &'a [u8]) -> Self
+        ensures { (result.text.now ≡ text.now) × (result.spans.items ≡ []) }
+    {
+        Gathered {
+            text,
+            words: Vec::new(alloc),
+            spans: Vec::new(alloc),
+        }
+    }
+
+    fn push(&mut self, start: usize, stop: usize) -> Result<(), AllocError>
+        requires order { start ≤ stop }
+        requires within { stop ≤ length self.old.text.now }
+        ensures text { self.new.text.now ≡ self.old.text.now }
+        ensures spans { OnOk result (self.new.spans.items ≡ self.old.spans.items ++ record { start = start; stop = stop } ∷ []) }
+    {
+        self.words.push(&self.text[start..stop])?;
+        if let Err(failed) = self.spans.push(Span { start, stop }) {
+            self.words.pop();
+            return Err(AllocError::from(failed));
+        }
+        Ok(())
+    }
+
+    /// Adds the words that stand from a place on to another.
+    fn push_words(&mut self, from: usize, to: usize) -> Result<(), AllocError>
+        requires order { from ≤ to }
+        requires within { to ≤ length self.old.text.now }
+        ensures text { self.new.text.now ≡ self.old.text.now }
+        ensures spans { OnOk result (self.new.spans.items ≡ self.old.spans.items ++ words_at from (slice_range self.old.text.now from to)) }
+    {
+        let mut begun = None;
+        for i in from..to {
+            if is_separator(self.text[i]) {
+                if let Some(start) = begun {
+                    self.push(start, i)?;
+                    begun = None;
+                }
+            } else if begun.is_none() {
+                begun = Some(i);
+            }
+        }
+        if let Some(start) = begun {
+            self.push(start, to)?;
+        }
+        Ok(())
+    }
+
+    /// Adds the words of the physical line at a place. Answers whether the next line continues it, and where that begins.
+    fn push_physical(&mut self, at: usize) -> Result<(bool, usize), AllocError>
+        requires { at < length self.old.text.now }
+        ensures text { self.new.text.now ≡ self.old.text.now }
+        ensures next { IfOk result (λ r. (at < r.1) × (r.1 ≤ length self.old.text.now)) }
+        ensures line { IfOk result (λ r. IsNextLine self.old.text.now at r.0 r.1 self.old.spans.items self.new.spans.items) }
+    {
+        let (line, taken) = first_line(&self.text[at..]);
+        let (continued, len) = kept_len(line);
+        self.push_words(at, at + len)?;
+        Ok((continued, at + taken))
+    }
+}
+
+/// A whole line at a place that is not past the end: its words, where the next line begins, and the number there.
+fn read_joined<'a>(
+    alloc: Global,
+    text: &'a [u8],
+    at: usize,
+    number: u64,
+) -> Result<(Gathered<'a>, usize, u64), AllocError>
+    requires within { at < length text.now }
+    requires small { number ≤ at + 1 }
+    ensures text { IfOk result (λ r. r.0.text.now ≡ text.now) }
+    ensures next { IfOk result (λ r. (at < r.1) × (r.1 ≤ length text.now) × (r.2 ≤ r.1 + 1)) }
+    ensures line { IfOk result (λ r. joined number (physical at (drop at text.now))
+        ≡ record { number = number; spans = r.0.spans.items } ∷ joined r.2 (physical r.1 (drop r.1 text.now))) }
+{
+    let mut found = Gathered::new(alloc, text);
+    let mut place = at;
+    let mut next_number = number;
+    loop {
+        let (continued, next) = found.push_physical(place)?;
+        place = next;
+        next_number += 1;
+        if !continued || place == text.len() {
+            return Ok((found, place, next_number));
+        }
+    }
+}
+
+/// The first line with words from a place on, and where what follows it begins.
+fn next_line<'a>(
+    alloc: Global,
+    text: &'a [u8],
+    at: usize,
+    at_number: u64,
+) -> Result<(Option<Line<'a>>, usize, u64), AllocError>
+    requires within { at ≤ length text.now }
+    requires small { at_number ≤ at + 1 }
+    ensures next { IfOk result (λ r. (r.1 ≤ length text.now) × (r.2 ≤ r.1 + 1)) }
+    ensures some { IfOk result (λ r. IfSome r.0 (λ line. lines_from text.now at at_number ≡ shown line ∷ lines_from text.now r.1 r.2)) }
+    ensures none { IfOk result (λ r. IfNone r.0 ((lines_from text.now at at_number ≡ []) × (lines_from text.now r.1 r.2 ≡ []))) }
+{
+    let mut place = at;
+    let mut number = at_number;
+    while place < text.len() {
+        let (found, after, next_number) = read_joined(alloc, text, place, number)?;
+        if !found.spans.is_empty() {
+            let Gathered { words, spans, .. } = found;
+            let line = Line {
+                number,
+                words,
+                spans,
+            };
+            return Ok((Some(line), after, next_number));
+        }
+        place = after;
+        number = next_number;
+    }
+    Ok((None, place, number))
+}
+
+/// The lines of a text that are left to read.
+///
+/// A physical line ends at a line feed or at the end of the text, and is cut at its first `#`. Separators
+/// (space, tab, carriage return) at its end are then dropped. Where a backslash is then last, it is dropped
+/// and the next physical line continues this one, behind a separator. Lines without words are passed over.
+#[derive(Drop)]
+pub struct Lines<'a> {
+    alloc: Global,
+    text: &'a [u8],
+    place: usize,
+    next_number: u64,
+}
+
+impl<'a> Model for Lines<'a> {
+    ghost use Rattle.std.specs.Prelude.{List, ◌+◌, ◌≤◌, length};
+    ghost use Rattle.fab_text.specs.Lines.{TextLine, lines_from};
+
+    ghost Value = { List TextLine };
+
+    ghost view = { λ a. lines_from a.text.now a.place a.next_number };
+
+    ghost invariant = { λ a. (a.place ≤ length a.text.now) × (a.next_number ≤ a.place + 1) };
+}
+
+impl<'a> Lines<'a> {
+    /// All lines of a text.
+    pub fn new(alloc: Global, text: &'a [u8]) -> Self
+        ensures { result ≡ lines text.now }
+    {
+        Lines {
+            alloc,
+            text,
+            place: 0,
+            next_number: 1,
+        }
+    }
+
+    /// The first line that is left, which is then left no more; `None` where there is none. Want of memory
+    /// changes nothing.
+    pub fn next(&mut self) -> Result<Option<Line<'a>>, AllocError>
+        ensures some { IfOk result (λ r. IfSome r (λ line. self.old ≡ shown line ∷ self.new)) }
+        ensures none { IfOk result (λ r. IfNone r ((self.old ≡ []) × (self.new ≡ []))) }
+        ensures err { OnErr result (self.new ≡ self.old) }
+    {
+        let (line, place, number) = next_line(self.alloc, self.text, self.place, self.next_number)?;
+        self.place = place;
+        self.next_number = number;
+        Ok(line)
+    }
+}
+
+/// The law that the words of a line are the greatest runs without separators, whatever the text.
+pub fn words_are_greatest_runs()
+    ensures separators { SeparatorsPassed }
+    ensures runs { RunsAreWords }
+{}
