@@ -1,0 +1,2 @@
+//! The wire cost of placements.
+#![tactic(auto)]

@@ -1,0 +1,93 @@
+-- What a .place text stands for (VPR manual): a header of two lines, and for each block a line with its name and its
+-- site, in any order.
+use Rattle.std.specs.Prelude.{ℕ, ◌≡◌, ◌<◌, Bool, true, ◌&&◌, ◌==◌, nat_le, List, [], ◌∷◌, if◌then◌else◌, length, map, slice_index_or, codes, Option, Some, None, Result, Ok, Err}
+use Rattle.std.specs.List.{list_any, AllByRecursion}
+use Rattle.std.specs.Str.{bytes_eq}
+use Rattle.fab_text.specs.Lines.{TextLine}
+use Rattle.fab_text.specs.Decimal.{decimal_of}
+use Rattle.fab_text.specs.declared.numbers.NumFault.{NumFault}
+use Rattle.fab_arch.specs.declared.array.Site.{Site}
+use Rattle.fab_arch.specs.Grid.{GridShape}
+use Rattle.fab_net.specs.Names.{number_of, AllDistinct}
+use Rattle.fab_net.specs.Netlist.{Netlist}
+use Rattle.fab_site.specs.Placement.{site_of, IsLegal}
+
+abbrev pub word_at : TextLine → ℕ → List ℕ
+word_at l i = slice_index_or l.words i []
+
+abbrev pub is_word : TextLine → ℕ → List ℕ → Bool
+is_word l i name = bytes_eq (word_at l i) name
+
+abbrev pub small : Result ℕ NumFault → Option ℕ
+small (Ok n) = if nat_le n 65535 then Some n else None
+small (Err e) = None
+
+-- a whole number of at most 65,535
+abbrev pub small_number : List ℕ → Option ℕ
+small_number word = small (decimal_of word 0)
+
+-- `Netlist file: A   Architecture file: B`
+abbrev pub is_files_line : TextLine → Bool
+is_files_line l =
+    length l.words == 6
+    && (is_word l 0 (codes "Netlist") && is_word l 1 (codes "file:"))
+    && (is_word l 3 (codes "Architecture") && is_word l 4 (codes "file:"))
+
+abbrev pub is_size_line : TextLine → Bool
+is_size_line l =
+    length l.words == 7
+    && (is_word l 0 (codes "Array") && is_word l 1 (codes "size:"))
+    && is_word l 3 (codes "x")
+    && (is_word l 5 (codes "logic") && is_word l 6 (codes "blocks"))
+
+abbrev pub both : Option ℕ → Option ℕ → Option (ℕ × ℕ)
+both None y = None
+both (Some x) None = None
+both (Some x) (Some y) = Some (x, y)
+
+-- the columns and rows that `Array size: NX x NY logic blocks` gives
+abbrev pub size_in : TextLine → Option (ℕ × ℕ)
+size_in l = if is_size_line l then both (small_number (word_at l 2)) (small_number (word_at l 4)) else None
+
+-- the size that the header of a text gives
+abbrev pub place_size_of : List TextLine → Option (ℕ × ℕ)
+place_size_of [] = None
+place_size_of (files ∷ []) = None
+place_size_of (files ∷ size ∷ rest) = if is_files_line files then size_in size else None
+
+abbrev pub site_from : Option ℕ → Option ℕ → Option ℕ → Option Site
+site_from None y sub = None
+site_from (Some x) None sub = None
+site_from (Some x) (Some y) None = None
+site_from (Some x) (Some y) (Some sub) = Some (record { x = x; y = y; sub = sub })
+
+-- the site that a line `name x y sub` gives
+abbrev pub site_in : TextLine → Option Site
+site_in l = if length l.words == 4 then site_from (small_number (word_at l 1)) (small_number (word_at l 2)) (small_number (word_at l 3)) else None
+
+-- the block that a line names
+abbrev pub block_in : Netlist → TextLine → Option ℕ
+block_in d l = number_of (word_at l 0) d.names
+
+-- the line names a block, and gives it the site where it stands
+pub record Places (d : Netlist) (sites : List Site) (l : TextLine) : Type 0 where
+  pub block : ℕ
+  pub named : block_in d l ≡ Some block
+  pub stands : site_in l ≡ Some (site_of sites block)
+
+abbrev pub names_block : List ℕ → TextLine → Bool
+names_block name l = bytes_eq name (word_at l 0)
+
+-- the text stands for this placement: behind its header each line places a block, no block has two lines, each has
+-- one, and the placement is legal
+pub record StandsFor (d : Netlist) (g : GridShape) (ls : List TextLine) (sites : List Site) : Type 0 where
+  pub files : TextLine
+  pub size : TextLine
+  pub rest : List TextLine
+  pub text : ls ≡ files ∷ size ∷ rest
+  pub files_line : is_files_line files ≡ true
+  pub size_line : size_in size ≡ Some (g.nx, g.ny)
+  pub lines : AllByRecursion (Places d sites) rest
+  pub distinct : AllDistinct (map (λ l. word_at l 0) rest)
+  pub complete : AllByRecursion (λ name. list_any (names_block name) rest ≡ true) d.names
+  pub legal : IsLegal d g [] sites

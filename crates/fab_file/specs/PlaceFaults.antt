@@ -1,0 +1,85 @@
+-- The first fault of a .place text.
+use Rattle.std.specs.Prelude.{ℕ, ◌≡◌, ◌==◌, Bool, true, not, ◌&&◌, is_some, List, [], ◌∷◌, ◌++◌, if◌then◌else◌, length, map, position, Option, Some, None}
+use Rattle.std.specs.List.{list_any, filter_map}
+use Rattle.std.specs.Str.{bytes_eq}
+use Rattle.fab_text.specs.Lines.{TextLine}
+use Rattle.fab_text.specs.FirstFault.{or_else, unless, fault_of_all}
+use Rattle.fab_arch.specs.declared.array.Site.{Site}
+use Rattle.fab_arch.specs.declared.array.SiteKind.{SiteKind}
+use Rattle.fab_arch.specs.declared.array.SiteKind.TheVariants as site_kind
+use Rattle.fab_arch.specs.Grid.{GridShape, kind_at}
+use Rattle.fab_net.specs.Netlist.{Netlist}
+use Rattle.fab_site.specs.Placement.{same_site, kind_wanted}
+use Rattle.fab_file.specs.declared.fault.PlaceFault.{PlaceFault}
+use Rattle.fab_file.specs.declared.fault.PlaceFault.TheVariants.{BadHeader, WrongSize, UnknownBlock, Repeated, NoSuchSite, WrongKind, Taken, Missing, BadLine, NoMemory}
+use Rattle.fab_file.specs.Place.{is_files_line, size_in, site_in, block_in, names_block}
+
+abbrev pub files_fault : TextLine → Option PlaceFault
+files_fault l = unless (is_files_line l) BadHeader
+
+abbrev pub size_fault_by : GridShape → Option (ℕ × ℕ) → Option PlaceFault
+size_fault_by g None = Some BadHeader
+size_fault_by g (Some size) = unless (size.0 == g.nx && size.1 == g.ny) WrongSize
+
+-- the sites that lines give
+abbrev pub sites_given : List TextLine → List Site
+sites_given ls = filter_map site_in ls
+
+-- the line names a block that one of these names
+abbrev pub is_repeated : Netlist → List TextLine → ℕ → Bool
+is_repeated d before block = list_any (λ l. is_this_block (block_in d l)) before
+  where
+    is_this_block : Option ℕ → Bool
+    is_this_block None = not true
+    is_this_block (Some other) = other == block
+
+abbrev pub same_kind : SiteKind → SiteKind → Bool
+same_kind site_kind.Logic site_kind.Logic = true
+same_kind site_kind.Logic site_kind.Pad = not true
+same_kind site_kind.Pad site_kind.Logic = not true
+same_kind site_kind.Pad site_kind.Pad = true
+
+abbrev pub kind_fault : Netlist → ℕ → ℕ → Option SiteKind → Option PlaceFault
+kind_fault d n block None = Some (NoSuchSite n)
+kind_fault d n block (Some kind) = unless (same_kind kind (kind_wanted d block)) (WrongKind n)
+
+-- the first fault of a block's line behind others, where it gives this site and names this block
+abbrev pub placed_fault : Netlist → GridShape → List TextLine → ℕ → Site → Option ℕ → Option PlaceFault
+placed_fault d g before n site None = Some (UnknownBlock n)
+placed_fault d g before n site (Some block) =
+    or_else (unless (not (is_repeated d before block)) (Repeated n))
+    (or_else (kind_fault d n block (kind_at g site))
+    (unless (not (list_any (same_site site) (sites_given before))) (Taken n)))
+
+abbrev pub block_fault_by : Netlist → GridShape → List TextLine → TextLine → Option Site → Option PlaceFault
+block_fault_by d g before l None = Some (BadLine l.number)
+block_fault_by d g before l (Some site) = placed_fault d g before l.number site (block_in d l)
+
+-- the first fault of a block's line behind other block lines
+abbrev pub block_fault : Netlist → GridShape → List TextLine → TextLine → Option PlaceFault
+block_fault d g before l = block_fault_by d g before l (site_in l)
+
+-- the first fault of a line behind others: the first two lines are the header
+abbrev pub fault_of : Netlist → GridShape → List TextLine → TextLine → Option PlaceFault
+fault_of d g [] l = files_fault l
+fault_of d g (files ∷ []) l = size_fault_by g (size_in l)
+fault_of d g (files ∷ size ∷ blocks) l = block_fault d g blocks l
+
+abbrev pub missing_fault : Option ℕ → Option PlaceFault
+missing_fault None = None
+missing_fault (Some block) = Some (Missing block)
+
+-- the fault of a whole text, whose lines have none: no header, or a block that no line names
+abbrev pub text_fault : Netlist → List TextLine → Option PlaceFault
+text_fault d [] = Some BadHeader
+text_fault d (files ∷ []) = Some BadHeader
+text_fault d (files ∷ size ∷ blocks) = missing_fault (position (λ name. not (list_any (names_block name) blocks)) d.names)
+
+-- the first fault of a text
+abbrev pub first_fault : Netlist → GridShape → List TextLine → Option PlaceFault
+first_fault d g ls = fault_of_all (fault_of d g) (text_fault d) ls
+
+-- a fault that was answered is want of memory, or this one
+abbrev pub FaultIs : PlaceFault → Option PlaceFault → Type 0
+FaultIs NoMemory fault = Unit {0}
+FaultIs e fault = fault ≡ Some e

@@ -1,0 +1,6 @@
+//! The texts of placements.
+#![tactic(auto)]
+
+pub mod fault;
+
+pub use fault::PlaceFault;

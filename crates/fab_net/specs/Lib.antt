@@ -1,0 +1,5 @@
+pub mod Names
+pub mod Netlist
+pub mod Text
+pub mod Faults
+pub mod Examples

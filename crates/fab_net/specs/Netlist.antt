@@ -1,0 +1,88 @@
+-- A netlist, as contracts see a design (VPR manual; Betz, Rose and Marquardt): blocks by number, and nets by
+-- number with a terminal for each pin on them.
+use Rattle.std.specs.Prelude.{ℕ, ◌≡◌, ◌≤◌, ◌<◌, ◌+◌, Bool, true, false, not, ◌==◌, List, [], ◌∷◌, map, filter, count_by, length, slice_index_or, codes, refl}
+use Rattle.std.specs.List.{range_with_len, list_any, sum_by}
+use Rattle.fab_net.specs.declared.pieces.BlockKind.{BlockKind}
+use Rattle.fab_net.specs.declared.pieces.BlockKind.TheVariants.{InputPad, OutputPad, Logic}
+use Rattle.fab_net.specs.declared.pieces.Terminal.{Terminal}
+
+-- of each block its kind and name, and of each net its terminals and whether it is global
+pub record Netlist : Type 0 where
+  pub kinds : List BlockKind
+  pub names : List (List ℕ)
+  pub terminals : List (List Terminal)
+  pub globals : List Bool
+
+-- a net, as placement sees it: of each terminal the block, so that a block may stand here more than once
+pub record Net : Type 0 where
+  pub global : Bool
+  pub blocks : List ℕ
+
+abbrev pub block_on : Terminal → ℕ
+block_on t = t.block.0
+
+abbrev pub net_at : Netlist → ℕ → Net
+net_at d n = record { global = slice_index_or d.globals n true; blocks = map block_on (slice_index_or d.terminals n []) }
+
+-- the numbers of the nets that count for placement: all that are not global
+abbrev pub counted : Netlist → List ℕ
+counted d = filter (λ n. not (net_at d n).global) (range_with_len 0 (length d.terminals))
+
+abbrev pub has_number : ℕ → List ℕ → Bool
+has_number n xs = list_any (λ x. n == x) xs
+
+-- the nets that count and have a terminal on the block, ascending
+abbrev pub nets_of : Netlist → ℕ → List ℕ
+nets_of d b = filter (λ n. has_number b (net_at d n).blocks) (counted d)
+
+abbrev pub is_logic : BlockKind → Bool
+is_logic InputPad = false
+is_logic OutputPad = false
+is_logic Logic = true
+
+-- whether a block is a logic block, and no pad
+abbrev pub is_logic_at : Netlist → ℕ → Bool
+is_logic_at d b = is_logic (slice_index_or d.kinds b Logic)
+
+abbrev pub logic_count : Netlist → ℕ
+logic_count d = count_by is_logic d.kinds
+
+abbrev pub pad_count : Netlist → ℕ
+pad_count d = count_by (λ k. not (is_logic k)) d.kinds
+
+abbrev pub terminal_count : Netlist → ℕ
+terminal_count d = sum_by length d.terminals
+
+-- the limits of a design, and that its nets have terminals, on its blocks alone
+pub record IsLawful (d : Netlist) : Type 0 where
+  pub few_blocks : length d.kinds ≤ 65535
+  pub few_nets : length d.terminals ≤ 65535
+  pub few_terminals : terminal_count d ≤ 1048576
+  pub named : length d.names ≡ length d.kinds
+  pub told : length d.globals ≡ length d.terminals
+  pub some_terminal : (n : ℕ) → n < length d.terminals → 0 < length (net_at d n).blocks
+  pub within : (n i : ℕ) → i < length (net_at d n).blocks → slice_index_or (net_at d n).blocks i 0 < length d.kinds
+
+abbrev pub terminal : ℕ → ℕ → Terminal
+terminal b p = record { block = record { 0 = b }; pin = p }
+
+-- three blocks: the logic block has two pins on net 1, and net 0 is global
+abbrev three_blocks : Netlist
+three_blocks = record {
+  kinds = InputPad ∷ Logic ∷ OutputPad ∷ [];
+  names = codes "a" ∷ codes "b" ∷ codes "z" ∷ [];
+  terminals = (terminal 0 0 ∷ terminal 1 0 ∷ []) ∷ (terminal 1 1 ∷ terminal 1 2 ∷ terminal 2 0 ∷ []) ∷ [];
+  globals = true ∷ false ∷ [];
+}
+
+pub global_nets_do_not_count : counted three_blocks ≡ 1 ∷ []
+global_nets_do_not_count = refl
+
+pub a_net_stands_once_for_a_block : nets_of three_blocks 1 ≡ 1 ∷ []
+a_net_stands_once_for_a_block = refl
+
+pub a_block_of_a_global_net_alone : nets_of three_blocks 0 ≡ []
+a_block_of_a_global_net_alone = refl
+
+pub a_repeated_block_is_two_terminals : (net_at three_blocks 1).blocks ≡ 1 ∷ 1 ∷ 2 ∷ []
+a_repeated_block_is_two_terminals = refl

@@ -1,0 +1,2 @@
+//! Runs over texts: what goes in, what comes out.
+#![tactic(auto)]

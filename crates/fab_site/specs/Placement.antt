@@ -1,0 +1,81 @@
+-- A placement is the list of sites by block number (Betz, Rose and Marquardt: each block on a site of its kind, no
+-- two on one).
+use Rattle.std.specs.Prelude.{ℕ, ◌≡◌, ◌+◌, ◌<◌, Bool, ◌&&◌, ◌==◌, if◌then◌else◌, List, [], ◌∷◌, length, Option, Some, None, slice_get, slice_index_or, slice_set, refl}
+use Rattle.fab_arch.specs.declared.array.Site.{Site}
+use Rattle.fab_arch.specs.declared.array.SiteKind.{SiteKind}
+use Rattle.fab_arch.specs.declared.array.SiteKind.TheVariants as site_kind
+use Rattle.fab_arch.specs.Grid.{GridShape, kind_at}
+use Rattle.fab_net.specs.declared.pieces.BlockId.{BlockId}
+use Rattle.fab_net.specs.Netlist.{Netlist, is_logic_at}
+use Rattle.fab_site.specs.declared.pieces.Swap.{Swap}
+
+-- a site that is none, for reads past the end
+abbrev pub nowhere : Site
+nowhere = record { x = 0; y = 0; sub = 0 }
+
+abbrev pub same_site : Site → Site → Bool
+same_site a b = a.x == b.x && a.y == b.y && a.sub == b.sub
+
+abbrev pub site_of : List Site → ℕ → Site
+site_of sites b = slice_index_or sites b nowhere
+
+-- the first block on the site, where the first of the list has this number
+abbrev pub at_from : ℕ → List Site → Site → Option BlockId
+at_from n [] site = None
+at_from n (s ∷ sites) site = if same_site s site then Some (record { 0 = n }) else at_from (n + 1) sites site
+
+-- the block on a site
+abbrev pub at : List Site → Site → Option BlockId
+at sites site = at_from 0 sites site
+
+abbrev pub with_other : List Site → Option BlockId → Site → List Site
+with_other sites None site = sites
+with_other sites (Some b) site = slice_set sites b.0 site
+
+-- the block goes to `to`, and the other, if any, to `from`
+abbrev pub swapped : List Site → Swap → List Site
+swapped sites s = with_other (slice_set sites s.block.0 s.to) s.other s.from
+
+-- what has to stand on a block's site
+abbrev pub kind_wanted : Netlist → ℕ → SiteKind
+kind_wanted d b = if is_logic_at d b then site_kind.Logic else site_kind.Pad
+
+-- the site is one of the array's, of the block's kind
+abbrev pub Fits : Netlist → GridShape → ℕ → Site → Type 0
+Fits d g b s = kind_at g s ≡ Some (kind_wanted d b)
+
+-- the site where a block is fixed, if it is: a list by block number that may end early
+abbrev pub flat : Option (Option Site) → Option Site
+flat None = None
+flat (Some site) = site
+
+abbrev pub fixed_at : List (Option Site) → ℕ → Option Site
+fixed_at fixed b = flat (slice_get fixed b)
+
+-- each block of the netlist stands on a site of its kind, no two on one, and fixed blocks stand where they are fixed
+pub record IsLegal (d : Netlist) (g : GridShape) (fixed : List (Option Site)) (sites : List Site) : Type 0 where
+  pub all : length sites ≡ length d.kinds
+  pub fit : (b : ℕ) → b < length sites → Fits d g b (site_of sites b)
+  pub apart : (a b : ℕ) → a < length sites → b < length sites → site_of sites a ≡ site_of sites b → a ≡ b
+  pub stay : (b : ℕ) (s : Site) → fixed_at fixed b ≡ Some s → slice_get sites b ≡ Some s
+
+abbrev pub site : ℕ → ℕ → ℕ → Site
+site x y sub = record { x = x; y = y; sub = sub }
+
+abbrev two_sites : List Site
+two_sites = site 1 1 0 ∷ site 2 2 0 ∷ []
+
+pub the_second_block : at two_sites (site 2 2 0) ≡ Some (record { 0 = 1 })
+the_second_block = refl
+
+pub an_empty_site : at two_sites (site 2 1 0) ≡ None
+an_empty_site = refl
+
+pub two_blocks_change_places : swapped two_sites (record { block = record { 0 = 0 }; from = site 1 1 0; to = site 2 2 0; other = Some (record { 0 = 1 }) }) ≡ site 2 2 0 ∷ site 1 1 0 ∷ []
+two_blocks_change_places = refl
+
+pub one_block_goes_to_an_empty_site : swapped two_sites (record { block = record { 0 = 1 }; from = site 2 2 0; to = site 2 1 0; other = None }) ≡ site 1 1 0 ∷ site 2 1 0 ∷ []
+one_block_goes_to_an_empty_site = refl
+
+pub a_block_past_the_end_is_not_fixed : fixed_at (None ∷ Some (site 0 1 0) ∷ []) 2 ≡ None
+a_block_past_the_end_is_not_fixed = refl
