@@ -1,0 +1,13 @@
+# Sourced by the benches: a scratch copy of the repository with one more program, since a bench is no crate of ours.
+# scratch_with NAME DEPS MAIN sets $work, a temporary folder that goes at the end, with the copy in $work/repo.
+scratch_with() {
+    work=$(mktemp -d)
+    trap 'rm -rf "$work"' EXIT
+    mkdir -p "$work/repo/crates/$1/src"
+    top=$(cd "$here/.." && pwd)
+    cp "$top/HANDLES" "$work/repo/"
+    cp "$top/crates.txt" "$work/repo/"
+    printf '%s: %s\n' "$1" "$2" >> "$work/repo/crates.txt"
+    cp -r "$top"/crates/* "$work/repo/crates/"
+    cp "$3" "$work/repo/crates/$1/src/main.rt"
+}
