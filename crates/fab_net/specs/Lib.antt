@@ -3,3 +3,6 @@ pub mod Netlist
 pub mod Text
 pub mod Faults
 pub mod Examples
+pub mod Rows
+pub mod ByNumber
+pub mod BlockNets

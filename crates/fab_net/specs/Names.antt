@@ -1,11 +1,15 @@
 -- Names, and the numbers that their order gives them (our own).
-use Rattle.std.specs.Prelude.{ℕ, ◌≡◌, Bool, false, not, List, [], ◌∷◌, Option, Some, None, filter, position, codes, refl}
+use Rattle.std.specs.Prelude.{ℕ, ◌≡◌, Bool, false, not, List, [], ◌∷◌, ◌++◌, if◌then◌else◌, is_some, Option, Some, None, filter, position, codes, refl}
 use Rattle.std.specs.List.{list_any}
 use Rattle.std.specs.Str.{bytes_eq}
 
 -- the number of a name among names
 abbrev pub number_of : List ℕ → List (List ℕ) → Option ℕ
 number_of name names = position (λ other. bytes_eq name other) names
+
+-- with a name at the end, where it is not there yet
+abbrev pub with_name : List ℕ → List (List ℕ) → List (List ℕ)
+with_name name names = if is_some (number_of name names) then names else names ++ name ∷ []
 
 abbrev pub is_other : List ℕ → List ℕ → Bool
 is_other name other = not (bytes_eq name other)

@@ -1,5 +1,7 @@
 //! The small types of netlists.
 
+use fab_text::Span;
+
 /// What a block is.
 #[derive(Clone, Copy, Debug, PartialEq, Eq)]
 pub enum BlockKind {
@@ -35,4 +37,14 @@ pub enum Head {
     Subblock,
     Global,
     Unknown,
+}
+
+/// A pin on a net, by numbers; its place is that of its net's name in the text.
+#[derive(Clone, Copy, Debug, PartialEq, Eq)]
+pub struct Pin {
+    pub block: u32,
+    pub pin: u16,
+    pub net: u32,
+    pub drives: bool,
+    pub span: Span,
 }

@@ -1,0 +1,24 @@
+-- Pins by the numbers of their nets.
+use Rattle.std.specs.Prelude.{ℕ, ◌==◌, Bool, List, [], ◌∷◌, if◌then◌else◌, slice_index_or}
+use Rattle.fab_text.specs.declared.pieces.Span.{Span}
+use Rattle.fab_net.specs.declared.pieces.Pin.{Pin}
+use Rattle.fab_net.specs.declared.pieces.Terminal.{Terminal}
+use Rattle.fab_net.specs.Text.{PinOf}
+
+abbrev pub net_entry : Pin → ℕ × Terminal
+net_entry p = (p.net, record { block = record { 0 = p.block }; pin = p.pin })
+
+abbrev pub drives_its : Pin → Bool
+drives_its p = p.drives
+
+abbrev pub driver_entry : Pin → ℕ × Bool
+driver_entry p = (p.net, p.drives)
+
+-- the place of a net's first pin
+abbrev pub span_at : ℕ → List Pin → Span
+span_at net [] = record { start = 0; stop = 0 }
+span_at net (p ∷ ps) = if p.net == net then p.span else span_at net ps
+
+-- a pin that holds the number of its net, whose names are these
+abbrev pub pin_of : List (List ℕ) → Pin → PinOf
+pin_of names p = record { block = p.block; pin = p.pin; name = slice_index_or names p.net []; span = p.span; drives = p.drives }

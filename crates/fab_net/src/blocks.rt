@@ -1,0 +1,60 @@
+//! The nets of blocks.
+
+ghost use Rattle.std.specs.Prelude.{◌≡◌, ℕ, ◌+◌, ◌++◌, ◌-◌, ◌^◌, ◌<◌, ◌≤◌, [], length, IfOk, OnOk, slice_index_or};
+ghost use Rattle.std.specs.List.{All, sum_by};
+ghost use Rattle.fab_net.specs.Rows.{row_of};
+ghost use Rattle.fab_net.specs.BlockNets.{block_nets, net_where};
+
+use crate::pieces::{NetId, Terminal};
+use crate::rows::{Rows, gather};
+use std::alloc::{AllocError, Global};
+
+/// Adds a net to each block that it has a terminal on. No stamp is above the net's number before, and none is past
+/// the next after.
+fn push_net(
+    entries: &mut Vec<(u32, NetId)>,
+    stamps: &mut [u32],
+    net: u32,
+    row: &[Terminal],
+) -> Result<(), AllocError>
+    requires fits { net + 1 < 2 ^ 32 }
+    requires blocks { All (λ t. t.block.0 < length stamps.old) row.now }
+    requires stamped { All (λ s. s ≤ net) stamps.old }
+    requires within { All (λ e. e.0 < length stamps.old) entries.old.items }
+    ensures stamped { OnOk result (All (λ s. s ≤ net + 1) stamps.new) }
+    ensures within { OnOk result (All (λ e. e.0 < length stamps.old) entries.new.items) }
+    ensures few { OnOk result (length entries.new.items ≤ length entries.old.items + length row.now) }
+    ensures rows { OnOk result ((b : ℕ) → b < length stamps.old → row_of entries.new.items b ≡ row_of entries.old.items b ++ net_where net row.now b) }
+{
+    for t in row {
+        let block = t.block.0;
+        if stamps[block as usize] != net + 1 {
+            entries.push((block, NetId(net)))?;
+            stamps[block as usize] = net + 1;
+        }
+    }
+    Ok(())
+}
+
+/// The nets of each block, ascending, without global ones.
+pub fn gather_nets(
+    alloc: Global,
+    blocks: usize,
+    terminals: &Rows<Terminal>,
+    globals: &[bool],
+) -> Result<Rows<NetId>, AllocError>
+    requires same { length terminals.now ≡ length globals.now }
+    requires fits { length terminals.now < 2 ^ 32 - 1 }
+    requires few { sum_by length terminals.now < 2 ^ 32 }
+    requires within { (n : ℕ) → n < length terminals.now → All (λ t. t.block.0 < blocks) (slice_index_or terminals.now n []) }
+    ensures { IfOk result (λ r. r ≡ block_nets blocks terminals.now globals.now) }
+{
+    let mut entries = Vec::new(alloc);
+    let mut stamps = vec![in alloc; 0u32; blocks]?;
+    for net in 0..globals.len() {
+        if !globals[net] {
+            push_net(&mut entries, &mut stamps, net as u32, terminals.row(net))?;
+        }
+    }
+    gather(alloc, blocks, &entries, NetId(0))
+}

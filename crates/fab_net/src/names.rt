@@ -1,0 +1,112 @@
+//! Names and their numbers: each name has the number of its first appearance.
+
+ghost use Rattle.std.specs.Prelude.{◌≡◌, ◌<◌, ◌++◌, ◌∷◌, [], None, Some, length, slice_index_or, IfOk, OnOk, OnErr};
+ghost use Rattle.fab_net.specs.Names.{number_of, with_name};
+
+use indexmap::IndexSet;
+use std::alloc::{AllocError, Global};
+use std::marker::Model;
+
+/// The names of nets while a text is read, as parts of the text.
+#[derive(Drop)]
+pub struct NetNames<'a> {
+    names: IndexSet<&'a [u8]>,
+}
+
+impl<'a> Model for NetNames<'a> {
+    ghost use Rattle.std.specs.Prelude.{List, ℕ, map};
+
+    ghost Value = { List (List ℕ) };
+
+    ghost view = { λ a. map (λ n. n.now) a.names.keys };
+}
+
+impl<'a> NetNames<'a> {
+    pub fn new(alloc: Global) -> Self
+        ensures { result ≡ [] }
+    {
+        NetNames {
+            names: IndexSet::new(alloc),
+        }
+    }
+
+    pub fn len(&self) -> usize
+        ensures { result ≡ length self.now }
+    {
+        self.names.len()
+    }
+
+    pub fn number_of(&self, name: &[u8]) -> Option<usize>
+        ensures { result ≡ number_of name.now self.now }
+    {
+        self.names.get_index_of(name)
+    }
+
+    /// The number of a name, which is added where it is not there yet. Want of memory changes nothing.
+    pub fn intern(&mut self, name: &'a [u8]) -> Result<usize, AllocError>
+        ensures found { IfOk result (λ i. number_of name.now self.new ≡ Some i) }
+        ensures names { OnOk result (self.new ≡ with_name name.now self.old) }
+        ensures err { OnErr result (self.new ≡ self.old) }
+    {
+        let (number, _) = self.names.insert_full(name)?;
+        Ok(number)
+    }
+}
+
+/// The names of blocks, of which a design has its own copy.
+#[derive(Drop)]
+pub struct BlockNames {
+    names: IndexSet<Vec<u8>>,
+}
+
+impl Model for BlockNames {
+    ghost use Rattle.std.specs.Prelude.{List, ℕ, map};
+
+    ghost Value = { List (List ℕ) };
+
+    ghost view = { λ a. map (λ n. n.items) a.names.keys };
+}
+
+impl BlockNames {
+    pub fn new(alloc: Global) -> Self
+        ensures { result ≡ [] }
+    {
+        BlockNames {
+            names: IndexSet::new(alloc),
+        }
+    }
+
+    pub fn len(&self) -> usize
+        ensures { result ≡ length self.now }
+    {
+        self.names.len()
+    }
+
+    pub fn number_of(&self, name: &[u8]) -> Option<usize>
+        ensures { result ≡ number_of name.now self.now }
+    {
+        self.names.get_index_of(name)
+    }
+
+    /// The name with a number.
+    pub fn name(&self, number: usize) -> &[u8]
+        requires { number < length self.now }
+        ensures { result.now ≡ slice_index_or self.now number [] }
+    {
+        match self.names.get_index(number) {
+            Some(name) => name.as_slice(),
+            None => unreachable!(),
+        }
+    }
+
+    /// Adds a name that is not there yet. Want of memory changes nothing.
+    pub fn push(&mut self, alloc: Global, name: &[u8]) -> Result<(), AllocError>
+        requires { number_of name.now self.old ≡ None }
+        ensures names { OnOk result (self.new ≡ self.old ++ name.now ∷ []) }
+        ensures err { OnErr result (self.new ≡ self.old) }
+    {
+        let own = Vec::from_slice(alloc, name)?;
+        self.names.insert(own)?;
+        Ok(())
+    }
+}

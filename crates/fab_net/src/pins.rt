@@ -1,0 +1,175 @@
+//! Pins, whose nets are numbered by first appearance.
+
+ghost use Rattle.std.specs.Prelude.{◌≡◌, ◌++◌, ◌∷◌, ◌^◌, ◌<◌, ◌≤◌, [], length, map, filter, count_by, slice_index_or, IfOk};
+ghost use Rattle.std.specs.List.{sum_by};
+ghost use Rattle.fab_net.specs.ByNumber.{net_entry, drives_its, driver_entry, span_at};
+ghost use Rattle.fab_net.specs.Names.{AllDistinct};
+ghost use Rattle.fab_net.specs.Faults.{first_span};
+ghost use Rattle.fab_net.specs.Text.{net_names, terminals_of, is_driver, is_global_in};
+
+use crate::names::NetNames;
+use crate::pieces::{BlockId, Pin, Terminal};
+use crate::rows::{Rows, gather, row_counts};
+use fab_text::Span;
+use std::alloc::{AllocError, Global};
+use std::marker::Model;
+
+/// The pins as entries of their nets' rows.
+fn net_entries(alloc: Global, pins: &[Pin]) -> Result<Vec<(u32, Terminal)>, AllocError>
+    ensures { IfOk result (λ v. v.items ≡ map net_entry pins.now) }
+{
+    pins.iter()
+        .map(|p| {
+            let terminal = Terminal {
+                block: BlockId(p.block),
+                pin: p.pin,
+            };
+            (p.net, terminal)
+        })
+        .collect(alloc)
+}
+
+/// The pins that drive their nets, as entries of their nets' rows.
+fn driver_entries(alloc: Global, pins: &[Pin]) -> Result<Vec<(u32, bool)>, AllocError>
+    ensures { IfOk result (λ v. v.items ≡ map driver_entry (filter drives_its pins.now)) }
+{
+    pins.iter()
+        .filter(|p| p.drives)
+        .map(|p| (p.net, p.drives))
+        .collect(alloc)
+}
+
+/// The place of a net's first pin.
+fn span_at(net: u32, pins: &[Pin]) -> Span
+    ensures { result ≡ span_at net pins.now }
+{
+    for p in pins {
+        if p.net == net {
+            return p.span;
+        }
+    }
+    Span { start: 0, stop: 0 }
+}
+
+/// Which of these names stand among others.
+fn marks_of(alloc: Global, names: &NetNames, globals: &[&[u8]]) -> Result<Vec<bool>, AllocError>
+    requires { AllDistinct names.now }
+    ensures { IfOk result (λ v. v.items ≡ map (is_global_in (map (λ w. w.now) globals.now)) names.now) }
+{
+    let mut marks = vec![in alloc; false; names.len()]?;
+    for name in globals {
+        if let Some(n) = names.number_of(name) {
+            marks[n] = true;
+        }
+    }
+    Ok(marks)
+}
+
+/// Connected pins, whose nets are numbered by first appearance.
+#[derive(Drop)]
+pub struct Pins<'a> {
+    names: NetNames<'a>,
+    pins: Vec<Pin>,
+}
+
+impl<'a> Model for Pins<'a> {
+    ghost use Rattle.std.specs.Prelude.{List, ◌≡◌, ◌<◌, length, map};
+    ghost use Rattle.std.specs.List.{All};
+    ghost use Rattle.fab_net.specs.ByNumber.{pin_of};
+    ghost use Rattle.fab_net.specs.Text.{PinOf, net_names};
+
+    ghost Value = { List PinOf };
+
+    ghost view = { λ a. map (pin_of a.names) a.pins.items };
+
+    ghost invariant = { λ a. (a.names ≡ net_names (map (pin_of a.names) a.pins.items)) × All (λ p. p.net < length a.names) a.pins.items };
+}
+
+impl<'a> Pins<'a> {
+    pub fn new(alloc: Global) -> Self
+        ensures { result ≡ [] }
+    {
+        Pins {
+            names: NetNames::new(alloc),
+            pins: Vec::new(alloc),
+        }
+    }
+
+    pub fn len(&self) -> usize
+        ensures { result ≡ length self.now }
+    {
+        self.pins.len()
+    }
+
+    pub fn net_count(&self) -> usize
+        ensures { result ≡ length (net_names self.now) }
+    {
+        self.names.len()
+    }
+
+    /// With one more pin.
+    pub fn push(
+        self,
+        name: &'a [u8],
+        block: u32,
+        pin: u16,
+        drives: bool,
+        span: Span,
+    ) -> Result<Self, AllocError>
+        requires { length (net_names self) < 2 ^ 32 }
+        ensures { IfOk result (λ r. r ≡ self.entry ++ record { block = block; pin = pin; name = name.now; span = span; drives = drives } ∷ []) }
+    {
+        let Pins {
+            mut names,
+            mut pins,
+        } = self;
+        let number = names.intern(name)?;
+        let net = number as u32;
+        pins.push(Pin {
+            block,
+            pin,
+            net,
+            drives,
+            span,
+        })?;
+        Ok(Pins { names, pins })
+    }
+
+    /// The terminals of each net.
+    pub fn terminals(&self, alloc: Global) -> Result<Rows<Terminal>, AllocError>
+        requires { length self.now < 2 ^ 32 }
+        ensures found { IfOk result (λ rows. rows ≡ map (terminals_of self.now) (net_names self.now)) }
+        ensures few { IfOk result (λ rows. sum_by length rows ≤ length self.now) }
+    {
+        let entries = net_entries(alloc, &self.pins)?;
+        let blank = Terminal {
+            block: BlockId(0),
+            pin: 0,
+        };
+        gather(alloc, self.names.len(), &entries, blank)
+    }
+
+    /// How many drivers each net has.
+    pub fn driver_counts(&self, alloc: Global) -> Result<Vec<u32>, AllocError>
+        requires { length self.now < 2 ^ 32 }
+        ensures { IfOk result (λ v. v.items ≡ map (λ name. count_by (is_driver name) self.now) (net_names self.now)) }
+    {
+        let entries = driver_entries(alloc, &self.pins)?;
+        row_counts(alloc, self.names.len(), &entries)
+    }
+
+    /// The place where a net is named first.
+    pub fn first_span(&self, net: u32) -> Span
+        requires { net < length (net_names self.now) }
+        ensures { result ≡ first_span self.now (slice_index_or (net_names self.now) net []) }
+    {
+        span_at(net, &self.pins)
+    }
+
+    /// Which nets bear one of these names.
+    pub fn marks(&self, alloc: Global, globals: &[&[u8]]) -> Result<Vec<bool>, AllocError>
+        ensures { IfOk result (λ v. v.items ≡ map (is_global_in (map (λ w. w.now) globals.now)) (net_names self.now)) }
+    {
+        marks_of(alloc, &self.names, globals)
+    }
+}
