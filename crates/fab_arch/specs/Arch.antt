@@ -56,7 +56,7 @@ ratio_of l = number_of l.number 1 64 (slice_get l.words 1)
 abbrev pub is_side : List ℕ → Bool
 is_side w = bytes_eq w (codes "top") || bytes_eq w (codes "bottom") || bytes_eq w (codes "left") || bytes_eq w (codes "right")
 
--- the words behind a leading `global`
+-- without a leading `global`, if there is one
 abbrev pub without_global : List (List ℕ) → List (List ℕ)
 without_global [] = []
 without_global (w ∷ ws) = if bytes_eq w (codes "global") then ws else w ∷ ws
@@ -84,7 +84,7 @@ line_fault has_ratio pins l =
     else if is_pin l then or_else (pin_fault l) (if nat_lt pins 1024 then None else Some (TooLarge l.number))
     else None
 
--- the first fault of a line behind others
+-- the first fault of a line that follows others
 abbrev pub fault_of : List TextLine → TextLine → Option ArchFault
 fault_of before l = line_fault (list_any is_io_rat before) (count_by is_pin before) l
 
@@ -92,7 +92,7 @@ fault_of before l = line_fault (list_any is_io_rat before) (count_by is_pin befo
 abbrev pub text_fault : List TextLine → Option ArchFault
 text_fault ls = if not (list_any is_io_rat ls) then Some NoIoRat else if count_by is_pin ls == 0 then Some NoPins else None
 
--- the first fault of lines behind others
+-- the first fault of lines that follow others
 abbrev pub fault_after : List TextLine → List TextLine → Option ArchFault
 fault_after before ls = fault_behind fault_of text_fault before ls
 
@@ -110,12 +110,13 @@ pub record IsArch (ls : List TextLine) (ratio : ℕ) (pins : List PinKind) : Typ
   pub some : 0 < length pins
   pub few : length pins ≤ 1024
 
--- a fault that was answered is want of memory, or this one
+-- a fault that was answered is this one, or want of memory, which may come for any text (that it comes only where
+-- memory was really refused, no contract can say)
 abbrev pub FaultIs : ArchFault → Option ArchFault → Type 0
 FaultIs NoMemory fault = Unit {0}
 FaultIs e fault = fault ≡ Some e
 
--- the pads for each position that lines have given, behind one more
+-- the pads for each position that lines have given, after one more line without a fault
 abbrev pub ratio_after : Option ℕ → TextLine → Option ℕ
 ratio_after before l = if is_io_rat l then result_ok (ratio_of l) else before
 

@@ -40,7 +40,7 @@ is_position s at = at.0 == s.x && at.1 == s.y
 abbrev pub is_pad_site : GridShape → Site → Bool
 is_pad_site g s = list_any (is_position s) (perimeter g) && nat_lt s.sub g.io_rat
 
--- what stands on a site of the array, or none where the array has no such site
+-- the kind of a site, or none where the array has no such site
 abbrev pub kind_at : GridShape → Site → Option SiteKind
 kind_at g s = if is_logic_site g s then Some Logic else if is_pad_site g s then Some Pad else None
 
@@ -57,7 +57,7 @@ Holds g logic pads = HasLogicSites g logic × HasPadSites g pads
 abbrev pub square : ℕ → ℕ → GridShape
 square n io_rat = shape n n io_rat
 
--- no square of a side from 1 up to and without this one holds them
+-- no square holds them whose side is at least 1 and less than this
 abbrev pub NoSquareHolds : ℕ → ℕ → ℕ → ℕ → Type 0
 NoSquareHolds below logic pads io_rat = (n : ℕ) → 1 ≤ n → n < below → ¬ Holds (square n io_rat) logic pads
 

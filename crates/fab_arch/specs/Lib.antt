@@ -1,2 +1,3 @@
 pub mod Arch
+pub mod Examples
 pub mod Grid

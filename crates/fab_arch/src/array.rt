@@ -17,7 +17,7 @@ pub struct Site {
     pub sub: u16,
 }
 
-/// What stands on a site.
+/// The kind of a site.
 #[derive(Clone, Copy, Debug, PartialEq, Eq)]
 pub enum SiteKind {
     Logic,
@@ -131,7 +131,7 @@ impl Grid {
         position_at(self.nx, self.ny, i)
     }
 
-    /// What stands on a site, or `None` where the array has no such site.
+    /// The kind of a site, or `None` where the array has no such site.
     pub fn has_site(&self, site: Site) -> Option<SiteKind>
         ensures { result ≡ kind_at self.now site }
     {

@@ -9,7 +9,8 @@ use Rattle.fab_net.specs.declared.pieces.BlockKind.TheVariants.{InputPad, Logic}
 use Rattle.fab_net.specs.Netlist.{Netlist, net_at, counted, terminal}
 use Rattle.fab_site.specs.Placement.{site_of, site}
 
--- the cross counts of nets of up to 50 terminals, as VPR's table has them; the first entry is for none
+-- the cross counts of nets of up to 50 terminals, in ten-thousandths: this table is the definition (its numbers are
+-- after those of VPR). The first entry is for no terminal
 abbrev pub cross_counts : List ℕ
 cross_counts =
     0
@@ -20,7 +21,7 @@ cross_counts =
     ∷ 25610 ∷ 25864 ∷ 26117 ∷ 26371 ∷ 26625 ∷ 26887 ∷ 27148 ∷ 27410 ∷ 27671 ∷ 27933
     ∷ []
 
--- the cross count of a net of so many terminals
+-- the cross count of a net of so many terminals: beyond the table 0.2616 more for each, rounded down
 unfoldable pub cross_of : ℕ → ℕ
 cross_of n = if nat_le n 50 then slice_index cross_counts n else 27933 + 2616 * (n - 50) / 10
 
@@ -51,7 +52,7 @@ xs_of g sites = map (λ (s : Site). clip g.nx s.x) sites
 abbrev pub ys_of : GridShape → List Site → List ℕ
 ys_of g sites = map (λ (s : Site). clip g.ny s.y) sites
 
--- a bounding box: the columns and rows at its four edges
+-- a bounding box: the clipped columns and rows at its four edges
 pub record Box : Type 0 where
   pub xmin : ℕ
   pub xmax : ℕ
@@ -69,7 +70,7 @@ half_perimeter b = (b.xmax - b.xmin + 1) + (b.ymax - b.ymin + 1)
 abbrev pub sites_on : Netlist → List Site → ℕ → List Site
 sites_on d sites n = map (site_of sites) (net_at d n).blocks
 
--- the bounding box of a net
+-- the bounding box of a net, in clipped coordinates
 unfoldable pub net_box : Netlist → GridShape → List Site → ℕ → Box
 net_box d g sites n = box_on g (sites_on d sites n)
 
@@ -83,6 +84,10 @@ cost_of d g sites = sum_by (net_cost d g sites) (counted d)
 pub cross_count_of_a_large_net : cross_of 60 ≡ 30549
 unfolding cross_of
 cross_count_of_a_large_net = refl
+
+pub the_first_cross_count_beyond_the_table : cross_of 51 ≡ 28194
+unfolding cross_of
+the_first_cross_count_beyond_the_table = refl
 
 pub the_last_cross_count_of_the_table : cross_of 50 ≡ 27933
 unfolding cross_of

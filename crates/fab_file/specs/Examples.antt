@@ -48,9 +48,9 @@ pub a_logic_block_on_a_pad_site : fault (header ++ codes "b 0 1 0\n") ≡ Some (
 unfolding lines_from trimmed content is_continued without_backslash words_of decimal_of
 a_logic_block_on_a_pad_site = refl
 
-pub a_number_of_six_digits : fault (header ++ codes "q 0 1 65536\n") ≡ Some (BadLine 3)
+pub a_number_above_the_limit : fault (header ++ codes "q 0 1 65536\n") ≡ Some (BadLine 3)
 unfolding lines_from trimmed content is_continued without_backslash words_of decimal_of
-a_number_of_six_digits = refl
+a_number_above_the_limit = refl
 
 pub a_block_twice : fault (header ++ codes "a 0 1 0\na 9 9 9\n") ≡ Some (Repeated 4)
 unfolding lines_from trimmed content is_continued without_backslash words_of decimal_of
@@ -63,3 +63,11 @@ another_size = refl
 pub half_a_header : fault (codes "Netlist file: t.net Architecture file: t.arch\n") ≡ Some BadHeader
 unfolding lines_from trimmed content is_continued without_backslash words_of decimal_of
 half_a_header = refl
+
+pub an_unknown_block : fault (header ++ codes "q 0 1 0\n") ≡ Some (UnknownBlock 3)
+unfolding lines_from trimmed content is_continued without_backslash words_of decimal_of
+an_unknown_block = refl
+
+pub a_size_that_is_no_number : fault (codes "Netlist file: t.net Architecture file: t.arch\nArray size: 1 x -1 logic blocks\n") ≡ Some BadHeader
+unfolding lines_from trimmed content is_continued without_backslash words_of decimal_of
+a_size_that_is_no_number = refl

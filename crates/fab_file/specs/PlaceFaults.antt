@@ -1,5 +1,5 @@
 -- The first fault of a .place text.
-use Rattle.std.specs.Prelude.{ℕ, ◌≡◌, ◌==◌, Bool, true, not, ◌&&◌, is_some, List, [], ◌∷◌, ◌++◌, if◌then◌else◌, length, map, position, Option, Some, None}
+use Rattle.std.specs.Prelude.{ℕ, ◌≡◌, ◌==◌, Bool, true, false, not, ◌&&◌, is_some, List, [], ◌∷◌, ◌++◌, if◌then◌else◌, length, map, position, Option, Some, None}
 use Rattle.std.specs.List.{list_any, filter_map}
 use Rattle.std.specs.Str.{bytes_eq}
 use Rattle.fab_text.specs.Lines.{TextLine}
@@ -30,20 +30,20 @@ abbrev pub is_repeated : Netlist → List TextLine → ℕ → Bool
 is_repeated d before block = list_any (λ l. is_this_block (block_in d l)) before
   where
     is_this_block : Option ℕ → Bool
-    is_this_block None = not true
+    is_this_block None = false
     is_this_block (Some other) = other == block
 
 abbrev pub same_kind : SiteKind → SiteKind → Bool
 same_kind site_kind.Logic site_kind.Logic = true
-same_kind site_kind.Logic site_kind.Pad = not true
-same_kind site_kind.Pad site_kind.Logic = not true
+same_kind site_kind.Logic site_kind.Pad = false
+same_kind site_kind.Pad site_kind.Logic = false
 same_kind site_kind.Pad site_kind.Pad = true
 
 abbrev pub kind_fault : Netlist → ℕ → ℕ → Option SiteKind → Option PlaceFault
 kind_fault d n block None = Some (NoSuchSite n)
 kind_fault d n block (Some kind) = unless (same_kind kind (kind_wanted d block)) (WrongKind n)
 
--- the first fault of a block's line behind others, where it gives this site and names this block
+-- the first fault of a block's line that follows others, where it gives this site and names this block, or none
 abbrev pub placed_fault : Netlist → GridShape → List TextLine → ℕ → Site → Option ℕ → Option PlaceFault
 placed_fault d g before n site None = Some (UnknownBlock n)
 placed_fault d g before n site (Some block) =
@@ -55,11 +55,11 @@ abbrev pub block_fault_by : Netlist → GridShape → List TextLine → TextLine
 block_fault_by d g before l None = Some (BadLine l.number)
 block_fault_by d g before l (Some site) = placed_fault d g before l.number site (block_in d l)
 
--- the first fault of a block's line behind other block lines
+-- the first fault of a block's line that follows other block lines
 abbrev pub block_fault : Netlist → GridShape → List TextLine → TextLine → Option PlaceFault
 block_fault d g before l = block_fault_by d g before l (site_in l)
 
--- the first fault of a line behind others: the first two lines are the header
+-- the first fault of a line that follows others: the first two lines are the header
 abbrev pub fault_of : Netlist → GridShape → List TextLine → TextLine → Option PlaceFault
 fault_of d g [] l = files_fault l
 fault_of d g (files ∷ []) l = size_fault_by g (size_in l)
@@ -79,7 +79,7 @@ text_fault d (files ∷ size ∷ blocks) = missing_fault (position (λ name. not
 abbrev pub first_fault : Netlist → GridShape → List TextLine → Option PlaceFault
 first_fault d g ls = fault_of_all (fault_of d g) (text_fault d) ls
 
--- a fault that was answered is want of memory, or this one
+-- a fault that was answered is this one, or want of memory, which may come for any text
 abbrev pub FaultIs : PlaceFault → Option PlaceFault → Type 0
 FaultIs NoMemory fault = Unit {0}
 FaultIs e fault = fault ≡ Some e

@@ -36,7 +36,7 @@ pub enum PlaceFault {
     /// A line of a checkpoint of the first version fixes a block that is no pad.
     #[error("P9 NotAPad line {0}")]
     NotAPad(u64),
-    /// A line is no name with three numbers of at most 65,535.
+    /// A line has another form than a name with three numbers of at most 65,535 (or than its format asks for).
     #[error("P10 BadLine line {0}")]
     BadLine(u64),
     /// A label that cannot stand in a header.

@@ -3,3 +3,6 @@ pub mod Naming
 pub mod Numbers
 pub mod Placing
 pub mod Stamps
+pub mod Sections
+pub mod Texts
+pub mod Underway

@@ -15,7 +15,7 @@ use Rattle.fab_net.specs.Names.{number_of}
 use Rattle.fab_net.specs.Netlist.{is_logic}
 use Rattle.fab_net.specs.Text.{Section, PinOf, head_of, sections, is_pinlist, entries_in, pins_at, pins_in, net_names, is_driver, name_at, name_in, kind_in, span_of_name, no_span, pin_count}
 
--- the last section of some, whose block is open
+-- the last section, whose block is open for a pinlist or a subblock
 abbrev pub open_section : List Section → Option Section
 open_section [] = None
 open_section (s ∷ []) = Some s
@@ -41,7 +41,7 @@ open_fault before l =
     (or_else (unless (not (is_some (number_of (name_at l) (map name_in (sections before))))) (DuplicateBlock l.number))
     (unless (nat_lt (length (sections before)) 65535) (TooLarge l.number))))
 
--- the kind of the open block
+-- the kind of the open block (where none is open, a line is faulty before its kind matters)
 abbrev pub open_kind : Option Section → BlockKind
 open_kind None = InputPad
 open_kind (Some s) = s.kind
@@ -72,11 +72,11 @@ fault_by arch before l head.Subblock = unless (is_logic_open (open_section (sect
 fault_by arch before l head.Global = None
 fault_by arch before l head.Unknown = Some (UnknownWord l.number)
 
--- the first fault of a line behind others
+-- the first fault of a line that follows others
 abbrev pub fault_of : List PinKind → List TextLine → TextLine → Option NetFault
 fault_of arch before l = fault_by arch before l (head_of l)
 
--- the place where a net is named first
+-- the place where a net stands first in a pinlist
 abbrev pub first_span : List PinOf → List ℕ → Span
 first_span [] name = no_span
 first_span (p ∷ ps) name = if bytes_eq name p.name then p.span else first_span ps name
@@ -101,7 +101,7 @@ text_fault arch ls = or_else (missing_fault (awaiting ls)) (driver_fault (pins_i
 abbrev pub first_fault : List PinKind → List TextLine → Option NetFault
 first_fault arch ls = fault_of_all (fault_of arch) (text_fault arch) ls
 
--- a fault that was answered is want of memory, or this one
+-- a fault that was answered is this one, or want of memory, which may come for any text
 abbrev pub FaultIs : NetFault → Option NetFault → Type 0
 FaultIs NoMemory fault = Unit {0}
 FaultIs e fault = fault ≡ Some e

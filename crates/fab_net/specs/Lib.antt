@@ -6,3 +6,4 @@ pub mod Examples
 pub mod Rows
 pub mod ByNumber
 pub mod BlockNets
+pub mod Said

@@ -1,9 +1,9 @@
--- Names, and the numbers that their order gives them (our own).
+-- Names, and the numbers that their first appearance gives them (VPR manual).
 use Rattle.std.specs.Prelude.{ℕ, ◌≡◌, Bool, false, not, List, [], ◌∷◌, ◌++◌, if◌then◌else◌, is_some, Option, Some, None, filter, position, codes, refl}
 use Rattle.std.specs.List.{list_any}
 use Rattle.std.specs.Str.{bytes_eq}
 
--- the number of a name among names
+-- the number of a name among names, from 0
 abbrev pub number_of : List ℕ → List (List ℕ) → Option ℕ
 number_of name names = position (λ other. bytes_eq name other) names
 

@@ -5,6 +5,7 @@ use Rattle.std.specs.List.{range_with_len, list_any, sum_by}
 use Rattle.fab_net.specs.declared.pieces.BlockKind.{BlockKind}
 use Rattle.fab_net.specs.declared.pieces.BlockKind.TheVariants.{InputPad, OutputPad, Logic}
 use Rattle.fab_net.specs.declared.pieces.Terminal.{Terminal}
+use Rattle.fab_net.specs.Names.{AllDistinct}
 
 -- of each block its kind and name, and of each net its terminals and whether it is global
 pub record Netlist : Type 0 where
@@ -21,6 +22,7 @@ pub record Net : Type 0 where
 abbrev pub block_on : Terminal → ℕ
 block_on t = t.block.0
 
+-- the net with a number; past the last one a global net without terminals
 abbrev pub net_at : Netlist → ℕ → Net
 net_at d n = record { global = slice_index_or d.globals n true; blocks = map block_on (slice_index_or d.terminals n []) }
 
@@ -40,7 +42,7 @@ is_logic InputPad = false
 is_logic OutputPad = false
 is_logic Logic = true
 
--- whether a block is a logic block, and no pad
+-- whether a block is a logic block, and no pad (past the last block it reads as one)
 abbrev pub is_logic_at : Netlist → ℕ → Bool
 is_logic_at d b = is_logic (slice_index_or d.kinds b Logic)
 
@@ -53,12 +55,13 @@ pad_count d = count_by (λ k. not (is_logic k)) d.kinds
 abbrev pub terminal_count : Netlist → ℕ
 terminal_count d = sum_by length d.terminals
 
--- the limits of a design, and that its nets have terminals, on its blocks alone
+-- the limits of a design, that its blocks have distinct names, and that its nets have terminals, on its blocks alone
 pub record IsLawful (d : Netlist) : Type 0 where
   pub few_blocks : length d.kinds ≤ 65535
   pub few_nets : length d.terminals ≤ 65535
   pub few_terminals : terminal_count d ≤ 1048576
   pub named : length d.names ≡ length d.kinds
+  pub distinct : AllDistinct d.names
   pub told : length d.globals ≡ length d.terminals
   pub some_terminal : (n : ℕ) → n < length d.terminals → 0 < length (net_at d n).blocks
   pub within : (n i : ℕ) → i < length (net_at d n).blocks → slice_index_or (net_at d n).blocks i 0 < length d.kinds

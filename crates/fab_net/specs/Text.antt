@@ -1,5 +1,5 @@
--- What a netlist text means (VPR manual). Its lines fall into sections: a line that opens a block, and the lines
--- behind it up to the next such line.
+-- What a netlist text means (VPR manual). Behind the lines ahead of the first block its lines fall into sections: a
+-- line that opens a block, and the lines after it up to the next such line.
 use Rattle.std.specs.Prelude.{ℕ, ◌+◌, ◌-◌, ◌≡◌, ◌≤◌, ◌<◌, ◌==◌, Bool, true, false, ◌&&◌, List, [], ◌∷◌, ◌++◌, if◌then◌else◌, length, map, filter, count_by, drop, slice_get, slice_index_or, codes, Option, Some, None}
 use Rattle.std.specs.List.{list_any, AllByRecursion, flat_map}
 use Rattle.std.specs.Str.{bytes_eq}
@@ -44,6 +44,7 @@ entries (w ∷ ws) (s ∷ ss) = record { name = w; span = s } ∷ entries ws ss
 abbrev pub entries_in : TextLine → List Entry
 entries_in l = entries (drop 1 l.words) (drop 1 l.spans)
 
+-- the place of a word that a line does not have; a line without it is faulty
 abbrev pub no_span : Span
 no_span = record { start = 0; stop = 0 }
 
@@ -125,13 +126,14 @@ abbrev pub is_drives : PinKind → Bool
 is_drives Reads = false
 is_drives Drives = true
 
--- an input pad drives its net, an output pad reads it, and the architecture says which pins of a logic block drive
+-- an input pad drives its net, an output pad reads it, and the architecture says which pins of a logic block drive;
+-- a pin that the architecture does not have drives nothing
 abbrev pub drives_at : List PinKind → BlockKind → ℕ → Bool
 drives_at arch InputPad i = true
 drives_at arch OutputPad i = false
 drives_at arch Logic i = is_drives (slice_index_or arch i Reads)
 
--- the pins on nets of a block, whose entries from pin i on these are
+-- the pins on nets of a block, for its entries from pin i on
 abbrev pub pins_at : List PinKind → BlockKind → ℕ → ℕ → List Entry → List PinOf
 pins_at arch kind block i [] = []
 pins_at arch kind block i (e ∷ es) =
@@ -176,6 +178,7 @@ pin_count arch InputPad = 1
 pin_count arch OutputPad = 1
 pin_count arch Logic = length arch
 
+-- ahead of the first block stand `.global` lines alone
 abbrev pub IsLineAhead : Head → Type 0
 IsLineAhead (head.Opens kind) = ⊥
 IsLineAhead head.Pinlist = ⊥
@@ -183,7 +186,7 @@ IsLineAhead head.Subblock = ⊥
 IsLineAhead head.Global = Unit {0}
 IsLineAhead head.Unknown = ⊥
 
--- behind a block's line stand pinlists and `.global` lines, and `subblock:` lines where it is a logic block
+-- after a block's line stand pinlists and `.global` lines, and `subblock:` lines where it is a logic block
 abbrev pub IsBodyLine : BlockKind → Head → Type 0
 IsBodyLine kind (head.Opens other) = ⊥
 IsBodyLine kind head.Pinlist = Unit {0}
@@ -191,7 +194,8 @@ IsBodyLine kind head.Subblock = kind ≡ Logic
 IsBodyLine kind head.Global = Unit {0}
 IsBodyLine kind head.Unknown = ⊥
 
--- a lawful section: it has a name, and one pinlist with an entry for each pin of its block
+-- a lawful section: its block has a name, its lines are of the kinds allowed there, and exactly one of them is a
+-- pinlist, with an entry for each pin of the block
 pub record IsSection (arch : List PinKind) (s : Section) : Type 0 where
   pub named : 1 < length s.opening.words
   pub lines : AllByRecursion (λ l. IsBodyLine s.kind (head_of l)) s.body
@@ -220,7 +224,8 @@ netlist_of ss pins globals = record {
   globals = map (is_global_in globals) (net_names pins);
 }
 
--- what lines mean
+-- what lines mean: each section is lawful, names of blocks are distinct, the limits are kept, each net has exactly one
+-- driver, and the netlist is that of the sections
 pub record IsNetlist (arch : List PinKind) (ls : List TextLine) (d : Netlist) : Type 0 where
   pub lines_ahead : AllByRecursion (λ l. IsLineAhead (head_of l)) (ahead ls)
   pub lawful : AllByRecursion (IsSection arch) (sections ls)

@@ -32,10 +32,10 @@ pub enum NetFault {
     /// A block with the name of an earlier one.
     #[error("N7 DuplicateBlock line {0}")]
     DuplicateBlock(u64),
-    /// A net that nothing drives; the span is its first appearance.
+    /// A net that nothing drives; the span is its first appearance in a pinlist.
     #[error("N8 NoDriver")]
     NoDriver(Span),
-    /// A net with two drivers or more; the span is its first appearance.
+    /// A net with two drivers or more; the span is its first appearance in a pinlist.
     #[error("N9 TwoDrivers")]
     TwoDrivers(Span),
     /// A block or net above the 65,535th, or a terminal above the 1,048,576th.

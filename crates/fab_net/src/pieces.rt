@@ -17,7 +17,7 @@ pub enum BlockKind {
 #[derive(Clone, Copy, Debug, PartialEq, Eq)]
 pub struct BlockId(pub u32);
 
-/// The number of a net: from 0, by first appearance in the text.
+/// The number of a net: from 0, by first appearance in a pinlist.
 #[derive(Clone, Copy, Debug, PartialEq, Eq)]
 pub struct NetId(pub u32);
 

@@ -36,7 +36,7 @@ with_other sites (Some b) site = slice_set sites b.0 site
 abbrev pub swapped : List Site → Swap → List Site
 swapped sites s = with_other (slice_set sites s.block.0 s.to) s.other s.from
 
--- what has to stand on a block's site
+-- the kind of site that a block needs
 abbrev pub kind_wanted : Netlist → ℕ → SiteKind
 kind_wanted d b = if is_logic_at d b then site_kind.Logic else site_kind.Pad
 
@@ -44,11 +44,11 @@ kind_wanted d b = if is_logic_at d b then site_kind.Logic else site_kind.Pad
 abbrev pub Fits : Netlist → GridShape → ℕ → Site → Type 0
 Fits d g b s = kind_at g s ≡ Some (kind_wanted d b)
 
--- the site where a block is fixed, if it is: a list by block number that may end early
 abbrev pub flat : Option (Option Site) → Option Site
 flat None = None
 flat (Some site) = site
 
+-- the site where a block is fixed, if it is. Fixed sites are a list by block number that may end early
 abbrev pub fixed_at : List (Option Site) → ℕ → Option Site
 fixed_at fixed b = flat (slice_get fixed b)
 

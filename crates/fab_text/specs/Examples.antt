@@ -32,3 +32,11 @@ joining = lines (codes "\na\\ \r\nb\\\n\\\n\nc\\") ≡ line 2 (codes "a" ∷ cod
 pub joining_is : joining
 unfolding lines_from trimmed content is_continued without_backslash words_of
 joining_is = refl
+
+-- a comment is cut before the backslash is looked for, and a second backslash stays in its word
+abbrev pub comment_after_backslash : Type 0
+comment_after_backslash = lines (codes "a\\#b\nc\\\\\nd e\rf") ≡ line 1 (codes "a" ∷ codes "c\\" ∷ codes "d" ∷ codes "e" ∷ codes "f" ∷ []) (span 0 1 ∷ span 5 7 ∷ span 9 10 ∷ span 11 12 ∷ span 13 14 ∷ []) ∷ []
+
+pub comment_after_backslash_is : comment_after_backslash
+unfolding lines_from trimmed content is_continued without_backslash words_of
+comment_after_backslash_is = refl

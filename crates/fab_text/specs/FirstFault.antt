@@ -1,7 +1,7 @@
 -- The first fault of a text: one notion for every reader (our own).
 use Rattle.std.specs.Prelude.{ℕ, ◌≡◌, ◌==◌, Bool, List, [], ◌∷◌, ◌++◌, length, Option, Some, None, if◌then◌else◌, refl}
 
--- the first of two faults, the earlier of which comes first
+-- the first fault that there is, of two that may be
 abbrev pub or_else : {E : Type 0} → Option E → Option E → Option E
 or_else None later = later
 or_else (Some fault) later = Some fault
@@ -10,8 +10,8 @@ or_else (Some fault) later = Some fault
 abbrev pub unless : {E : Type 0} → Bool → E → Option E
 unless passed fault = if passed then None else Some fault
 
--- the first fault of lines that stand behind others. A line is judged behind the lines before it; the faults
--- of the whole text come after those of all lines
+-- the first fault of lines that follow others. Each line is judged by what stands before it; the faults of the
+-- whole text come after those of all lines
 abbrev pub fault_behind : {L E : Type 0} → (List L → L → Option E) → (List L → Option E) → List L → List L → Option E
 fault_behind of_line of_text before [] = of_text before
 fault_behind of_line of_text before (l ∷ ls) = or_else (of_line before l) (fault_behind of_line of_text (before ++ l ∷ []) ls)

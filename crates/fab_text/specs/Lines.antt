@@ -1,4 +1,5 @@
--- What the lines of a text are.
+-- What the lines of a text are (VPR manual: words, comments from `#` on, a backslash at the end of a line; how
+-- lines are joined in detail is our own).
 use Rattle.std.specs.Prelude.{ℕ, ◌+◌, ◌-◌, Bool, true, false, not, ◌||◌, ◌==◌, List, [], ◌∷◌, ◌++◌, if◌then◌else◌, length, map, filter, slice_range, slice_index, take, drop}
 use Rattle.std.specs.List.{before_first, suffix_len}
 use Rattle.fab_text.specs.declared.pieces.Span.{Span}
@@ -20,7 +21,7 @@ pub record Physical : Type 0 where
   pub start : ℕ
   pub bytes : List ℕ
 
--- a byte at a place, before the lines of what follows it on its line
+-- the physical lines of a byte that ends none, and of what follows it: the byte begins the first of these
 abbrev pub put_first : ℕ → ℕ → List Physical → List Physical
 put_first at c [] = record { start = at; bytes = c ∷ [] } ∷ []
 put_first at c (p ∷ ps) = record { start = at; bytes = c ∷ p.bytes } ∷ ps
@@ -38,7 +39,7 @@ trimmed xs = take (length xs - suffix_len is_separator xs) xs
 unfoldable pub content : List ℕ → List ℕ
 content bytes = trimmed (before_first is_hash bytes)
 
--- whether the last byte left is a backslash
+-- whether the last byte is a backslash; an empty line reads as a byte 0, which is none
 unfoldable pub is_continued : List ℕ → Bool
 is_continued xs = slice_index xs (length xs - 1) == 92
 
@@ -46,8 +47,8 @@ is_continued xs = slice_index xs (length xs - 1) == 92
 unfoldable pub without_backslash : List ℕ → List ℕ
 without_backslash xs = take (if is_continued xs then length xs - 1 else length xs) xs
 
--- the run from a place on to another, before the words of what stands there: one word with the first
--- of them where that one begins right there
+-- the words of a run of bytes that ends at `at`, and of what follows it: the run is one word with the first word
+-- that follows, where that word begins right at `at`
 abbrev pub run : ℕ → ℕ → List Span → List Span
 run from at [] = record { start = from; stop = at } ∷ []
 run from at (s ∷ ss) = if s.start == at then record { start = from; stop = s.stop } ∷ ss else record { start = from; stop = at } ∷ s ∷ ss
