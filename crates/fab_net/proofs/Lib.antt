@@ -6,3 +6,8 @@ pub mod Stamps
 pub mod Sections
 pub mod Texts
 pub mod Underway
+pub mod Standing
+pub mod Accepted
+pub mod Entries
+pub mod Ready
+pub mod OnBlock

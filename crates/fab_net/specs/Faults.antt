@@ -12,8 +12,8 @@ use Rattle.fab_net.specs.declared.pieces.Head.TheVariants as head
 use Rattle.fab_net.specs.declared.fault.NetFault.{NetFault}
 use Rattle.fab_net.specs.declared.fault.NetFault.TheVariants.{UnknownWord, NoName, PinlistWithoutBlock, MissingPinlist, PinCount, SubblockWithoutLogic, DuplicateBlock, NoDriver, TwoDrivers, TooLarge, NoMemory}
 use Rattle.fab_net.specs.Names.{number_of}
-use Rattle.fab_net.specs.Netlist.{is_logic}
-use Rattle.fab_net.specs.Text.{Section, PinOf, head_of, sections, is_pinlist, entries_in, pins_at, pins_in, net_names, is_driver, name_at, name_in, kind_in, span_of_name, no_span, pin_count}
+use Rattle.fab_net.specs.Netlist.{Netlist, is_logic}
+use Rattle.fab_net.specs.Text.{Section, PinOf, head_of, sections, is_pinlist, entries_in, pins_at, pins_in, net_names, is_driver, name_at, name_in, kind_in, span_of_name, no_span, pin_count, IsNetlist}
 
 -- the last section, whose block is open for a pinlist or a subblock
 abbrev pub open_section : List Section → Option Section
@@ -105,3 +105,9 @@ first_fault arch ls = fault_of_all (fault_of arch) (text_fault arch) ls
 abbrev pub FaultIs : NetFault → Option NetFault → Type 0
 FaultIs NoMemory fault = Unit {0}
 FaultIs e fault = fault ≡ Some e
+
+-- a text's lines mean a netlist, or have a first fault, and never both
+abbrev pub MeansOrFaults : List PinKind → List TextLine → Type 0
+MeansOrFaults arch ls =
+    ((d : Netlist) → IsNetlist arch ls d → first_fault arch ls ≡ None)
+    × (first_fault arch ls ≡ None → (d : Netlist) × IsNetlist arch ls d)

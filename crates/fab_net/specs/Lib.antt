@@ -7,3 +7,4 @@ pub mod Rows
 pub mod ByNumber
 pub mod BlockNets
 pub mod Said
+pub mod Shown

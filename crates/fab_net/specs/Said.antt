@@ -1,5 +1,6 @@
 -- What lines have said so far, as one value: what a reader keeps between two lines, and what the next line adds.
-use Rattle.std.specs.Prelude.{ℕ, ◌-◌, ◌==◌, not, nat_lt, List, [], ◌∷◌, ◌++◌, is_some, length, map, drop, slice_get, Option, Some, None, Bool, false}
+use Rattle.std.specs.List.{All}
+use Rattle.std.specs.Prelude.{ℕ, ◌≡◌, ◌≤◌, ◌<◌, ◌-◌, ◌==◌, not, nat_lt, List, [], ◌∷◌, ◌++◌, is_some, length, map, drop, slice_get, Option, Some, None, Bool, false}
 use Rattle.fab_text.specs.Lines.{TextLine}
 use Rattle.fab_text.specs.FirstFault.{or_else, unless}
 use Rattle.fab_text.specs.declared.pieces.Span.{Span}
@@ -10,7 +11,7 @@ use Rattle.fab_net.specs.declared.pieces.Head.{Head}
 use Rattle.fab_net.specs.declared.pieces.Head.TheVariants as head
 use Rattle.fab_net.specs.declared.fault.NetFault.{NetFault}
 use Rattle.fab_net.specs.declared.fault.NetFault.TheVariants.{UnknownWord, NoName, PinlistWithoutBlock, PinCount, SubblockWithoutLogic, DuplicateBlock, TooLarge}
-use Rattle.fab_net.specs.Names.{number_of}
+use Rattle.fab_net.specs.Names.{number_of, AllDistinct}
 use Rattle.fab_net.specs.Netlist.{Netlist, is_logic}
 use Rattle.fab_net.specs.Text.{Section, PinOf, head_of, sections, entries_in, pins_at, pins_from, net_names, terminals_of, is_global_in, global_names, name_at, name_in, kind_in, span_of_name, pin_count}
 use Rattle.fab_net.specs.Faults.{awaiting, missing_fault, are_few, driver_fault}
@@ -89,3 +90,12 @@ after arch s l = after_by arch s l (head_of l)
 
 abbrev pub netlist_said : Said → Netlist
 netlist_said s = record { kinds = s.kinds; names = s.names; terminals = map (terminals_of s.pins) (net_names s.pins); globals = map (is_global_in s.globals) (net_names s.pins) }
+
+-- what all lines of a text have said, before the last checks
+pub record IsReady (s : Said) : Type 0 where
+  pub distinct : AllDistinct s.names
+  pub named : length s.names ≡ length s.kinds
+  pub few_blocks : length s.kinds ≤ 65535
+  pub few_terminals : length s.pins ≤ 1048576
+  pub few_nets : length (net_names s.pins) ≤ 65535
+  pub within : All (λ p. p.block < length s.kinds) s.pins

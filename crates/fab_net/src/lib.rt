@@ -2,11 +2,15 @@
 #![tactic(auto)]
 
 pub mod blocks;
+pub mod design;
 pub mod fault;
 pub mod names;
 pub mod pieces;
 pub mod pins;
+pub mod reading;
 pub mod rows;
 
+pub use design::Design;
 pub use fault::NetFault;
 pub use pieces::{BlockId, BlockKind, NetId, Terminal};
+pub use reading::read_net;

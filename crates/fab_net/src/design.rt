@@ -1,0 +1,135 @@
+//! Designs: what a netlist text says, in flat arrays that placement reads without a search.
+
+use crate::names::BlockNames;
+use crate::pieces::{BlockId, BlockKind, NetId, Terminal};
+use crate::rows::Rows;
+use std::marker::Model;
+
+/// A design: blocks numbered in the order of the text, nets by first appearance.
+#[derive(Drop)]
+pub struct Design {
+    kinds: Vec<BlockKind>,
+    names: BlockNames,
+    terminals: Rows<Terminal>,
+    globals: Vec<bool>,
+    block_nets: Rows<NetId>,
+}
+
+impl Model for Design {
+    ghost use Rattle.std.specs.Prelude.{◌≡◌, length};
+    ghost use Rattle.fab_net.specs.BlockNets.{block_nets as nets_by_block};
+    ghost use Rattle.fab_net.specs.Netlist.{Netlist, IsLawful};
+    ghost use Rattle.fab_net.specs.Shown.{netlist};
+
+    ghost Value = { Netlist };
+
+    ghost view = { λ a. netlist a.kinds.items a.names a.terminals a.globals.items };
+
+    ghost invariant = { λ a. (a.block_nets ≡ nets_by_block (length a.kinds.items) a.terminals a.globals.items) × IsLawful (netlist a.kinds.items a.names a.terminals a.globals.items) };
+}
+
+impl Design {
+    ghost use Rattle.std.specs.Prelude.{◌≡◌, ◌<◌, ◌≤◌, [], Some, length, map, slice_get, slice_index_or};
+    ghost use Rattle.std.specs.Option.{option_map};
+    ghost use Rattle.fab_net.specs.BlockNets.{block_nets as nets_by_block, net_id};
+    ghost use Rattle.fab_net.specs.Names.{number_of};
+    ghost use Rattle.fab_net.specs.Netlist.{IsLawful, net_at, nets_of as nets_on_block, logic_count};
+    ghost use Rattle.fab_net.specs.Shown.{netlist};
+
+    /// A design of its parts. Callers read designs by `read_net`.
+    pub(crate) fn new(
+        kinds: Vec<BlockKind>,
+        names: BlockNames,
+        terminals: Rows<Terminal>,
+        globals: Vec<bool>,
+        block_nets: Rows<NetId>,
+    ) -> Self
+        requires nets { block_nets ≡ nets_by_block (length kinds.items) terminals globals.items }
+        requires lawful { IsLawful (netlist kinds.items names terminals globals.items) }
+        ensures { result ≡ netlist kinds.items names terminals globals.items }
+    {
+        Design {
+            kinds,
+            names,
+            terminals,
+            globals,
+            block_nets,
+        }
+    }
+
+    /// How many blocks there are, at most 65,535. Blocks have the numbers below it.
+    pub fn blocks(&self) -> usize
+        ensures count { result ≡ length self.now.kinds }
+        ensures lawful { IsLawful self.now }
+    {
+        self.kinds.len()
+    }
+
+    /// How many nets there are, global ones too, at most 65,535. Nets have the numbers below it.
+    pub fn nets(&self) -> usize
+        ensures count { result ≡ length self.now.terminals }
+        ensures lawful { IsLawful self.now }
+    {
+        self.terminals.len()
+    }
+
+    /// How many blocks are logic blocks; the others are pads.
+    pub fn logic_blocks(&self) -> usize
+        ensures { result ≡ logic_count self.now }
+    {
+        self.kinds
+            .iter()
+            .filter(|kind| **kind == BlockKind::Logic)
+            .count()
+    }
+
+    /// What a block is.
+    pub fn kind(&self, block: BlockId) -> BlockKind
+        requires { block.0 < length self.now.kinds }
+        ensures { slice_get self.now.kinds block.0 ≡ Some result }
+    {
+        self.kinds[block.0 as usize]
+    }
+
+    /// A block's name, any bytes but separators, line feeds and `#`.
+    pub fn name(&self, block: BlockId) -> &[u8]
+        requires { block.0 < length self.now.kinds }
+        ensures { result.now ≡ slice_index_or self.now.names block.0 [] }
+    {
+        self.names.name(block.0 as usize)
+    }
+
+    /// The block of this name.
+    pub fn block_named(&self, name: &[u8]) -> Option<BlockId>
+        ensures { option_map (λ b. b.0) result ≡ number_of name.now self.now.names }
+    {
+        match self.names.number_of(name) {
+            Some(number) => Some(BlockId(number as u32)),
+            None => None,
+        }
+    }
+
+    /// A net's terminals, in the order of the text; a block with two pins on the net stands here twice.
+    pub fn terminals(&self, net: NetId) -> &[Terminal]
+        requires { net.0 < length self.now.terminals }
+        ensures { result.now ≡ slice_index_or self.now.terminals net.0 [] }
+    {
+        self.terminals.row(net.0 as usize)
+    }
+
+    /// Whether a net is global, so that placement does not count it.
+    pub fn is_global(&self, net: NetId) -> bool
+        requires { net.0 < length self.now.terminals }
+        ensures { result ≡ (net_at self.now net.0).global }
+    {
+        self.globals[net.0 as usize]
+    }
+
+    /// The nets of a block that are not global, each once, in ascending order.
+    pub fn nets_of(&self, block: BlockId) -> &[NetId]
+        requires { block.0 < length self.now.kinds }
+        ensures { result.now ≡ map net_id (nets_on_block self.now block.0) }
+    {
+        self.block_nets.row(block.0 as usize)
+    }
+}
