@@ -1,6 +1,6 @@
 -- Lists in which each number stands as often as in another.
-use Rattle.std.proofs.Common.{◌≡◌, ◌≢◌, ℕ, zero, suc, ◌+◌, ◌<◌, ◌≤◌, List, [], ◌∷◌, ◌++◌, length, get_or, sum_by, refl, sym, ap, ◌∙◌, subst, arith}
-use Rattle.std.specs.Prelude.{IsPermutation, Contains, remove, flat_map, All}
+use Rattle.std.proofs.Common.{◌≡◌, ℕ, zero, suc, ◌+◌, ◌<◌, List, [], ◌∷◌, length, get_or, sum_by, refl, sym, ap, ◌∙◌, arith}
+use Rattle.std.specs.Prelude.{IsPermutation, remove, All}
 use Rattle.std.specs.List.{range_with_len}
 use Rattle.std.proofs.lemmas.List.Sums.{sum_by-cons, sum_by-remove}
 use Rattle.std.proofs.lemmas.List.Sorted.{IsPermutation-refl, IsPermutation-sym, IsPermutation-cons, IsPermutation-trans, IsPermutation-remove, Contains-permutation}
@@ -29,7 +29,7 @@ same_counts (x ∷ xs) ys h =
     let p = place_of x ys (let e = h x in let s = hit_self x in omega (arith, sum_by-cons (hit x) x xs)) in
     let rest = same_counts xs (remove ys p.0) (λ z. let e = h z in let a : hit z (get_or ys p.0 x) ≡ hit z x = ap (hit z) p.2 in let c = sum_by-cons (hit z) x xs in let r = sum_by-remove (hit z) ys p.0 x p.1 in omega arith) in
     IsPermutation-trans (x ∷ xs) (x ∷ remove ys p.0) ys (IsPermutation-cons x xs (remove ys p.0) rest)
-        (IsPermutation-sym ys (x ∷ remove ys p.0) (IsPermutation-remove ys p.0 x p.1 (sym p.2)))
+    (IsPermutation-sym ys (x ∷ remove ys p.0) (IsPermutation-remove ys p.0 x p.1 (sym p.2)))
 
 times_range : (x a n : ℕ) → times x (range_with_len a n) + once_below x a ≡ once_below x (a + n)
 times_range x a zero = let e : once_below x (a + 0) ≡ once_below x a = ap (once_below x) (omega arith) in omega arith

@@ -1,5 +1,5 @@
 -- Answers that are put into their places.
-use Rattle.std.proofs.Common.{◌≡◌, ◌≢◌, ℕ, zero, suc, ◌+◌, ◌<◌, ◌≤◌, List, [], ◌∷◌, ◌++◌, length, map, replicate, set, get_or, sum_by, All, Any, Bool, true, Option, Some, None, Ok, Result, IfSome, IsSome, is_some, refl, sym, ap, ◌∙◌, subst, arith, length-set, get_or-set_same, get_or-set_other, length-append}
+use Rattle.std.proofs.Common.{◌≡◌, ℕ, zero, suc, ◌+◌, ◌<◌, List, [], ◌∷◌, ◌++◌, length, map, replicate, set, get_or, All, Any, true, Option, Some, None, Ok, Result, IfSome, IsSome, is_some, refl, sym, ap, ◌∙◌, subst, arith, length-set, get_or-set_same, get_or-set_other, length-append}
 use Rattle.std.specs.Global.{Vec}
 use Rattle.std.specs.declared.alloc.AllocError.{AllocError}
 use Rattle.std.specs.Prelude.{IsPermutation}
@@ -46,21 +46,21 @@ pub filled_placed : {T : Type 0} (P : ℕ → T → Type 0) (slots : List (Optio
 filled_placed P slots [] inside answered h = h
 filled_placed {T} P slots (p ∷ ps) inside answered h =
     placed_set P (filled slots ps) p.0 p.1 (let l = length-filled slots ps in let i = inside 0 p (omega arith) in omega arith) (answered 0 p (omega arith))
-        (filled_placed P slots ps (tail (λ (q : ℕ × T). q.0 < length slots) p ps inside) (tail (λ (q : ℕ × T). P q.0 q.1) p ps answered) h)
+    (filled_placed P slots ps (tail (λ (q : ℕ × T). q.0 < length slots) p ps inside) (tail (λ (q : ℕ × T). P q.0 q.1) p ps answered) h)
 
 pub filled_keeps : {T : Type 0} (slots : List (Option T)) (ps : List (ℕ × T)) → Inside ps (length slots) → (k : ℕ) → IsFull slots k → IsFull (filled slots ps) k
 filled_keeps slots [] inside k h = h
 filled_keeps {T} slots (p ∷ ps) inside k h =
     full_set (filled slots ps) p.0 k p.1 (let l = length-filled slots ps in let i = inside 0 p (omega arith) in omega arith)
-        (filled_keeps slots ps (tail (λ (q : ℕ × T). q.0 < length slots) p ps inside) k h)
+    (filled_keeps slots ps (tail (λ (q : ℕ × T). q.0 < length slots) p ps inside) k h)
 
 pub filled_full : {T : Type 0} (slots : List (Option T)) (ps : List (ℕ × T)) → Inside ps (length slots) → All (IsFull (filled slots ps)) (numbers ps)
 filled_full slots [] inside = λ k d l. absurd (omega arith)
 filled_full {T} slots (p ∷ ps) inside =
     let at : p.0 < length (filled slots ps) = (let l = length-filled slots ps in let i = inside 0 p (omega arith) in omega arith) in
     All-cons (IsFull (filled slots (p ∷ ps))) p.0 (numbers ps) (full_here (filled slots ps) p.0 p.1 at)
-        (All-weaker (IsFull (filled slots ps)) (IsFull (filled slots (p ∷ ps))) (λ k h. full_set (filled slots ps) p.0 k p.1 at h) (numbers ps)
-            (filled_full slots ps (tail (λ (q : ℕ × T). q.0 < length slots) p ps inside)))
+    (All-weaker (IsFull (filled slots ps)) (IsFull (filled slots (p ∷ ps))) (λ k h. full_set (filled slots ps) p.0 k p.1 at h) (numbers ps)
+    (filled_full slots ps (tail (λ (q : ℕ × T). q.0 < length slots) p ps inside)))
 
 -- what a loop knows that puts in the answers of `all` and has `left` to go
 abbrev pub Filling : {T : Type 0} → List (Option T) → List (ℕ × T) → List (Option T) → List (ℕ × T) → Type 0
@@ -98,18 +98,18 @@ pub record Done {T : Type 0} (board : BoardName) (P : ℕ → T → Type 0) (s :
 pub collect_goes_on : {T : Type 0} (board : BoardName) (P : ℕ → T → Type 0) (count todo left : ℕ) (slots new : List (Option T)) (seats more : List SeatModel) (s : SeatModel) (ps : List (ℕ × T)) → Collected board P count todo slots seats
     → left + 1 ≡ todo → more ≡ seats ++ s ∷ [] → Done board P s ps → new ≡ filled slots ps → Collected board P count left new more
 collect_goes_on {T} board P count todo left slots new seats more s ps r one is d put = subst (λ (l : List SeatModel). Collected board P count left new l) (sym is) (subst (λ (l : List (Option T)). Collected board P count left l (seats ++ s ∷ [])) (sym put) (
-  let inside : Inside ps (length slots) = subst (Inside ps) (sym r.len) d.inside in
-  record {
-    len = length-filled slots ps ∙ r.len;
-    all = let a = r.all in omega (arith, length-append seats (s ∷ []));
-    own = All-push (λ (s : SeatModel). s.board ≡ board) seats s r.own d.own;
-    told = All-push (λ (s : SeatModel). s.told ≡ true) seats s r.told d.told;
-    placed = filled_placed P slots ps inside d.answers r.placed;
-    full = All-push (λ (s : SeatModel). All (IsFull (filled slots ps)) s.list) seats s
-        (All-weaker (λ (s : SeatModel). All (IsFull slots) s.list) (λ (s : SeatModel). All (IsFull (filled slots ps)) s.list)
-            (λ s h. All-weaker (IsFull slots) (IsFull (filled slots ps)) (filled_keeps slots ps inside) s.list h) seats r.full)
-        (All-same (IsFull (filled slots ps)) s.list (numbers ps) (sym d.list) (filled_full slots ps inside));
-  }))
+    let inside : Inside ps (length slots) = subst (Inside ps) (sym r.len) d.inside in
+    record {
+      len = length-filled slots ps ∙ r.len;
+      all = let a = r.all in omega (arith, length-append seats (s ∷ []));
+      own = All-push (λ (s : SeatModel). s.board ≡ board) seats s r.own d.own;
+      told = All-push (λ (s : SeatModel). s.told ≡ true) seats s r.told d.told;
+      placed = filled_placed P slots ps inside d.answers r.placed;
+      full = All-push (λ (s : SeatModel). All (IsFull (filled slots ps)) s.list) seats s
+          (All-weaker (λ (s : SeatModel). All (IsFull slots) s.list) (λ (s : SeatModel). All (IsFull (filled slots ps)) s.list)
+          (λ s h. All-weaker (IsFull slots) (IsFull (filled slots ps)) (filled_keeps slots ps inside) s.list h) seats r.full)
+          (All-same (IsFull (filled slots ps)) s.list (numbers ps) (sym d.list) (filled_full slots ps inside));
+    }))
 
 -- a worker that was taken from the end of the list, and the others
 pub popped : {T : Type 0} (board : BoardName) (P : ℕ → T → Type 0) (xs ys : List (SeatModel × Result (Vec (ℕ × T)) AllocError)) (s : SeatModel) (r : Result (Vec (ℕ × T)) AllocError) (v : Vec (ℕ × T)) → xs ≡ ys ++ (s, r) ∷ [] → r ≡ Ok v → All (λ w. IsWorked board P w.0 w.1) xs
@@ -137,10 +137,11 @@ vacant {T} P n k d l = let none : Option T = None in let e = length-replicate n 
 
 pub collecting_begins : {T : Type 0} (board : BoardName) (P : ℕ → T → Type 0) (count : ℕ) (slots : List (Option T)) (seats : List SeatModel) (worked : List (SeatModel × Result (Vec (ℕ × T)) AllocError)) → slots ≡ replicate board.count None → seats ≡ [] → length worked ≡ count
     → All (λ w. IsWorked board P w.0 w.1) worked → Collecting board P count slots seats worked
-collecting_begins {T} board P count slots seats worked is none len all = let none_yet : Option T = None in
-    (subst (λ (n : ℕ). Collected board P count n slots seats) (sym len)
-        (collect_begins board P count slots seats (ap (λ (l : List (Option T)). length l) is ∙ length-replicate board.count none_yet) (subst (λ (l : List (Option T)). Placed P l) (sym is) (vacant P board.count)) none),
-      all)
+collecting_begins {T} board P count slots seats worked is none len all = let none_yet : Option T = None in (
+  subst (λ (n : ℕ). Collected board P count n slots seats) (sym len)
+      (collect_begins board P count slots seats (ap (λ (l : List (Option T)). length l) is ∙ length-replicate board.count none_yet) (subst (λ (l : List (Option T)). Placed P l) (sym is) (vacant P board.count)) none),
+  all,
+)
 
 pub collecting_inside : {T : Type 0} (board : BoardName) (P : ℕ → T → Type 0) (count : ℕ) (slots : List (Option T)) (seats : List SeatModel) (worked rest : List (SeatModel × Result (Vec (ℕ × T)) AllocError)) (s : SeatModel) (r : Result (Vec (ℕ × T)) AllocError) (v : Vec (ℕ × T))
     → worked ≡ rest ++ (s, r) ∷ [] → r ≡ Ok v → Collecting board P count slots seats worked → Inside v.items (length slots)
@@ -164,6 +165,7 @@ all_full {T} board P count taken slots seats r some_seat numbers_are told k d l 
     any_told : (xs : List SeatModel) → 0 < length xs → All (λ s. s.told ≡ true) xs → Any (λ s. s.told ≡ true) xs
     any_told [] l h = absurd (omega arith)
     any_told (x ∷ xs) l h = (0, x, l, refl, h 0 x l)
+
     get_or-any : {X : Type 0} (xs : List X) (k : ℕ) (d e : X) → k < length xs → get_or xs k d ≡ get_or xs k e
     get_or-any [] k d e l = absurd (omega arith)
     get_or-any (x ∷ xs) zero d e l = refl

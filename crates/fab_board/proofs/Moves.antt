@@ -1,12 +1,11 @@
 -- Each step keeps the rule.
-use Rattle.std.proofs.Common.{◌≡◌, ◌≢◌, ◌⊎◌, ℕ, zero, suc, ◌+◌, ◌-◌, ◌%◌, ◌^◌, ◌<◌, ◌≤◌, List, [], ◌∷◌, ◌++◌, length, set, get_or, sum_by, cond, eqb, ltb, All, Bool, true, false, MatchBool, refl, sym, ap, ◌∙◌, subst, ⊎_elim, arith, length-append, lt_of_not-le, min}
-use Rattle.std.proofs.lemmas.List.Sums.{sum_by_push}
+use Rattle.std.proofs.Common.{◌≡◌, ◌≢◌, ℕ, zero, suc, ◌+◌, ◌%◌, ◌^◌, ◌<◌, ◌≤◌, List, [], ◌∷◌, ◌++◌, length, set, get_or, sum_by, cond, All, Bool, MatchBool, refl, sym, ap, ◌∙◌, subst, ⊎_elim, arith, length-append, lt_of_not-le, min}
 use Rattle.std.proofs.lemmas.Bool.{lt-ltb, le-ltb}
 use mathlib.Core.Option.{some, none, some-ne-none, some-injective}
 use mathlib.Core.Logic.{dite}
 use native.Mathlib.Decide.{dec_le, ℕ_discrete}
 use lib.ListN.{get_elem?}
-use Rattle.atomic_table.specs.Table.{State, Me, Act, Step, step, keeps, stepped, carried_after, Valid, Allows, Splits, Joins, Final, Seen, opening}
+use Rattle.atomic_table.specs.Table.{State, Me, Act, step, keeps, stepped, carried_after, Valid, Allows, Splits, Joins, Final, Seen, opening}
 use Rattle.atomic_table.proofs.Lists.{at_set, at_snoc, set_else}
 use Rattle.fab_board.specs.declared.rule.View.{View}
 use Rattle.fab_board.specs.declared.rule.Size.{Size}

@@ -1,5 +1,5 @@
 -- How often a number stands in a list. Our own words.
-use Rattle.std.specs.Prelude.{ℕ, List, count_by, if◌then◌else◌, nat_lt, nat_eq, ◌==◌}
+use Rattle.std.specs.Prelude.{ℕ, List, count_by, if◌then◌else◌, nat_lt, ◌==◌}
 
 -- 1 where the two numbers are one, else 0
 abbrev pub hit : ℕ → ℕ → ℕ

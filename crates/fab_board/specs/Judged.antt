@@ -1,5 +1,5 @@
 -- Answers by number. Our own words.
-use Rattle.std.specs.Prelude.{◌≡◌, ℕ, ◌+◌, ◌<◌, List, [], ◌∷◌, length, map, All, true, Option, Result, Vec, Some, None, IfOk, IfSome, IsSome, slice_index_or, slice_set}
+use Rattle.std.specs.Prelude.{◌≡◌, ℕ, ◌<◌, List, [], ◌∷◌, length, map, All, true, Option, Result, Vec, Some, None, IfOk, IfSome, IsSome, slice_index_or, slice_set}
 use Rattle.std.specs.declared.alloc.AllocError.{AllocError}
 use Rattle.std.specs.Global.{Global}
 use Rattle.fab_board.specs.Views.{BoardName, SeatModel}

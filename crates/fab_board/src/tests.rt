@@ -9,13 +9,24 @@ use std::thread;
 use std::thread::Threads;
 use std::time::Duration;
 
+// What a seat is told in five claims.
+fn five_claims(board: &Board, seat: &mut ClaimSeat) -> [Option<u64>; 5]
+    requires { seat.old.board ≡ board.now.name }
+    ensures { seat.new.board ≡ seat.old.board }
+{
+    let first = board.claim(seat);
+    let second = board.claim(seat);
+    let third = board.claim(seat);
+    let fourth = board.claim(seat);
+    [first, second, third, fourth, board.claim(seat)]
+}
+
 #[test]
 fn one_seat_takes_three_numbers_and_the_other_none(rt: HostRuntime) -> Result<(), Fail> {
     let (board, mut seats) = Board::new(rt.alloc(), 3, 2)?;
     assert_eq!(rt; seats.len(), 2);
-    for want in [Some(0), Some(1), Some(2), None, None] {
-        assert!(rt; board.claim(&mut seats[0]) == want);
-    }
+    let told = five_claims(&board, &mut seats[0]);
+    assert!(rt; told == [Some(0), Some(1), Some(2), None, None]);
     assert!(rt; board.claim(&mut seats[1]).is_none());
     assert_eq!(rt; board.close(seats).taken, 3);
     Ok(())
@@ -39,12 +50,7 @@ fn a_board_that_is_closed_early(rt: HostRuntime) -> Result<(), Fail> {
 }
 
 // Claims until there is none, and counts how often it was given each number.
-fn drain<R: Wait>(
-    rt: &R,
-    board: &Board,
-    given: &[AtomicU64],
-    mut seat: ClaimSeat,
-) -> ClaimSeat
+fn drain<R: Wait>(rt: &R, board: &Board, given: &[AtomicU64], mut seat: ClaimSeat) -> ClaimSeat
     requires { seat.board ≡ board.now.name }
     ensures { (result.board ≡ board.now.name) × (result.told ≡ true) }
 {
@@ -174,7 +180,7 @@ fn the_second_number_is_judged_while_the_first_is_held(rt: HostRuntime) -> Resul
         &|k: u64| -> Result<u64, AllocError> { Ok(k + 7) },
     )?;
     assert_eq!(rt; gate.failed.load(Ordering::SeqCst), 0);
-    assert_eq!(rt; answers.as_slice(), &[7, 8]);
+    assert_eq!(rt; answers.as_slice(), [7, 8].as_slice());
     Ok(())
 }
 

@@ -1,5 +1,4 @@
 use Rattle.std.proofs.Common.{◌+◌, length, Ok, min}
-use Rattle.fab_board.specs.Views.{BoardName}
 use Rattle.fab_board.proofs.Filling.{Collecting}
 use Rattle.fab_board.proofs.judge.judge_batch.Given as goal
 

@@ -1,4 +1,4 @@
-use Rattle.std.proofs.Common.{◌≡◌, ℕ, ◌<◌, List, [], ◌∷◌, length, true, All, Any, get_or, refl, ◌∙◌, arith, rules}
+use Rattle.std.proofs.Common.{◌≡◌, ◌<◌, List, [], ◌∷◌, length, true, All, Any, refl, ◌∙◌, arith, rules}
 use Rattle.fab_board.specs.Views.{SeatModel}
 use Rattle.fab_board.proofs.tests.drained_by_four.Goals as goal
 

@@ -1,4 +1,4 @@
-use Rattle.std.proofs.Common.{◌≡◌, ℕ, ◌+◌, ◌<◌, ◌≤◌, List, [], ◌∷◌, ◌++◌, Any, Bool, true, cond, get_or, sum_by, refl, sym, ap, ◌∙◌, subst, arith, rules, min}
+use Rattle.std.proofs.Common.{◌≡◌, ℕ, ◌<◌, List, Any, Bool, true, cond, sum_by, sym, ap, ◌∙◌, arith, min}
 use Rattle.std.proofs.lemmas.List.Sums.{get_or-le-sum_by}
 use Rattle.fab_board.specs.Views.{SeatModel, BoardModel}
 use Rattle.fab_board.specs.declared.rule.Size.{Size}
