@@ -2,3 +2,4 @@ pub mod Counts
 pub mod Views
 pub mod Dealt
 pub mod Judged
+pub mod Examples
