@@ -1,8 +1,7 @@
 -- The definitions at work, on small lists.
-use Rattle.std.specs.Prelude.{◌≡◌, ℕ, List, [], ◌∷◌, true, false, Some, None, Option, refl}
-use Rattle.std.specs.List.{range_with_len}
+use Rattle.std.specs.Prelude.{◌≡◌, ℕ, [], ◌∷◌, true, false, Some, None, refl}
 use Rattle.fab_board.specs.Counts.{times, once_below}
-use Rattle.fab_board.specs.Views.{BoardName, SeatModel, all_numbers}
+use Rattle.fab_board.specs.Views.{BoardName, all_numbers}
 use Rattle.fab_board.specs.Judged.{filled, numbers}
 
 pub twice_in_three : times 2 (2 ∷ 3 ∷ 2 ∷ []) ≡ 2
@@ -19,11 +18,11 @@ pub two_seats : (b : BoardName) → all_numbers (record { board = b; list = 0 �
 two_seats b = refl
 
 -- the answers 7 for number 1 and 5 for number 0, whichever came first
-pub two_answers : filled (None ∷ None ∷ []) ((1, 7) ∷ (0, 5) ∷ []) ≡ Some 5 ∷ Some 7 ∷ []
+pub two_answers : filled {T = ℕ} (None ∷ None ∷ []) ((1, 7) ∷ (0, 5) ∷ []) ≡ Some 5 ∷ Some 7 ∷ []
 two_answers = refl
 
-pub two_answers_swapped : filled (None ∷ None ∷ []) ((0, 5) ∷ (1, 7) ∷ []) ≡ Some 5 ∷ Some 7 ∷ []
+pub two_answers_swapped : filled {T = ℕ} (None ∷ None ∷ []) ((0, 5) ∷ (1, 7) ∷ []) ≡ Some 5 ∷ Some 7 ∷ []
 two_answers_swapped = refl
 
-pub their_numbers : numbers ((1, 7) ∷ (0, 5) ∷ []) ≡ 1 ∷ 0 ∷ []
+pub their_numbers : numbers {T = ℕ} ((1, 7) ∷ (0, 5) ∷ []) ≡ 1 ∷ 0 ∷ []
 their_numbers = refl
