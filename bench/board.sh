@@ -58,9 +58,8 @@ fn row<R: Threads + Wait + Clock + Print + Sync>(rt: &R, alloc: Global, count: u
     let two = nanoseconds(rt, alloc, count, 2)?;
     let four = nanoseconds(rt, alloc, count, 4)?;
     let eight = nanoseconds(rt, alloc, count, 8)?;
-    let hundredth = (one / 100).max(1);
     for (workers, taken) in [(1, one), (2, two), (4, four), (8, eight)] {
-        println!(rt; "{count} numbers, {workers} workers: {taken} ns, {} hundredths", taken / hundredth)?;
+        println!(rt; "{count} numbers, {workers} workers: {taken} ns, {} hundredths", taken.saturating_mul(100) / one.max(1))?;
     }
     Ok(())
 }
