@@ -184,7 +184,7 @@ fn the_second_number_is_judged_while_the_first_is_held(rt: HostRuntime) -> Resul
     Ok(())
 }
 
-// Counts the calls before and after judgements.
+// Adds up the numbers whose judgement was begun, and those whose judgement was over.
 #[derive(Drop)]
 struct Tally {
     begun: AtomicU64,
@@ -192,21 +192,47 @@ struct Tally {
 }
 
 impl Gate for Tally {
-    fn before_judge(&self, _k: u64) {
-        self.begun.fetch_add(1, Ordering::SeqCst);
+    fn before_judge(&self, k: u64) {
+        self.begun.fetch_add(k, Ordering::SeqCst);
     }
 
-    fn after_judge(&self, _k: u64) {
-        self.ended.fetch_add(1, Ordering::SeqCst);
+    fn after_judge(&self, k: u64) {
+        self.ended.fetch_add(k, Ordering::SeqCst);
     }
 
     fn before_commit(&self, _k: u64) {}
 }
 
 #[test]
+fn the_gate_stands_round_each_judgement(rt: HostRuntime) -> Result<(), Fail> {
+    let gate = Tally {
+        begun: AtomicU64::new(0),
+        ended: AtomicU64::new(0),
+    };
+    let seen = judge_batch(
+        &rt,
+        rt.alloc(),
+        10,
+        3,
+        1,
+        &gate,
+        &|_k: u64| -> Result<(u64, u64), AllocError> {
+            Ok((
+                gate.begun.load(Ordering::SeqCst),
+                gate.ended.load(Ordering::SeqCst),
+            ))
+        },
+    )?;
+    assert_eq!(rt; seen.as_slice(), [(10, 0), (21, 10), (33, 21)].as_slice());
+    assert_eq!(rt; gate.ended.load(Ordering::SeqCst), 33);
+    Ok(())
+}
+
+#[test]
 fn want_of_memory_in_the_closure_at_each_position(rt: HostRuntime) -> Result<(), Fail> {
     for workers in 1..4u64 {
-        for short in 10..16u64 {
+        // With one worker the numbers up to the one where memory runs out are judged: these are their sums.
+        for (short, sum) in [(10, 10), (11, 21), (12, 33), (13, 46), (14, 60), (15, 75)] {
             let gate = Tally {
                 begun: AtomicU64::new(0),
                 ended: AtomicU64::new(0),
@@ -232,7 +258,7 @@ fn want_of_memory_in_the_closure_at_each_position(rt: HostRuntime) -> Result<(),
             let begun = gate.begun.load(Ordering::SeqCst);
             assert_eq!(rt; begun, gate.ended.load(Ordering::SeqCst));
             // The others go on, so with more workers than one all numbers are judged.
-            let want = if workers == 1 { short - 9 } else { 6 };
+            let want = if workers == 1 { sum } else { 75 };
             assert_eq!(rt; begun, want, "at {short} of {workers} workers");
         }
     }
