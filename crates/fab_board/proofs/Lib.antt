@@ -1,0 +1,5 @@
+pub mod Sums
+pub mod Counting
+pub mod Moves
+pub mod Gathering
+pub mod Filling

@@ -1,0 +1,28 @@
+-- The definitions at work, on small lists.
+use Rattle.std.specs.Prelude.{◌≡◌, ℕ, [], ◌∷◌, true, false, Some, None, refl}
+use Rattle.fab_board.specs.Counts.{times, once_below}
+use Rattle.fab_board.specs.Views.{BoardName, all_numbers}
+use Rattle.fab_board.specs.Judged.{filled, numbers}
+
+pub twice_in_three : times 2 (2 ∷ 3 ∷ 2 ∷ []) ≡ 2
+twice_in_three = refl
+
+pub below_three : once_below 2 3 ≡ 1
+below_three = refl
+
+pub not_below_three : once_below 3 3 ≡ 0
+not_below_three = refl
+
+-- one seat was given 0 and 2 and told that there is none, the other was given 1: together 0, 2, 1
+pub two_seats : (b : BoardName) → all_numbers (record { board = b; list = 0 ∷ 2 ∷ []; told = true } ∷ record { board = b; list = 1 ∷ []; told = false } ∷ []) ≡ 0 ∷ 2 ∷ 1 ∷ []
+two_seats b = refl
+
+-- the answers 7 for number 1 and 5 for number 0, whichever came first
+pub two_answers : filled {T = ℕ} (None ∷ None ∷ []) ((1, 7) ∷ (0, 5) ∷ []) ≡ Some 5 ∷ Some 7 ∷ []
+two_answers = refl
+
+pub two_answers_swapped : filled {T = ℕ} (None ∷ None ∷ []) ((0, 5) ∷ (1, 7) ∷ []) ≡ Some 5 ∷ Some 7 ∷ []
+two_answers_swapped = refl
+
+pub their_numbers : numbers {T = ℕ} ((1, 7) ∷ (0, 5) ∷ []) ≡ 1 ∷ 0 ∷ []
+their_numbers = refl

@@ -1,0 +1,5 @@
+pub mod Counts
+pub mod Views
+pub mod Dealt
+pub mod Judged
+pub mod Examples

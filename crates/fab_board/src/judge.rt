@@ -1,0 +1,175 @@
+// A batch of numbers that threads judge by one lent closure.
+ghost use Rattle.std.specs.Prelude.{◌≡◌, ℕ, ◌+◌, ◌^◌, ◌<◌, ◌≤◌, List, [], true, length, map, Ok, Some, IfOk, slice_index_or, replicate, None, All, IsSome};
+ghost use Rattle.fab_board.specs.Judged.{numbers, Answered, IsWorked, filled};
+
+use crate::board::{Board, ClaimSeat};
+use std::alloc::{AllocError, Global};
+use std::sync::Wait;
+use std::thread;
+use std::thread::Threads;
+
+/// What a caller does beside each judgement and each commit, as a test that holds one back until another was made. `k` is the
+/// number that is judged or committed. Each call must return.
+pub trait Gate: Sync {
+    fn before_judge(&self, k: u64);
+
+    fn after_judge(&self, k: u64);
+
+    fn before_commit(&self, k: u64);
+}
+
+/// The gate that does nothing.
+#[derive(Clone, Copy, Debug)]
+pub struct NoGate;
+
+impl Gate for NoGate {
+    fn before_judge(&self, _k: u64) {}
+
+    fn after_judge(&self, _k: u64) {}
+
+    fn before_commit(&self, _k: u64) {}
+}
+
+// A worker's seat, and its answers by number.
+type Worked<T> = (ClaimSeat, Result<Vec<(u64, T)>, AllocError>);
+
+/// Judges `count` numbers from `first` on in `workers` threads, or in `count` where that is less. They claim the numbers one by one,
+/// call `judge` at each between the gate's two calls, and all have ended when this returns. Entry j is an answer for first + j.
+///
+/// An error comes only where memory ran out, in `judge` or here. A worker that the system refuses to start leaves its numbers to
+/// the others.
+pub fn judge_batch<
+    T: Send + Drop,
+    G: Gate,
+    F: Fn(u64) -> Result<T, AllocError> + Sync,
+    R: Threads + Wait + Sync,
+>(
+    rt: &R,
+    alloc: Global,
+    first: u64,
+    count: u64,
+    workers: u64,
+    gate: &G,
+    judge: &F,
+) -> Result<Vec<T>, AllocError>
+    requires first { first ≤ 2 ^ 62 }
+    requires count { count ≤ 4096 }
+    requires workers { (0 < workers) × (workers ≤ 64) }
+    requires calls { (k : ℕ) → k < count → F.pre judge.now (first + k) }
+    ensures len { IfOk result (λ v. length v.items ≡ count) }
+    ensures each { IfOk result (λ v. (j : ℕ) (d : T) → j < count → F.post judge.now (first + j) (Ok (slice_index_or v.items j d))) }
+{
+    if count == 0 {
+        return Ok(Vec::new(alloc));
+    }
+    let (board, seats) = Board::new(alloc, count, workers.min(count))?;
+    let mut worked = spread(rt, alloc, &board, seats, first, gate, judge)?;
+    let mut slots = vacant(alloc, count)?;
+    let mut told = Vec::with_capacity(alloc, worked.len())?;
+    while let Some((seat, judged)) = worked.pop() {
+        let answers = judged?;
+        fill(&mut slots, answers);
+        told.push(seat)?;
+    }
+    // All seats were told None, so each place is full.
+    board.close(told);
+    unwrap_all(alloc, slots)
+}
+
+// Lends the closure to a thread for each seat. Threads start here and nowhere else.
+fn spread<
+    T: Send + Drop,
+    G: Gate,
+    F: Fn(u64) -> Result<T, AllocError> + Sync,
+    R: Threads + Wait + Sync,
+>(
+    rt: &R,
+    alloc: Global,
+    board: &Board,
+    seats: Vec<ClaimSeat>,
+    first: u64,
+    gate: &G,
+    judge: &F,
+) -> Result<Vec<Worked<T>>, AllocError>
+    requires seats { All (λ s. (s.board ≡ board.now.name) × (s.list ≡ [])) seats.items }
+    requires room { first + board.now.name.count < 2 ^ 64 }
+    requires calls { (k : ℕ) → k < board.now.name.count → F.pre judge.now (first + k) }
+    ensures len { IfOk result (λ v. length v.items ≡ length seats.items) }
+    ensures each { IfOk result (λ v. All (λ w. IsWorked board.now.name (λ k x. F.post judge.now (first + k) (Ok x)) w.0 w.1) v.items) }
+{
+    let worker = |seat: ClaimSeat| -> Worked<T>
+        requires { (seat.board ≡ board.now.name) × (seat.list ≡ []) × (first + board.now.name.count < 2 ^ 64) × ((k : ℕ) → k < board.now.name.count → F.pre judge.now (first + k)) }
+        ensures { IsWorked board.entry.now.name (λ k x. F.post judge.entry.now (first + k) (Ok x)) result.0 result.1 }
+    { work(rt, alloc, board, seat, first, gate, judge) };
+    thread::map_vec(rt, seats, &worker)
+}
+
+// Claims numbers and judges them, until none is left or memory runs out.
+fn work<R: Wait, T: Drop, G: Gate, F: Fn(u64) -> Result<T, AllocError>>(
+    rt: &R,
+    alloc: Global,
+    board: &Board,
+    mut seat: ClaimSeat,
+    first: u64,
+    gate: &G,
+    judge: &F,
+) -> Worked<T>
+    requires seat { (seat.board ≡ board.now.name) × (seat.list ≡ []) }
+    requires room { first + board.now.name.count < 2 ^ 64 }
+    requires calls { (k : ℕ) → k < board.now.name.count → F.pre judge.now (first + k) }
+    ensures board { result.0.board ≡ board.now.name }
+    ensures numbers { IfOk result.1 (λ v. numbers v.items ≡ result.0.list) }
+    ensures told { IfOk result.1 (λ v. result.0.told ≡ true) }
+    ensures answers { IfOk result.1 (λ v. Answered (λ k x. (k < board.now.name.count) × F.post judge.now (first + k) (Ok x)) v.items) }
+{
+    let mut answers = Vec::new(alloc);
+    for _turn in rt.forever() {
+        let Some(number) = board.claim(&mut seat) else {
+            break;
+        };
+        gate.before_judge(first + number);
+        let judged = judge(first + number);
+        gate.after_judge(first + number);
+        let Ok(answer) = judged else {
+            return (seat, Err(AllocError));
+        };
+        if answers.push((number, answer)).is_err() {
+            return (seat, Err(AllocError));
+        }
+    }
+    (seat, Ok(answers))
+}
+
+// A place without an answer for each number.
+fn vacant<T: Drop>(alloc: Global, count: u64) -> Result<Vec<Option<T>>, AllocError>
+    ensures { IfOk result (λ v. v.items ≡ replicate count None) }
+{
+    let mut slots = Vec::with_capacity(alloc, count as usize)?;
+    for _place in 0..count {
+        slots.push(None)?;
+    }
+    Ok(slots)
+}
+
+// Puts each answer into the place of its number.
+fn fill<T: Drop>(slots: &mut Vec<Option<T>>, mut answers: Vec<(u64, T)>)
+    requires { All (λ p. p.0 < length slots.old.items) answers.items }
+    ensures { slots.new.items ≡ filled slots.old.items answers.items }
+{
+    while let Some((number, answer)) = answers.pop() {
+        slots[number as usize] = Some(answer);
+    }
+}
+
+// Takes the answers out of their places.
+fn unwrap_all<T: Drop>(alloc: Global, slots: Vec<Option<T>>) -> Result<Vec<T>, AllocError>
+    requires { All (λ slot. IsSome slot) slots.items }
+    ensures { IfOk result (λ v. map (λ answer. Some answer) v.items ≡ slots.items) }
+{
+    let mut all = Vec::with_capacity(alloc, slots.len())?;
+    for slot in slots {
+        let Some(answer) = slot else { unreachable!() };
+        all.push(answer)?;
+    }
+    Ok(all)
+}
