@@ -48,10 +48,10 @@ begins x = record { shower_pass = 0; list = []; last = inl refl; fits = one }
 
 pub stores : (by : ℕ) (v : View) (y : Reading) → v.is_shower ≡ true → Turns Kept by v (λ _. y) Stores
 stores by v y is_shower x views h at =
-    let mine = h.fits by v at in
-    let own = mine.whole is_shower in
-    let w : View = record { is_shower = v.is_shower; shown = v.shown ++ y ∷ []; seen = v.seen } in
-    let now = h.list ++ y ∷ [] in (
+    let own = (h.fits by v at).whole is_shower in
+    let now = h.list ++ y ∷ [] in
+    let is = ap (λ (l : List Reading). l ++ y ∷ []) own.1 in
+    let w = shower (v.shown ++ y ∷ []) in (
       w,
       record {
         shower_pass = h.shower_pass;
@@ -59,26 +59,19 @@ stores by v y is_shower x views h at =
         last = inr (h.list, refl);
         fits = fits_set h.shower_pass now views by w
             (λ j u apart e. let old = h.fits j u e in record { whole = λ k. absurd (apart ((old.whole k).0 ∙ sym own.0)); begun = begins_longer h.list u.seen y old.begun })
-            (record { whole = λ _. (own.0, ap (λ (l : List Reading). l ++ y ∷ []) own.1); begun = begins_longer h.list v.seen y mine.begun });
+            (record { whole = λ _. (own.0, is); begun = subst (λ (l : List Reading). StartsWith now l) (sym is) (all_seen now) });
       },
       refl,
     )
 
--- a load by a pass that knows that the list is not empty
-loads : (by : ℕ) (v : View) → ((at : ℕ) (list : List Reading) → Fits at list by v → 0 < length list) → Turns Kept by v (λ x. x) Loads
-loads by v some_there x views h at =
+pub loads : (by : ℕ) (v : View) → 0 < length v.seen → Turns Kept by v (λ x. x) Loads
+loads by v some_seen x views h at =
     let mine = h.fits by v at in
     let w : View = record { is_shower = v.is_shower; shown = v.shown; seen = h.list } in (
       w,
       record { shower_pass = h.shower_pass; list = h.list; last = h.last; fits = fits_set h.shower_pass h.list views by w (λ j u _ e. h.fits j u e) (record { whole = mine.whole; begun = all_seen h.list }) },
-      record { kept = refl; goes_on = mine.begun; last = has_last h.list x (some_there h.shower_pass h.list mine) h.last; whole = λ k. sym (mine.whole k).1 },
+      record { kept = refl; goes_on = mine.begun; last = has_last h.list x (begun_some h.list v.seen some_seen mine.begun) h.last; whole = λ k. sym (mine.whole k).1 },
     )
-
-pub watcher_loads : (by : ℕ) (v : View) → 0 < length v.seen → Turns Kept by v (λ x. x) Loads
-watcher_loads by v some_seen = loads by v (λ at list fit. begun_some list v.seen some_seen fit.begun)
-
-pub shower_loads : (by : ℕ) (v : View) → v.is_shower ≡ true → 0 < length v.shown → Turns Kept by v (λ x. x) Loads
-shower_loads by v is_shower some_shown = loads by v (λ at list fit. subst (λ (l : List Reading). 0 < length l) (fit.whole is_shower).1 some_shown)
 
 pub newcomers : (by : ℕ) (v : View) → v.is_shower ≡ true → Forks Kept by v v (watcher v.shown)
 newcomers by v is_shower x views h at =

@@ -6,9 +6,9 @@ use Rattle.fab_dial.specs.declared.readings.Reading.{Reading}
 use Rattle.fab_dial.specs.declared.rule.View.{View}
 use Rattle.fab_dial.specs.Shown.{StartsWith, EndsWith}
 
--- the views of a shower that showed these, and of a watcher that saw these
+-- the views of a shower that showed these, which it has seen too, and of a watcher that saw these
 abbrev pub shower : List Reading → View
-shower shown = record { is_shower = true; shown = shown; seen = [] }
+shower shown = record { is_shower = true; shown = shown; seen = shown }
 
 abbrev pub watcher : List Reading → View
 watcher seen = record { is_shower = false; shown = []; seen = seen }
@@ -35,7 +35,7 @@ pub record Kept (held : Reading) (views : List View) : Type 0 where
 
 -- a store of `new` puts it at the end of what was shown
 abbrev pub Stores : View → Reading → Reading → View → Type 0
-Stores v held new w = w ≡ record { is_shower = v.is_shower; shown = v.shown ++ new ∷ []; seen = v.seen }
+Stores v held new w = w ≡ shower (v.shown ++ new ∷ [])
 
 -- a load of `held` leaves the list up to it seen, which for the shower is all that it showed
 pub record Loads (v : View) (held same : Reading) (w : View) : Type 0 where

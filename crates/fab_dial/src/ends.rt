@@ -3,7 +3,7 @@ ghost use Rattle.std.specs.Prelude.{◌≡◌, ◌<◌, ◌≤◌, [], ◌∷◌
 ghost use Rattle.atomic_table.specs.Seated.{TableId};
 ghost use Rattle.crossbeam_utils.specs.Seq.{cell_view};
 ghost use Rattle.fab_dial.specs.Models.{ShowerModel, WatcherModel};
-ghost use Rattle.fab_dial.specs.Rule.{shower, watcher};
+ghost use Rattle.fab_dial.specs.Rule.{Loads, shower, watcher};
 ghost use Rattle.fab_dial.specs.Shown.{StartsWith, EndsWith};
 
 use crate::readings::Reading;
@@ -68,14 +68,15 @@ impl Dial {
         ensures watchers { IfOk result (λ r. All (λ w. (w.dial ≡ r.0) × (w.seen ≡ first ∷ [])) r.2.items) }
     {
         let (cell, mut pass) = Cell::ruled(alloc, first)?;
+        let dial = Dial { cell };
         // The rule of a cell starts at an empty list, whatever the cell holds.
-        cell.swap_as::<Store, R>(rt, &mut pass, first);
+        dial.store(rt, &mut pass, first);
+        let mut shower = Shower { pass };
         let mut all = Vec::new(alloc);
         for _watcher in 0..watchers {
-            let newcomer = cell.split_pass::<Newcomer>(&mut pass);
-            all.push(Watcher { pass: newcomer })?;
+            all.push(dial.watcher(&mut shower))?;
         }
-        Ok((Dial { cell }, Shower { pass }, all))
+        Ok((dial, shower, all))
     }
 
     /// Puts a reading at the end of the list. The shower is one of this dial.
@@ -84,7 +85,7 @@ impl Dial {
         ensures dial { shower.new.dial ≡ shower.old.dial }
         ensures shown { shower.new.shown ≡ shower.old.shown ++ reading ∷ [] }
     {
-        self.cell.swap_as::<Store, R>(rt, &mut shower.pass, reading);
+        self.store(rt, &mut shower.pass, reading);
     }
 
     /// The last reading of a list that begins with all that this watcher had seen, and that it has now seen.
@@ -95,35 +96,62 @@ impl Dial {
         ensures seen { StartsWith watcher.new.seen watcher.old.seen }
         ensures last { EndsWith watcher.new.seen result }
     {
-        self.cell.load_as::<Load, R>(rt, &mut watcher.pass)
+        self.load(rt, &mut watcher.pass)
     }
 
     /// Ends the dial, and answers the last reading shown. What each of these watchers has seen is a beginning of what was shown.
     /// The shower and the watchers are of this dial. They may be fewer watchers than were made, or none.
-    pub fn gather<R: Wait>(self, rt: &R, shower: Shower, mut watchers: Vec<Watcher>) -> Reading
+    pub fn gather<R: Wait>(self, rt: &R, mut shower: Shower, mut watchers: Vec<Watcher>) -> Reading
         requires own { shower.dial ≡ self }
         requires watchers { All (λ w. w.dial ≡ self) watchers.items }
         ensures seen { All (λ w. StartsWith shower.shown w.seen) watchers.items }
         ensures last { EndsWith shower.shown result }
     {
-        let Dial { cell } = self;
-        let Shower { mut pass } = shower;
         while let Some(watcher) = watchers.pop() {
-            check_watcher(rt, &cell, &mut pass, watcher);
+            self.check(rt, &mut shower, watcher);
         }
-        cell.load_as::<Load, R>(rt, &mut pass)
+        self.load(rt, &mut shower.pass)
     }
-}
 
-// Holds what a watcher has seen against what was shown.
-fn check_watcher<R: Wait>(rt: &R, cell: &Cell, pass: &mut CellPass, watcher: Watcher)
-    requires own { (pass.old.table_id ≡ cell.now.table.shared.table_id) × (watcher.dial ≡ cell.now.table.shared.table_id) }
-    requires shower { ((cell_view pass.old).is_shower ≡ true) × (0 < length (cell_view pass.old).shown) }
-    ensures pass { (pass.new.table_id ≡ pass.old.table_id) × ((cell_view pass.new).is_shower ≡ true) × ((cell_view pass.new).shown ≡ (cell_view pass.old).shown) }
-    ensures seen { StartsWith (cell_view pass.old).shown watcher.seen }
-{
-    let Watcher { pass: mut spent } = watcher;
-    let whole = cell.split_pass::<Whole>(&mut spent);
-    cell.join_pass::<Whole>(pass, whole);
-    cell.load_as::<Load, R>(rt, pass);
+    // A watcher that has seen what was shown so far.
+    fn watcher(&self, shower: &mut Shower) -> Watcher
+        requires own { shower.old.dial ≡ self.now }
+        ensures same { shower.new ≡ shower.old }
+        ensures watcher { (result.dial ≡ self.now) × (result.seen ≡ shower.old.shown) }
+    {
+        Watcher {
+            pass: self.cell.split_pass::<Newcomer>(&mut shower.pass),
+        }
+    }
+
+    // Holds what a watcher has seen against what was shown.
+    fn check<R: Wait>(&self, rt: &R, shower: &mut Shower, watcher: Watcher)
+        requires shower { shower.old.dial ≡ self.now }
+        requires watcher { watcher.dial ≡ self.now }
+        ensures same { shower.new ≡ shower.old }
+        ensures seen { StartsWith shower.old.shown watcher.seen }
+    {
+        let Watcher { pass: mut spent } = watcher;
+        let whole = self.cell.split_pass::<Whole>(&mut spent);
+        self.cell.join_pass::<Whole>(&mut shower.pass, whole);
+        self.load(rt, &mut shower.pass);
+    }
+
+    fn store<R: Wait>(&self, rt: &R, pass: &mut CellPass, reading: Reading)
+        requires own { pass.old.table_id ≡ self.now }
+        requires shower { (cell_view pass.old).is_shower ≡ true }
+        ensures own { pass.new.table_id ≡ pass.old.table_id }
+        ensures shown { cell_view pass.new ≡ shower ((cell_view pass.old).shown ++ reading ∷ []) }
+    {
+        self.cell.swap_as::<Store, R>(rt, pass, reading);
+    }
+
+    fn load<R: Wait>(&self, rt: &R, pass: &mut CellPass) -> Reading
+        requires own { pass.old.table_id ≡ self.now }
+        requires some_seen { 0 < length (cell_view pass.old).seen }
+        ensures own { pass.new.table_id ≡ pass.old.table_id }
+        ensures loads { Loads (cell_view pass.old) result result (cell_view pass.new) }
+    {
+        self.cell.load_as::<Load, R>(rt, pass)
+    }
 }
