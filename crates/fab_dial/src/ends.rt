@@ -133,8 +133,9 @@ impl Dial {
     {
         let Watcher { pass: mut spent } = watcher;
         let whole = self.cell.split_pass::<Whole>(&mut spent);
-        self.cell.join_pass::<Whole>(&mut shower.pass, whole);
-        self.load(rt, &mut shower.pass);
+        let pass = &mut shower.pass;
+        self.cell.join_pass::<Whole>(pass, whole);
+        self.load(rt, pass);
     }
 
     fn store<R: Wait>(&self, rt: &R, pass: &mut CellPass, reading: Reading)
