@@ -27,6 +27,22 @@ fn listed(number: u64) -> Reading {
     )
 }
 
+// What was shown last is what is gathered, by the clauses of the two calls alone.
+fn shown_last<R: Wait>(
+    rt: &R,
+    dial: Dial,
+    mut shower: Shower,
+    reading: Reading,
+    watchers: Vec<Watcher>,
+) -> Reading
+    requires own { shower.dial ≡ dial }
+    requires watchers { All (λ w. w.dial ≡ dial) watchers.items }
+    ensures { result ≡ reading }
+{
+    dial.show(rt, &mut shower, reading);
+    dial.gather(rt, shower, watchers)
+}
+
 #[test]
 fn a_reading_shown_is_read(rt: HostRuntime) -> Result<(), Fail> {
     let (dial, mut shower, mut watchers) = Dial::new(&rt, rt.alloc(), 1, reading(0, 0, 40000))?;
@@ -49,12 +65,11 @@ fn a_dial_needs_no_watcher(rt: HostRuntime) -> Result<(), Fail> {
 
 #[test]
 fn fewer_watchers_are_gathered_than_were_made(rt: HostRuntime) -> Result<(), Fail> {
-    let (dial, mut shower, mut watchers) = Dial::new(&rt, rt.alloc(), 64, reading(0, 0, 40000))?;
+    let (dial, shower, mut watchers) = Dial::new(&rt, rt.alloc(), 64, reading(0, 0, 40000))?;
     assert_eq!(rt; watchers.len(), 64);
-    dial.show(&rt, &mut shower, reading(5, 2, u64::MAX));
-    let watcher = watchers.pop().expect(&rt, "a watcher");
-    drop(watcher);
-    assert_eq!(rt; dial.gather(&rt, shower, watchers), reading(5, 2, u64::MAX));
+    drop(watchers.pop());
+    let gathered = shown_last(&rt, dial, shower, reading(5, 2, u64::MAX), watchers);
+    assert_eq!(rt; gathered, reading(5, 2, u64::MAX));
     let (dial, mut shower, _watchers) = Dial::new(&rt, rt.alloc(), 2, reading(0, 0, 40000))?;
     dial.show(&rt, &mut shower, reading(1, 1, 1));
     let none = Vec::new(rt.alloc());
