@@ -1,0 +1,134 @@
+#!/usr/bin/env bash
+# The time of `show` with no watcher and with two that read all the time, on this machine.
+# It builds a small program over fab_dial in a temporary folder, so that crates.txt names no crate that only measures.
+set -euo pipefail
+top=$(cd "$(dirname "$0")/.." && pwd)
+scratch=$(mktemp -d)
+trap 'rm -rf "$scratch"' EXIT
+mkdir -p "$scratch/crates/dial_bench/src"
+cp "$top/HANDLES" "$scratch/HANDLES"
+cp -r "$top/crates/fab_dial" "$scratch/crates/fab_dial"
+rm -rf "$scratch/crates/fab_dial/must-fail"
+grep '^fab_dial:' "$top/crates.txt" > "$scratch/crates.txt"
+echo 'dial_bench: fab_dial' >> "$scratch/crates.txt"
+
+cat > "$scratch/crates/dial_bench/src/main.rt" <<'RATTLE'
+//! The time of one `show`, in nanoseconds.
+#![tactic(auto)]
+
+ghost use Rattle.std.specs.Prelude.{◌≡◌, ◌≤◌, All};
+
+use fab_dial::{Dial, Reading, Shower, Watcher};
+use std::alloc::Global;
+use std::io;
+use std::sync::Wait;
+use std::thread;
+use std::thread::Threads;
+use std::time::{Clock, Instant};
+
+const SHOWN: u64 = 1000000;
+
+fn reading(moves: u64) -> Reading {
+    Reading {
+        moves,
+        accepted: moves / 2,
+        cost: 40000,
+    }
+}
+
+// Shows them all, and answers how many nanoseconds that took.
+fn show_all<R: Wait + Clock>(rt: &R, dial: &Dial, mut shower: Shower) -> io::Result<u128>
+    requires { shower.dial ≡ dial.now }
+{
+    let start = Instant::now(rt)?;
+    for moves in 1..=SHOWN {
+        dial.show(rt, &mut shower, reading(moves));
+    }
+    Ok(start.elapsed(rt)?.as_nanos())
+}
+
+// Reads until it sees the last reading, and answers how often it read.
+fn watch<R: Wait>(rt: &R, dial: &Dial, mut watcher: Watcher) -> u64
+    requires { watcher.dial ≡ dial.now }
+{
+    let mut reads: u64 = 0;
+    for _turn in rt.forever() {
+        reads = reads.wrapping_add(1);
+        if dial.read(rt, &mut watcher).moves == SHOWN {
+            return reads;
+        }
+    }
+    unreachable!()
+}
+
+// The nanoseconds of all shows, and how often the watchers read.
+fn measured<R: Threads + Wait + Clock + Sync>(rt: &R, alloc: Global, watchers: u64) -> io::Result<(u128, u64)>
+    requires { watchers ≤ 64 }
+{
+    let (dial, shower, ends) = Dial::new(rt, alloc, watchers, reading(0))?;
+    let shown = &dial;
+    let (time, reads) = thread::join(
+        rt,
+        move || -> io::Result<u128>
+            requires { shower.dial ≡ shown.now }
+        { show_all(rt, shown, shower) },
+        move || -> Result<Vec<u64>, std::alloc::AllocError>
+            requires { All (λ w. w.dial ≡ shown.now) ends.items }
+        {
+            thread::map_vec(
+                rt,
+                ends,
+                &|w: Watcher| -> u64
+                    requires { w.dial ≡ shown.now }
+                { watch(rt, shown, w) },
+            )
+        },
+    );
+    let mut sum: u64 = 0;
+    for count in reads?.iter() {
+        sum = sum.wrapping_add(*count);
+    }
+    Ok((time?, sum))
+}
+
+fn report<R: Threads + Wait + Clock + Print + Sync>(rt: &R, alloc: Global, watchers: u64) -> io::Result<()>
+    requires { watchers ≤ 64 }
+{
+    let (time, reads) = measured(rt, alloc, watchers)?;
+    println!(rt; "with {watchers} watchers: {time} ns for {SHOWN} shows, {reads} reads")
+}
+
+fn main(rt: HostRuntime) -> io::Result<()> {
+    for _round in 0..5 {
+        report(&rt, rt.alloc(), 0)?;
+        report(&rt, rt.alloc(), 2)?;
+    }
+    Ok(())
+}
+RATTLE
+mkdir -p "$scratch/crates/dial_bench/proofs/show_all"
+cat > "$scratch/crates/dial_bench/proofs/show_all/Invariants.antt" <<'ANTT'
+use Rattle.std.proofs.Common.{◌≡◌}
+use Rattle.dial_bench.proofs.show_all.Given as goal
+
+abbrev pub invariant-loop-moves : goal.invariant-loop-moves
+invariant-loop-moves g l = l.shower.dial ≡ l.dial
+ANTT
+mkdir -p "$scratch/crates/dial_bench/proofs/watch"
+cat > "$scratch/crates/dial_bench/proofs/watch/Invariants.antt" <<'ANTT'
+use Rattle.std.proofs.Common.{◌≡◌}
+use Rattle.dial_bench.proofs.watch.Given as goal
+
+abbrev pub invariant-loop-turn : goal.invariant-loop-turn
+invariant-loop-turn g l = l.watcher.dial ≡ l.dial
+ANTT
+
+cd "$scratch/crates/dial_bench"
+rt run > "$scratch/log" 2>&1 || { cat "$scratch/log"; exit 1; }
+awk '
+    /^with/ { print; time[$2] += $4; shows[$2] += $7; reads[$2] += $9 }
+    END {
+        printf "a show with no watcher: %.1f ns\n", time[0] / shows[0]
+        printf "a show with two watchers: %.1f ns, ratio %.1f\n", time[2] / shows[2], time[2] / time[0]
+        printf "reads of both in that time: %.2f a show\n", reads[2] / shows[2]
+    }' "$scratch/log"
