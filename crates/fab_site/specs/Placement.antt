@@ -28,6 +28,11 @@ at_from n (s ∷ sites) site = if same_site s site then Some (record { 0 = n }) 
 abbrev pub at : List Site → Site → Option BlockId
 at sites site = at_from 0 sites site
 
+-- a placement on an array, as contracts see it
+pub record PlacementOf : Type 0 where
+  pub grid : GridShape
+  pub sites : List Site
+
 abbrev pub with_other : List Site → Option BlockId → Site → List Site
 with_other sites None site = sites
 with_other sites (Some b) site = slice_set sites b.0 site
@@ -52,11 +57,15 @@ flat (Some site) = site
 abbrev pub fixed_at : List (Option Site) → ℕ → Option Site
 fixed_at fixed b = flat (slice_get fixed b)
 
+-- no two blocks stand on one site
+abbrev pub AreApart : List Site → Type 0
+AreApart sites = (a b : ℕ) → a < length sites → b < length sites → site_of sites a ≡ site_of sites b → a ≡ b
+
 -- each block of the netlist stands on a site of its kind, no two on one, and fixed blocks stand where they are fixed
 pub record IsLegal (d : Netlist) (g : GridShape) (fixed : List (Option Site)) (sites : List Site) : Type 0 where
   pub all : length sites ≡ length d.kinds
   pub fit : (b : ℕ) → b < length sites → Fits d g b (site_of sites b)
-  pub apart : (a b : ℕ) → a < length sites → b < length sites → site_of sites a ≡ site_of sites b → a ≡ b
+  pub apart : AreApart sites
   pub stay : (b : ℕ) (s : Site) → fixed_at fixed b ≡ Some s → slice_get sites b ≡ Some s
 
 abbrev pub site : ℕ → ℕ → ℕ → Site

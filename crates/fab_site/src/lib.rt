@@ -1,6 +1,9 @@
-//! Placements: where each block stands.
+//! Placements: where each block stands, read both ways.
 #![tactic(auto)]
 
+pub mod index;
 pub mod pieces;
+pub mod places;
 
 pub use pieces::Swap;
+pub use places::Placement;

@@ -1,0 +1,104 @@
+//! A placement: the site of each block, and on each site its block, in two flat arrays.
+
+ghost use Rattle.std.specs.Prelude.{◌≡◌, ℕ, ◌<◌, ◌≤◌, [], length, is_some, IsTrue, IfOk};
+ghost use Rattle.fab_arch.specs.Grid.{kind_at};
+ghost use Rattle.fab_site.specs.Index.{IsIndexed};
+ghost use Rattle.fab_site.specs.Placement.{AreApart, IsLegal, site_of as site_of_block, at as block_at};
+
+use crate::index::{held, index_of, site_count};
+use fab_arch::{Grid, Site};
+use fab_net::{BlockId, Design};
+use std::alloc::{AllocError, Global};
+use std::marker::Model;
+
+/// Where each block stands, on one array.
+#[derive(Drop)]
+pub struct Placement {
+    grid: Grid,
+    sites: Vec<Site>,
+    holders: Vec<u32>,
+}
+
+impl Model for Placement {
+    ghost use Rattle.fab_site.specs.Placement.{PlacementOf};
+    ghost use Rattle.fab_site.specs.Index.{IsIndexed};
+
+    ghost Value = { PlacementOf };
+
+    ghost view = { λ p. record { grid = p.grid; sites = p.sites.items } };
+
+    ghost invariant = { λ p. IsIndexed p.grid p.sites.items p.holders.items };
+}
+
+impl Placement {
+    /// The placement that gives each block, by number, its site. The sites are lawful by condition: each of its
+    /// block's kind, and none twice.
+    pub fn of_sites(
+        alloc: Global,
+        design: &Design,
+        grid: &Grid,
+        sites: &[Site],
+    ) -> Result<Placement, AllocError>
+        requires { IsLegal design.now grid.now [] sites.now }
+        ensures grid { IfOk result (λ p. p.grid ≡ grid.now) }
+        ensures sites { IfOk result (λ p. p.sites ≡ sites.now) }
+    {
+        let _blocks = design.blocks();
+        let own = Vec::from_slice(alloc, sites)?;
+        let holders = holders_of(alloc, grid, sites)?;
+        Ok(Placement {
+            grid: *grid,
+            sites: own,
+            holders,
+        })
+    }
+
+    /// Where a block stands.
+    pub fn site_of(&self, block: BlockId) -> Site
+        requires { block.0 < length self.now.sites }
+        ensures { result ≡ site_of_block self.now.sites block.0 }
+    {
+        self.sites[block.0 as usize]
+    }
+
+    /// The block on a site, or `None` where the site is empty or none of the array's.
+    pub fn at(&self, site: Site) -> Option<BlockId>
+        ensures { result ≡ block_at self.now.sites site }
+    {
+        held(&self.holders, index_of(&self.grid, site))
+    }
+
+    /// How many blocks stand on the array.
+    pub fn blocks(&self) -> usize
+        ensures { result ≡ length self.now.sites }
+    {
+        self.sites.len()
+    }
+
+    /// A second placement that gives each block the same site.
+    pub fn copy(&self) -> Result<Placement, AllocError>
+        ensures { IfOk result (λ p. p ≡ self.now) }
+    {
+        Ok(Placement {
+            grid: self.grid,
+            sites: self.sites.clone()?,
+            holders: self.holders.clone()?,
+        })
+    }
+}
+
+/// The table that holds, for every site, the block that stands there.
+fn holders_of(alloc: Global, grid: &Grid, sites: &[Site]) -> Result<Vec<u32>, AllocError>
+    requires few { length sites.now ≤ 65535 }
+    requires there { (b : ℕ) → b < length sites.now → IsTrue (is_some (kind_at grid.now (site_of_block sites.now b))) }
+    requires apart { AreApart sites.now }
+    ensures { IfOk result (λ v. IsIndexed grid.now sites.now v.items) }
+{
+    let mut holders = vec![in alloc; 0u32; site_count(grid)]?;
+    for block in 0..sites.len() {
+        if let Some(index) = index_of(grid, sites[block]) {
+            holders[index] = block as u32 + 1;
+        }
+    }
+    Ok(holders)
+}
