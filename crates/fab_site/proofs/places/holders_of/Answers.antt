@@ -1,6 +1,5 @@
 use Rattle.std.proofs.Common.{◌≡◌, ℕ, ◌≤◌, true, false, Some, None, length, replicate, set, zero, suc, refl, sym, ap, ◌∙◌, arith}
 use Rattle.std.specs.Prelude.{is_some, slice_index}
-use Rattle.std.proofs.lemmas.List.{length-replicate}
 use Rattle.std.proofs.lemmas.Bool.{false≢true}
 use Rattle.fab_site.specs.Index.{index_of, site_count}
 use Rattle.fab_site.specs.Placement.{site_of}
@@ -17,7 +16,7 @@ zero_at (suc n) (suc i) = zero_at n i
 pub loop-block-init : goal.loop-block-init
 loop-block-init c =
     let items = c.in_ok-holders.ensures.items_if_clones_equal in
-    filled_none c.args.grid.now c.args.sites.now c.in_ok-holders.holders.items (ap length items ∙ length-replicate c.site_count.result 0 ∙ c.site_count.ensures) (λ i. rw items (zero_at c.site_count.result i))
+    filled_none c.args.grid.now c.args.sites.now c.in_ok-holders.holders.items (omega (arith, c.in_ok-holders.ensures.len, c.site_count.ensures, c.in_ok-holders.holders.ok.0)) (λ i. rw items (zero_at c.site_count.result i))
 
 pub index_mut-requires : goal.index_mut-requires
 index_mut-requires c =
