@@ -1,5 +1,6 @@
 # Sourced by the benches: a scratch copy of the repository with one more program, since a bench is no crate of ours.
-# scratch_with NAME DEPS MAIN sets $work, a temporary folder that goes at the end, with the copy in $work/repo.
+# scratch_with NAME DEPS sets $work, a temporary folder that goes at the end, with the copy in $work/repo; the
+# program comes on standard input.
 scratch_with() {
     work=$(mktemp -d)
     trap 'rm -rf "$work"' EXIT
@@ -9,5 +10,5 @@ scratch_with() {
     cp "$top/crates.txt" "$work/repo/"
     printf '%s: %s\n' "$1" "$2" >> "$work/repo/crates.txt"
     cp -r "$top"/crates/* "$work/repo/crates/"
-    cp "$3" "$work/repo/crates/$1/src/main.rt"
+    cat > "$work/repo/crates/$1/src/main.rt"
 }

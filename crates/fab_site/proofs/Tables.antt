@@ -179,7 +179,7 @@ index_apart g s t i h k = elim (index_is g s i h) [
 
 -- the blocks of a list on a site, one block on
 
-same_is : (a b : Site) → same_site a b ≡ true → a ≡ b
+pub same_is : (a b : Site) → same_site a b ≡ true → a ≡ b
 same_is a b h =
     let p = and_parts (a.x == b.x && a.y == b.y) (a.sub == b.sub) h in
     let q = and_parts (a.x == b.x) (a.y == b.y) p.0 in
@@ -216,18 +216,18 @@ pub record IsFilled (g : GridShape) (sites : List Site) (b : ℕ) (holders : Lis
   pub size : length holders ≡ site_count g
   pub each : (s : Site) → held holders (index_of g s) ≡ at (take b sites) s
 
-held_zero : (holders : List ℕ) (o : Option ℕ) → ((i : ℕ) → slice_index holders i ≡ 0) → held holders o ≡ None
+pub held_zero : (holders : List ℕ) (o : Option ℕ) → ((i : ℕ) → slice_index holders i ≡ 0) → held holders o ≡ None
 held_zero holders None h = refl
 held_zero holders (Some i) h = let e = h i in rw e refl
 
 pub filled_none : (g : GridShape) (sites : List Site) (holders : List ℕ) → length holders ≡ site_count g → ((i : ℕ) → slice_index holders i ≡ 0) → IsFilled g sites 0 holders
 filled_none g sites holders n zeros = record { size = n; each = λ s. held_zero holders (index_of g s) zeros }
 
-held_other : (holders : List ℕ) (i v : ℕ) (o : Option ℕ) → (o ≡ Some i → ⊥) → held (set holders i v) o ≡ held holders o
+pub held_other : (holders : List ℕ) (i v : ℕ) (o : Option ℕ) → (o ≡ Some i → ⊥) → held (set holders i v) o ≡ held holders o
 held_other holders i v None h = refl
 held_other holders i v (Some j) h = let e : slice_index (set holders i v) j ≡ slice_index holders j = get_or-set_other holders i j v 0 (λ e. h (ap Some e)) in rw e refl
 
-held_here : (holders : List ℕ) (i b : ℕ) → i < length holders → held (set holders i (b + 1)) (Some i) ≡ Some (record { 0 = b })
+pub held_here : (holders : List ℕ) (i b : ℕ) → i < length holders → held (set holders i (b + 1)) (Some i) ≡ Some (record { 0 = b })
 held_here holders i b lt =
     let e : slice_index (set holders i (b + 1)) i ≡ b + 1 = get_or-set_same holders i (b + 1) 0 lt in
     let z : eqb (b + 1) 0 ≡ false = ne_eqb (b + 1) 0 (λ k. omega (arith, k)) in

@@ -53,6 +53,18 @@ impl Placement {
         })
     }
 
+    /// The placement of sites by block, with the table that holds their blocks.
+    pub(crate) fn of_table(grid: Grid, sites: Vec<Site>, holders: Vec<u32>) -> Self
+        requires { IsIndexed grid sites.items holders.items }
+        ensures { result ≡ record { grid = grid; sites = sites.items } }
+    {
+        Placement {
+            grid,
+            sites,
+            holders,
+        }
+    }
+
     /// Where a block stands.
     pub fn site_of(&self, block: BlockId) -> Site
         requires { block.0 < length self.now.sites }

@@ -1,0 +1,102 @@
+//! A placement in the making: blocks get their sites one by one, in any order.
+
+ghost use Rattle.std.specs.Prelude.{◌≡◌, ℕ, ◌<◌, ◌≤◌, length, map, replicate, is_some, position, slice_get, slice_set, None, Some, IsTrue, IfOk};
+ghost use Rattle.std.specs.List.{list_all};
+ghost use Rattle.fab_arch.specs.Grid.{kind_at};
+ghost use Rattle.fab_site.specs.Draft.{holder_of, is_missing};
+
+use crate::index::{held, index_of, site_count};
+use crate::places::Placement;
+use fab_arch::{Grid, Site};
+use fab_net::BlockId;
+use std::alloc::{AllocError, Global};
+use std::marker::Model;
+
+/// Of each block the site that it got, if any; no site is given twice.
+#[derive(Drop)]
+pub struct Draft {
+    grid: Grid,
+    sites: Vec<Option<Site>>,
+    holders: Vec<u32>,
+}
+
+impl Model for Draft {
+    ghost use Rattle.fab_site.specs.Draft.{DraftOf, IsTabled};
+
+    ghost Value = { DraftOf };
+
+    ghost view = { λ p. record { grid = p.grid; sites = p.sites.items } };
+
+    ghost invariant = { λ p. IsTabled p.grid p.sites.items p.holders.items };
+}
+
+impl Draft {
+    /// A draft of so many blocks, none of which has a site.
+    pub fn new(alloc: Global, blocks: usize, grid: &Grid) -> Result<Draft, AllocError>
+        requires { blocks ≤ 65535 }
+        ensures { IfOk result (λ d. d ≡ record { grid = grid.now; sites = replicate blocks None }) }
+    {
+        let sites = vec![in alloc; None; blocks]?;
+        let holders = vec![in alloc; 0u32; site_count(grid)]?;
+        Ok(Draft {
+            grid: *grid,
+            sites,
+            holders,
+        })
+    }
+
+    /// The site that a block got.
+    pub fn site_of(&self, block: BlockId) -> Option<Site>
+        requires { block.0 < length self.now.sites }
+        ensures { slice_get self.now.sites block.0 ≡ Some result }
+    {
+        self.sites[block.0 as usize]
+    }
+
+    /// The block that got a site.
+    pub fn at(&self, site: Site) -> Option<BlockId>
+        ensures { result ≡ holder_of self.now.sites site }
+    {
+        held(&self.holders, index_of(&self.grid, site))
+    }
+
+    /// Gives a block, which has no site yet, one of the array's sites, which no block has yet.
+    pub fn put(&mut self, block: BlockId, site: Site)
+        requires missing { slice_get self.old.sites block.0 ≡ Some None }
+        requires there { IsTrue (is_some (kind_at self.old.grid site)) }
+        requires free { holder_of self.old.sites site ≡ None }
+        ensures { self.new ≡ record self.old { sites = slice_set self.old.sites block.0 (Some site) } }
+    {
+        if let Some(index) = index_of(&self.grid, site) {
+            self.holders[index] = block.0 + 1;
+        }
+        self.sites[block.0 as usize] = Some(site);
+    }
+
+    /// The first block without a site, by number.
+    pub fn first_missing(&self) -> Option<usize>
+        ensures { result ≡ position is_missing self.now.sites }
+    {
+        self.sites.iter().position(|site| site.is_none())
+    }
+
+    /// The placement, where each block has its site.
+    pub fn finish(self, alloc: Global) -> Result<Placement, AllocError>
+        requires { IsTrue (list_all is_some self.sites) }
+        ensures grid { IfOk result (λ p. p.grid ≡ self.grid) }
+        ensures sites { IfOk result (λ p. map Some p.sites ≡ self.sites) }
+    {
+        let Draft {
+            grid,
+            sites,
+            holders,
+        } = self;
+        let mut own = Vec::new(alloc);
+        for site in &sites {
+            if let Some(site) = *site {
+                own.push(site)?;
+            }
+        }
+        Ok(Placement::of_table(grid, own, holders))
+    }
+}
