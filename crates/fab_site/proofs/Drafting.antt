@@ -64,7 +64,7 @@ tabled_none g n holders size zeros few =
 tail_none : (n : ℕ) (o : Option Site) (os : List (Option Site)) (s : Site) → holder_from n (o ∷ os) s ≡ None → (is_site o s ≡ false) × (holder_from (n + 1) os s ≡ None)
 tail_none n o os s h = elim (cases_Bool (is_site o s)) [
   | inl y ↦ let e : Some (record { 0 = n }) ≡ None = rw y at h in absurd (no_block (record { 0 = n }) e)
-  | inr no ↦ (no, rw no at h)
+  | inr other ↦ (other, rw other at h)
 ]
   where
     no_block : (b : BlockId) → Some b ≡ None → ⊥
@@ -166,3 +166,24 @@ tabled_all g xs os holders e t' =
       each = λ s. t.each s ∙ all_held 0 xs s;
       apart = λ a b la lb same. t.apart a b (site_of xs a) (got xs a la) (got xs b lb ∙ ap (λ s. Some (Some s)) (sym same));
     }
+
+all_parts : (o : Option Site) (os : List (Option Site)) → list_all is_some (o ∷ os) ≡ true → (is_some o ≡ true) × (list_all is_some os ≡ true)
+all_parts o os h = elim (cases_Bool (is_some o)) [
+  | inl y ↦ (y, rw y at h)
+  | inr n ↦ let e : false ≡ true = rw n at h in absurd (false≢true e)
+]
+
+-- each of some sites is there
+pub some_at : (os : List (Option Site)) (i : ℕ) (d : Option Site) → list_all is_some os ≡ true → i < length os → is_some (get_or os i d) ≡ true
+some_at [] i d h lt = absurd (omega arith)
+some_at (o ∷ os) zero d h lt = (all_parts o os h).0
+some_at (o ∷ os) (suc i) d h lt = some_at os i d (all_parts o os h).1 (omega arith)
+
+-- a block's site goes into the table where the site lies
+pub tabled_enter : (g : GridShape) (os : List (Option Site)) (old new : List ℕ) (b : ℕ) (x : Site) → IsTabled g os old → slice_get os b ≡ Some None → holder_of os x ≡ None → is_some (index_of g x) ≡ true
+    → ((i : ℕ) → index_of g x ≡ Some i → new ≡ set old i (b + 1)) → IsTabled g (set os b (Some x)) new
+tabled_enter g os old new b x t missing free there h = by_index (index_of g x) refl there
+  where
+    by_index : (o : Option ℕ) → index_of g x ≡ o → is_some o ≡ true → IsTabled g (set os b (Some x)) new
+    by_index None e k = absurd (false≢true k)
+    by_index (Some i) e k = rw (h i e) (tabled_put g os old b x i t missing free e)

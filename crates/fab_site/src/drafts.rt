@@ -1,9 +1,10 @@
 //! A placement in the making: blocks get their sites one by one, in any order.
 
-ghost use Rattle.std.specs.Prelude.{◌≡◌, ℕ, ◌<◌, ◌≤◌, length, map, replicate, is_some, position, slice_get, slice_set, None, Some, IsTrue, IfOk};
+ghost use Rattle.std.specs.Prelude.{◌≡◌, ℕ, ◌+◌, ◌^◌, ◌<◌, ◌≤◌, length, map, replicate, is_some, position, slice_get, slice_set, None, Some, IsTrue, IfOk};
 ghost use Rattle.std.specs.List.{list_all};
 ghost use Rattle.fab_arch.specs.Grid.{kind_at};
 ghost use Rattle.fab_site.specs.Draft.{holder_of, is_missing};
+ghost use Rattle.fab_site.specs.Index.{index_of, site_count};
 
 use crate::index::{held, index_of, site_count};
 use crate::places::Placement;
@@ -36,7 +37,7 @@ impl Draft {
         requires { blocks ≤ 65535 }
         ensures { IfOk result (λ d. d ≡ record { grid = grid.now; sites = replicate blocks None }) }
     {
-        let sites = vec![in alloc; None; blocks]?;
+        let sites = no_sites(alloc, blocks)?;
         let holders = vec![in alloc; 0u32; site_count(grid)]?;
         Ok(Draft {
             grid: *grid,
@@ -67,9 +68,7 @@ impl Draft {
         requires free { holder_of self.old.sites site ≡ None }
         ensures { self.new ≡ record self.old { sites = slice_set self.old.sites block.0 (Some site) } }
     {
-        if let Some(index) = index_of(&self.grid, site) {
-            self.holders[index] = block.0 + 1;
-        }
+        enter(&self.grid, &mut self.holders, block, site);
         self.sites[block.0 as usize] = Some(site);
     }
 
@@ -91,12 +90,44 @@ impl Draft {
             sites,
             holders,
         } = self;
-        let mut own = Vec::new(alloc);
-        for site in &sites {
-            if let Some(site) = *site {
-                own.push(site)?;
-            }
-        }
+        let own = all_sites(alloc, &sites)?;
         Ok(Placement::of_table(grid, own, holders))
     }
+}
+
+/// So many blocks without a site.
+fn no_sites(alloc: Global, blocks: usize) -> Result<Vec<Option<Site>>, AllocError>
+    ensures { IfOk result (λ v. v.items ≡ replicate blocks None) }
+{
+    let mut sites = Vec::with_capacity(alloc, blocks)?;
+    for _block in 0..blocks {
+        sites.push(None)?;
+    }
+    Ok(sites)
+}
+
+/// Writes a block into the table, where its site lies.
+fn enter(grid: &Grid, holders: &mut Vec<u32>, block: BlockId, site: Site)
+    requires size { length holders.old.items ≡ site_count grid.now }
+    requires fits { block.0 + 1 < 2 ^ 32 }
+    requires there { IsTrue (is_some (kind_at grid.now site)) }
+    ensures { (i : ℕ) → index_of grid.now site ≡ Some i → holders.new.items ≡ slice_set holders.old.items i (block.0 + 1) }
+{
+    if let Some(index) = index_of(grid, site) {
+        holders[index] = block.0 + 1;
+    }
+}
+
+/// The sites, where each is there.
+fn all_sites(alloc: Global, sites: &[Option<Site>]) -> Result<Vec<Site>, AllocError>
+    requires { IsTrue (list_all is_some sites.now) }
+    ensures { IfOk result (λ v. map Some v.items ≡ sites.now) }
+{
+    let mut own = Vec::new(alloc);
+    for site in sites {
+        if let Some(site) = *site {
+            own.push(site)?;
+        }
+    }
+    Ok(own)
 }
