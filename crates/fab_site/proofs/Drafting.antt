@@ -1,16 +1,17 @@
 -- One more block gets its site.
 use Rattle.std.proofs.Common.{◌≡◌, ◌≢◌, ℕ, ◌+◌, ◌-◌, ◌<◌, ◌≤◌, Bool, true, false, cond, List, [], ◌∷◌, ◌++◌, Option, Some, None, length, map, get_or, set, take, replicate, zero, suc, refl, sym, ap, ◌∙◌, inl, inr, arith}
-use Rattle.std.specs.Prelude.{slice_get, slice_index, is_some}
-use Rattle.std.specs.List.{list_all}
+use Rattle.std.specs.Prelude.{slice_get, slice_index, is_some, position}
+use Rattle.std.specs.List.{list_all, list_any, position_or_len}
 use Rattle.std.proofs.lemmas.Bool.{cases_Bool, cases_eq, false≢true}
 use Rattle.std.proofs.lemmas.List.{length-set, length-map, length-replicate, get_or-map}
 use Rattle.std.proofs.lemmas.Option.{slice_get-get_or, slice_get-map}
 use Rattle.fab_arch.specs.declared.array.Site.{Site}
 use Rattle.fab_arch.specs.Grid.{GridShape}
 use Rattle.fab_net.specs.declared.pieces.BlockId.{BlockId}
+use Rattle.fab_net.proofs.Naming.{any_position}
 use Rattle.fab_site.specs.Placement.{same_site, site_of, nowhere, at, at_from, AreApart}
 use Rattle.fab_site.specs.Index.{index_of, site_count, held, IsIndexed}
-use Rattle.fab_site.specs.Draft.{is_site, holder_from, holder_of, NoneShared, IsTabled}
+use Rattle.fab_site.specs.Draft.{is_missing, is_site, holder_from, holder_of, NoneShared, IsTabled}
 use Rattle.fab_site.proofs.Tables.{index_below, index_apart, itself, same_is, held_zero, held_other, held_here}
 
 -- reads of a list after a write
@@ -187,3 +188,17 @@ tabled_enter g os old new b x t missing free there h = by_index (index_of g x) r
     by_index : (o : Option ℕ) → index_of g x ≡ o → is_some o ≡ true → IsTabled g (set os b (Some x)) new
     by_index None e k = absurd (false≢true k)
     by_index (Some i) e k = rw (h i e) (tabled_put g os old b x i t missing free e)
+
+all_there : (os : List (Option Site)) → list_any is_missing os ≡ false → list_all is_some os ≡ true
+all_there [] h = refl
+all_there (o ∷ os) h = elim (cases_Bool (is_some o)) [
+  | inl y ↦ let rest : list_any is_missing os ≡ false = rw y at h in rw (y, all_there os rest) refl
+  | inr n ↦ let e : true ≡ false = rw n at h in absurd (false≢true (sym e))
+]
+
+-- where no site is missing, each is there
+pub none_missing : (os : List (Option Site)) → position is_missing os ≡ None → list_all is_some os ≡ true
+none_missing os h = elim (cases_Bool (list_any is_missing os)) [
+  | inl y ↦ let e : Some (position_or_len is_missing os) ≡ None = rw (any_position is_missing os ∙ y) at h in absurd (some_none (position_or_len is_missing os) e)
+  | inr n ↦ all_there os n
+]

@@ -1,7 +1,6 @@
 //! A placement in the making: blocks get their sites one by one, in any order.
 
 ghost use Rattle.std.specs.Prelude.{◌≡◌, ℕ, ◌+◌, ◌^◌, ◌<◌, ◌≤◌, length, map, replicate, is_some, position, slice_get, slice_set, None, Some, IsTrue, IfOk};
-ghost use Rattle.std.specs.List.{list_all};
 ghost use Rattle.fab_arch.specs.Grid.{kind_at};
 ghost use Rattle.fab_site.specs.Draft.{holder_of, is_missing};
 ghost use Rattle.fab_site.specs.Index.{index_of, site_count};
@@ -81,7 +80,7 @@ impl Draft {
 
     /// The placement, where each block has its site.
     pub fn finish(self, alloc: Global) -> Result<Placement, AllocError>
-        requires { IsTrue (list_all is_some self.sites) }
+        requires { position is_missing self.sites ≡ None }
         ensures grid { IfOk result (λ p. p.grid ≡ self.grid) }
         ensures sites { IfOk result (λ p. map Some p.sites ≡ self.sites) }
     {
@@ -120,7 +119,7 @@ fn enter(grid: &Grid, holders: &mut Vec<u32>, block: BlockId, site: Site)
 
 /// The sites, where each is there.
 fn all_sites(alloc: Global, sites: &[Option<Site>]) -> Result<Vec<Site>, AllocError>
-    requires { IsTrue (list_all is_some sites.now) }
+    requires { position is_missing sites.now ≡ None }
     ensures { IfOk result (λ v. map Some v.items ≡ sites.now) }
 {
     let mut own = Vec::new(alloc);

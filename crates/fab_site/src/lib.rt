@@ -5,6 +5,8 @@ pub mod drafts;
 pub mod index;
 pub mod pieces;
 pub mod places;
+#[cfg(test)]
+mod tests;
 
 pub use drafts::Draft;
 pub use pieces::Swap;
