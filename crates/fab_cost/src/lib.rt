@@ -1,2 +1,10 @@
 //! The wire cost of placements.
 #![tactic(auto)]
+
+pub mod crossings;
+pub mod net_box;
+pub mod net_boxes;
+
+pub use crossings::cross;
+pub use net_box::NetBox;
+pub use net_boxes::Boxes;
