@@ -4,6 +4,8 @@
 pub mod crossings;
 pub mod net_box;
 pub mod net_boxes;
+#[cfg(test)]
+mod tests;
 
 pub use crossings::cross;
 pub use net_box::NetBox;

@@ -36,7 +36,7 @@ fn cost_of_net(design: &Design, net: NetId, kept: NetBox) -> u64
     kept.cost(terminals.len() as u32)
 }
 
-/// The box of each net that is not global, and the cost, of one placement. The work is linear in the terminals.
+/// The box of each net that is not global, and the cost, of one placement.
 #[derive(Drop)]
 pub struct Boxes {
     boxes: Vec<NetBox>,
@@ -56,7 +56,8 @@ impl Model for Boxes {
 
 impl Boxes {
     #[tactic(auto, using(crate::proofs::Bounds::cost_below))]
-    /// The boxes and the cost of a placement that gives each block of the design a site.
+    /// The boxes and the cost of a placement that gives each block of the design a site, in time linear in the
+    /// terminals.
     pub fn new(
         alloc: Global,
         design: &Design,
@@ -65,7 +66,7 @@ impl Boxes {
     ) -> Result<Boxes, AllocError>
         requires { length design.now.kinds ≡ length placement.now.sites }
         ensures stands { IfOk result (λ b. StandsFor b design.now grid.now placement.now.sites) }
-        // Whatever the sites.
+        // Whatever the sites: so no sum of costs passes 64 bits.
         ensures below { (sites : List Site) → cost_of design.now grid.now sites < 2 ^ 43 }
     {
         let _nx = grid.nx();
@@ -87,7 +88,7 @@ impl Boxes {
         Ok(Boxes { boxes, total })
     }
 
-    /// The cost of the placement, in ten-thousandths.
+    /// The cost of the placement, in ten-thousandths: below 2^43.
     pub fn cost(&self) -> u64
         ensures value { result ≡ self.now.total }
         ensures below { result < 2 ^ 43 }
