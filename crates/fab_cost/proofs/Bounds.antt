@@ -1,5 +1,5 @@
 -- Bounds on the cost of a net and of a placement.
-use Rattle.std.proofs.Common.{◌≡◌, ℕ, zero, suc, ◌+◌, ◌-◌, ◌*◌, ◌<◌, ◌≤◌, ◌^◌, min, max, Bool, true, false, not, List, [], ◌∷◌, ◌++◌, map, take, length, get_or, refl, sym, ap, ◌∙◌, subst, arith, ◌⊎◌, inl, inr, nat_le, ◌&&◌}
+use Rattle.std.proofs.Common.{◌≡◌, ℕ, zero, suc, ◌+◌, ◌*◌, ◌<◌, ◌≤◌, ◌^◌, Bool, true, not, List, [], ◌∷◌, ◌++◌, map, take, length, get_or, refl, sym, ap, ◌∙◌, subst, arith, inl, inr, nat_le, ◌&&◌}
 use Rattle.std.specs.List.{filter, range_with_len, sum_by}
 use Rattle.std.proofs.lemmas.Bool.{and_parts, leb-true, cases_eq, cases_lt}
 use Rattle.std.proofs.lemmas.Bool.Decides.{nat_tests}
@@ -10,9 +10,8 @@ use Rattle.std.proofs.lemmas.List.FromFn.{length-range_with_len}
 use Rattle.std.proofs.Math.Nat.{mul-le-mul_left, mul_comm}
 use Rattle.fab_arch.specs.declared.array.Site.{Site}
 use Rattle.fab_arch.specs.Grid.{GridShape}
-use Rattle.fab_net.specs.declared.pieces.Terminal.{Terminal}
-use Rattle.fab_net.specs.Netlist.{Netlist, net_at, block_on, counted, terminal_count, IsLawful}
-use Rattle.fab_cost.specs.Cost.{cross_of, clip, greatest_with, greatest, xs_of, ys_of, box_on, half_perimeter, sites_on, net_box, net_cost, cost_of}
+use Rattle.fab_net.specs.Netlist.{Netlist, net_at, block_on, terminal_count, IsLawful}
+use Rattle.fab_cost.specs.Cost.{cross_of, clip, greatest_with, greatest, box_on, half_perimeter, sites_on, net_box, net_cost, cost_of}
 
 -- each cross count below m is small
 small_up_to : ℕ → Bool

@@ -1,17 +1,17 @@
 -- The boxes while they are made, net after net.
-use Rattle.std.proofs.Common.{◌≡◌, ℕ, zero, suc, ◌+◌, ◌-◌, ◌*◌, ◌<◌, ◌≤◌, ◌^◌, Bool, true, false, not, cond, List, [], ◌∷◌, ◌++◌, map, length, get_or, refl, sym, ap, ◌∙◌, arith, ◌⊎◌, inl, inr, length-append}
+use Rattle.std.proofs.Common.{◌≡◌, ℕ, zero, suc, ◌+◌, ◌-◌, ◌*◌, ◌<◌, ◌≤◌, ◌^◌, Bool, true, false, not, cond, List, [], ◌∷◌, ◌++◌, map, length, get_or, refl, sym, ap, ◌∙◌, arith, inl, inr, length-append}
 use Rattle.std.specs.List.{All, filter, range_with_len, sum_by}
 use Rattle.std.proofs.lemmas.Bool.{cases_eq, false≢true}
-use Rattle.std.proofs.lemmas.List.{get_or_append_left, get_or_push, get_or_default, get_or-map, length-map}
+use Rattle.std.proofs.lemmas.List.{get_or_append_left, get_or_push, get_or-map, length-map}
 use Rattle.std.proofs.lemmas.List.Elements.{filter-append}
 use Rattle.std.proofs.lemmas.List.Sums.{sum_by-append}
 use Rattle.fab_arch.specs.declared.array.Site.{Site}
 use Rattle.fab_arch.specs.Grid.{GridShape}
 use Rattle.fab_net.specs.declared.pieces.Terminal.{Terminal}
-use Rattle.fab_net.specs.Netlist.{Netlist, net_at, block_on, counted, IsLawful}
+use Rattle.fab_net.specs.Netlist.{Netlist, net_at, block_on, IsLawful}
 use Rattle.fab_site.specs.Placement.{site_of}
 use Rattle.fab_cost.specs.Cost.{Box, cross_of, half_perimeter, box_on, net_box, net_cost, cost_of}
-use Rattle.fab_cost.specs.Boxes.{BoxesOf, Counts, StandsFor, no_box, box_at}
+use Rattle.fab_cost.specs.Boxes.{Counts, StandsFor, no_box, box_at}
 use Rattle.fab_cost.proofs.Bounds.{AreSides, range_more, cost_few}
 
 -- the cost of the nets below this one

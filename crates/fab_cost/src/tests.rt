@@ -108,28 +108,45 @@ fn costs_are_those_of_the_reference(rt: HostRuntime) -> Result<(), Fail> {
     let net =
         b".input a\npinlist: n\n.clb b1\npinlist: n\n.clb b2\npinlist: n\n.clb b3\npinlist: n\n";
     let sites = [site(0, 2, 1), site(1, 1, 0), site(3, 3, 0), site(2, 2, 0)];
-    assert_eq!(rt; cost_on(alloc, arch, net, 3, 3, &sites)?, Some(64968), "a pad and three blocks");
+    assert_eq!(rt;
+        cost_on(alloc, arch, net, 3, 3, &sites)?,
+        Some(64968),
+        "a pad and three blocks"
+    );
 
     let arch = b"io_rat 1\ninpin class: 0 left\ninpin class: 0 left\noutpin class: 1 right\n";
     let net = b".clb b1\npinlist: open open n\n.clb b2\npinlist: n n open\n";
     let sites = [site(1, 1, 0), site(2, 2, 0)];
-    assert_eq!(rt; cost_on(alloc, arch, net, 2, 2, &sites)?, Some(40000), "two pins of a block");
+    assert_eq!(rt;
+        cost_on(alloc, arch, net, 2, 2, &sites)?,
+        Some(40000),
+        "two pins of a block"
+    );
 
     let arch = b"io_rat 1\ninpin class: 0 left\n";
     let net = b".input a\npinlist: n\n.output z\npinlist: n\n";
     let sites = [site(5, 1, 0), site(2, 4, 0)];
-    assert_eq!(rt; cost_on(alloc, arch, net, 4, 3, &sites)?, Some(60000), "pads at the right and the top");
+    assert_eq!(rt;
+        cost_on(alloc, arch, net, 4, 3, &sites)?,
+        Some(60000),
+        "pads at the right and the top"
+    );
     Ok(())
 }
 
 #[test]
 fn a_global_net_costs_nothing(rt: HostRuntime) -> Result<(), Fail> {
     let arch = b"io_rat 1\ninpin class: 0 left\n";
-    let nets = b".input ck\npinlist: clk\n.clb b1\npinlist: clk\n.input a\npinlist: n\n.clb b2\npinlist: n\n";
-    let global = b".global clk\n.input ck\npinlist: clk\n.clb b1\npinlist: clk\n.input a\npinlist: n\n.clb b2\npinlist: n\n";
+    let nets =
+        b".input ck\npinlist: clk\n.clb b1\npinlist: clk\n.input a\npinlist: n\n.clb b2\npinlist: n\n";
+    let global =
+        b".global clk\n.input ck\npinlist: clk\n.clb b1\npinlist: clk\n.input a\npinlist: n\n.clb b2\npinlist: n\n";
     let sites = [site(0, 1, 0), site(1, 1, 0), site(4, 2, 0), site(2, 1, 0)];
     assert_eq!(rt; cost_on(rt.alloc(), arch, nets, 3, 2, &sites)?, Some(60000));
-    assert_eq!(rt; cost_on(rt.alloc(), arch, global, 3, 2, &sites)?, Some(40000));
+    assert_eq!(rt;
+        cost_on(rt.alloc(), arch, global, 3, 2, &sites)?,
+        Some(40000)
+    );
     Ok(())
 }
 

@@ -1,4 +1,4 @@
-use Rattle.std.proofs.Common.{◌≡◌, ℕ, ◌<◌, rules, below_more}
+use Rattle.std.proofs.Common.{rules, below_more}
 use Rattle.fab_site.specs.Placement.{Fits, site_of}
 use Rattle.fab_cost.proofs.Tested.{IsFree}
 use Rattle.fab_cost.proofs.tests.is_legal.Goals as goal
