@@ -1,0 +1,4 @@
+pub mod Edges
+pub mod Bounds
+pub mod Making
+pub mod Tested
