@@ -157,15 +157,17 @@ grow_line arch l s h k b =
 shrink_line : (arch : List PinKind) (l : TextLine) (s : Section) → is_pinlist l ≡ false → IsBegun arch (grown_by l s) → IsBegun arch s × IsBodyLine s.kind (head_of l)
 shrink_line arch l s h b =
     let same = no_more_pinlist s.body l h in
-    let r = all_pop (λ l. IsBodyLine s.kind (head_of l)) s.body l b.lines in
-    (record {
-      named = b.named;
-      lines = r.0;
-      pinlist = elim b.pinlist [
-        | inl e ↦ inl (sym same ∙ e)
-        | inr p ↦ inr (record { line = p.line; one = sym same ∙ p.one; pins = p.pins })
-      ];
-    }, r.1)
+    let r = all_pop (λ l. IsBodyLine s.kind (head_of l)) s.body l b.lines in (
+      record {
+        named = b.named;
+        lines = r.0;
+        pinlist = elim b.pinlist [
+          | inl e ↦ inl (sym same ∙ e)
+          | inr p ↦ inr (record { line = p.line; one = sym same ∙ p.one; pins = p.pins })
+        ];
+      },
+      r.1,
+    )
 
 fine_line : (arch : List PinKind) (l : TextLine) (ss : List Section) → is_pinlist l ≡ false → Allows ss (head_of l) → AreFine arch ss → AreFine arch (grow l ss)
 fine_line arch l [] h k f = tt
@@ -297,15 +299,17 @@ opens_back arch ls l kind h u =
     let few : ltb (length (sections ls)) 65535 ≡ true = lt-ltb (length (sections ls)) 65535 n in
     let named : ltb 1 (length l.words) ≡ true = lt-ltb 1 (length l.words) p.begun.named in
     let none : is_some (number_of (name_at l) (map name_in (sections ls))) ≡ false = has_number (name_at l) (map name_in (sections ls)) ∙ d.1 in
-    let waiting : awaiting ls ≡ None = p.given in
-    (record {
-      lines_ahead = rw (ahead_opens ls l kind h) at u.lines_ahead;
-      fine = p.fine;
-      distinct = d.0;
-      few_blocks = omega arith;
-      few_terminals = rw pins at u.few_terminals;
-      few_nets = rw pins at u.few_nets;
-    }, rw (waiting, named, none, few) refl)
+    let waiting : awaiting ls ≡ None = p.given in (
+      record {
+        lines_ahead = rw (ahead_opens ls l kind h) at u.lines_ahead;
+        fine = p.fine;
+        distinct = d.0;
+        few_blocks = omega arith;
+        few_terminals = rw pins at u.few_terminals;
+        few_nets = rw pins at u.few_nets;
+      },
+      rw (waiting, named, none, few) refl,
+    )
 
 -- a pinlist
 
@@ -362,15 +366,17 @@ pins_back arch ls l h u =
     let nets : length (net_names (pins_in arch ls ++ pins_added arch ls l)) ≤ 65535 = rw pins at u.few_nets in
     let few : are_few (pins_in arch ls ++ pins_added arch ls l) ≡ true = and_from _ _ (le-leb (length (pins_in arch ls ++ pins_added arch ls l)) 1048576 terminals) (le-leb (length (net_names (pins_in arch ls ++ pins_added arch ls l))) 65535 nets) in
     let waiting : is_some (awaiting ls) ≡ true = f.1 in
-    let count : eqb (length (entries_in l)) (pin_count arch (open_kind (open_section (sections ls)))) ≡ true = eq-eqb _ _ f.2 in
-    (record {
-      lines_ahead = ahead_less (sections ls) (ahead ls) l lates;
-      fine = f.0;
-      distinct = rw (ss, grow_names l (sections ls)) at u.distinct;
-      few_blocks = omega (arith, u.few_blocks, ap length ss, grow_len l (sections ls));
-      few_terminals = omega (arith, terminals, length-append (pins_in arch ls) (pins_added arch ls l));
-      few_nets = omega (arith, nets, fewer_nets (pins_in arch ls) (pins_added arch ls l));
-    }, rw (waiting, count, few) refl)
+    let count : eqb (length (entries_in l)) (pin_count arch (open_kind (open_section (sections ls)))) ≡ true = eq-eqb _ _ f.2 in (
+      record {
+        lines_ahead = ahead_less (sections ls) (ahead ls) l lates;
+        fine = f.0;
+        distinct = rw (ss, grow_names l (sections ls)) at u.distinct;
+        few_blocks = omega (arith, u.few_blocks, ap length ss, grow_len l (sections ls));
+        few_terminals = omega (arith, terminals, length-append (pins_in arch ls) (pins_added arch ls l));
+        few_nets = omega (arith, nets, fewer_nets (pins_in arch ls) (pins_added arch ls l));
+      },
+      rw (waiting, count, few) refl,
+    )
   where
     zero_plus : (n : ℕ) → 0 + n - 1 ≡ n - 1
     zero_plus n = omega arith
@@ -398,15 +404,18 @@ inner_back arch ls l inner isnt u =
     let ss = sections_inner ls l inner in
     let pins : pins_in arch (ls ++ l ∷ []) ≡ pins_in arch ls = ap (pins_from arch 0) ss ∙ pins_keep arch 0 l (sections ls) isnt in
     let lates = rw (ahead_inner ls l inner) at u.lines_ahead in
-    let f = less_line arch l (sections ls) isnt (rw ss at u.fine) in
-    (record {
-      lines_ahead = ahead_less (sections ls) (ahead ls) l lates;
-      fine = f.0;
-      distinct = rw (ss, grow_names l (sections ls)) at u.distinct;
-      few_blocks = omega (arith, u.few_blocks, ap length ss, grow_len l (sections ls));
-      few_terminals = rw pins at u.few_terminals;
-      few_nets = rw pins at u.few_nets;
-    }, f.1, ahead_last (sections ls) (ahead ls) l lates)
+    let f = less_line arch l (sections ls) isnt (rw ss at u.fine) in (
+      record {
+        lines_ahead = ahead_less (sections ls) (ahead ls) l lates;
+        fine = f.0;
+        distinct = rw (ss, grow_names l (sections ls)) at u.distinct;
+        few_blocks = omega (arith, u.few_blocks, ap length ss, grow_len l (sections ls));
+        few_terminals = rw pins at u.few_terminals;
+        few_nets = rw pins at u.few_nets;
+      },
+      f.1,
+      ahead_last (sections ls) (ahead ls) l lates,
+    )
 
 logic_is : (k : BlockKind) → is_logic k ≡ true → k ≡ Logic
 logic_is InputPad h = absurd (false≢true h)
