@@ -83,3 +83,8 @@ first_fault d g ls = fault_of_all (fault_of d g) (text_fault d) ls
 abbrev pub FaultIs : PlaceFault → Option PlaceFault → Type 0
 FaultIs NoMemory fault = Unit {0}
 FaultIs e fault = fault ≡ Some e
+
+-- the fault of a text whose header gives this size, or none
+abbrev pub size_fault : Option (ℕ × ℕ) → Option PlaceFault
+size_fault None = Some BadHeader
+size_fault (Some size) = None

@@ -1,1 +1,2 @@
 pub mod CheckReport
+pub mod RunFaults

@@ -1,0 +1,74 @@
+//! The header of a placement text: two lines, the second of which gives the size of the array.
+
+ghost use Rattle.std.specs.Prelude.{◌≡◌, Some, None, IfOk, IfErr};
+ghost use Rattle.fab_text.specs.Lines.{lines};
+ghost use Rattle.fab_text.specs.Shown.{shown};
+ghost use Rattle.fab_file.specs.Place.{is_files_line, is_size_line, size_in, both, place_size_of};
+ghost use Rattle.fab_file.specs.PlaceFaults.{FaultIs, size_fault};
+
+use crate::fault::PlaceFault;
+use crate::words::{is_word, small_number, word_at};
+use fab_text::{Line, Lines};
+use std::alloc::Global;
+
+/// Whether a line is `Netlist file: A   Architecture file: B`.
+pub(crate) fn is_files_line(line: &Line) -> bool
+    ensures { result ≡ is_files_line (shown line.now) }
+{
+    line.words.len() == 6
+        && (is_word(line, 0, b"Netlist") && is_word(line, 1, b"file:"))
+        && (is_word(line, 3, b"Architecture") && is_word(line, 4, b"file:"))
+}
+
+fn is_size_line(line: &Line) -> bool
+    ensures { result ≡ is_size_line (shown line.now) }
+{
+    line.words.len() == 7
+        && (is_word(line, 0, b"Array") && is_word(line, 1, b"size:"))
+        && is_word(line, 3, b"x")
+        && (is_word(line, 5, b"logic") && is_word(line, 6, b"blocks"))
+}
+
+fn both(x: Option<u16>, y: Option<u16>) -> Option<(u16, u16)>
+    ensures { result ≡ both x y }
+{
+    let x = x?;
+    let y = y?;
+    Some((x, y))
+}
+
+/// The columns and rows that a line `Array size: NX x NY logic blocks` gives.
+pub(crate) fn size_in(line: &Line) -> Option<(u16, u16)>
+    ensures { result ≡ size_in (shown line.now) }
+{
+    if is_size_line(line) {
+        both(
+            small_number(word_at(line, 2)),
+            small_number(word_at(line, 4)),
+        )
+    } else {
+        None
+    }
+}
+
+/// The columns and rows that the header of a placement text gives, or `BadHeader`. The lines behind the header are
+/// not looked at.
+pub fn place_size(alloc: Global, bytes: &[u8]) -> Result<(u16, u16), PlaceFault>
+    ensures size { IfOk result (λ r. place_size_of (lines bytes.now) ≡ Some r) }
+    ensures fault { IfErr result (λ e. FaultIs e (size_fault (place_size_of (lines bytes.now)))) }
+{
+    let mut left = Lines::new(alloc, bytes);
+    let Some(files) = left.next()? else {
+        return Err(PlaceFault::BadHeader);
+    };
+    let Some(size) = left.next()? else {
+        return Err(PlaceFault::BadHeader);
+    };
+    if !is_files_line(&files) {
+        return Err(PlaceFault::BadHeader);
+    }
+    match size_in(&size) {
+        Some(sides) => Ok(sides),
+        None => Err(PlaceFault::BadHeader),
+    }
+}

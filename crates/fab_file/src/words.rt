@@ -1,0 +1,33 @@
+//! The words of a line of a placement text.
+
+ghost use Rattle.std.specs.Prelude.{◌≡◌, ◌≤◌, IfSome};
+ghost use Rattle.fab_text.specs.Shown.{shown};
+ghost use Rattle.fab_file.specs.Place.{word_at, is_word, small, small_number};
+
+use fab_text::{Line, decimal};
+
+/// The word at a place of a line, or an empty one.
+pub(crate) fn word_at<'a>(line: &Line<'a>, i: usize) -> &'a [u8]
+    ensures { result.now ≡ word_at (shown line.now) i }
+{
+    match line.words.get(i) {
+        Some(word) => *word,
+        None => &[],
+    }
+}
+
+pub(crate) fn is_word(line: &Line, i: usize, name: &[u8]) -> bool
+    ensures { result ≡ is_word (shown line.now) i name.now }
+{
+    word_at(line, i) == name
+}
+
+/// A whole number of at most 65,535.
+pub(crate) fn small_number(word: &[u8]) -> Option<u16>
+    ensures { result ≡ small_number word.now }
+{
+    match decimal(word, 0) {
+        Ok(n) => { if n <= 65_535 { Some(n as u16) } else { None } }
+        Err(_) => None,
+    }
+}

@@ -1,0 +1,21 @@
+-- What a run answers for a fault of one of its texts: the fault with its role, or want of memory.
+use Rattle.fab_arch.specs.declared.fault.ArchFault.{ArchFault}
+use Rattle.fab_arch.specs.declared.fault.ArchFault.TheVariants.{NoMemory as ArchNoMemory}
+use Rattle.fab_net.specs.declared.fault.NetFault.{NetFault}
+use Rattle.fab_net.specs.declared.fault.NetFault.TheVariants.{NoMemory as NetNoMemory}
+use Rattle.fab_file.specs.declared.fault.PlaceFault.{PlaceFault}
+use Rattle.fab_file.specs.declared.fault.PlaceFault.TheVariants.{NoMemory as PlaceNoMemory}
+use Rattle.fab_run.specs.declared.fault.RunFault.{RunFault}
+use Rattle.fab_run.specs.declared.fault.RunFault.TheVariants.{Arch, Net, Place, NoMemory}
+
+abbrev pub of_arch : ArchFault → RunFault
+of_arch ArchNoMemory = NoMemory
+of_arch fault = Arch fault
+
+abbrev pub of_net : NetFault → RunFault
+of_net NetNoMemory = NoMemory
+of_net fault = Net fault
+
+abbrev pub of_place : PlaceFault → RunFault
+of_place PlaceNoMemory = NoMemory
+of_place fault = Place fault

@@ -1,0 +1,135 @@
+//! Why a run over texts gave no answer, and the line that says so.
+
+ghost use Rattle.std.specs.Prelude.{◌≡◌};
+ghost use Rattle.fab_run.specs.RunFaults.{of_arch, of_net, of_place};
+ghost use Rattle.fab_run.specs.declared.fault.RunFault.TheVariants.{Size, Report, NoMemory};
+
+use fab_arch::{ArchFault, GridFault};
+use fab_file::PlaceFault;
+use fab_net::NetFault;
+use fab_text::{Span, WriteFault};
+use std::alloc::{AllocError, AllocFailed, Global};
+use std::error::Error;
+use std::fmt;
+
+/// Why a run gave no answer: the first fault of what it was given, or what it lacked.
+#[derive(Clone, Copy, Debug, PartialEq, Eq)]
+pub enum RunFault {
+    /// The architecture text is faulty.
+    Arch(ArchFault),
+    /// The netlist text is faulty.
+    Net(NetFault),
+    /// The placement text is faulty.
+    Place(PlaceFault),
+    /// There is no such array, or the design does not fit on it.
+    Size(GridFault),
+    /// The writer of the report failed.
+    Report,
+    /// There was no memory to go on.
+    NoMemory,
+}
+
+impl fmt::Display for RunFault {
+    fn fmt<W: fmt::Write>(&self, f: &mut fmt::Formatter<W>) -> fmt::Result {
+        match self {
+            RunFault::NoMemory
+            | RunFault::Arch(ArchFault::NoMemory)
+            | RunFault::Net(NetFault::NoMemory)
+            | RunFault::Place(PlaceFault::NoMemory) => f.write_str("no memory"),
+            RunFault::Report => f.write_str("cannot write report"),
+            RunFault::Place(PlaceFault::Write) => f.write_str("cannot write place"),
+            RunFault::Arch(fault) => write!(f, "arch: {fault}"),
+            RunFault::Net(fault) => write!(f, "net: {fault}"),
+            RunFault::Place(fault) => write!(f, "place: {fault}"),
+            RunFault::Size(fault) => write!(f, "size: {fault}"),
+        }
+    }
+}
+
+impl Error for RunFault {}
+
+impl From<AllocError> for RunFault {
+    ghost from_gives = { λ _ e. e ≡ NoMemory };
+
+    fn from(_e: AllocError) -> RunFault {
+        RunFault::NoMemory
+    }
+}
+
+impl<T: Drop> From<AllocFailed<T>> for RunFault {
+    ghost from_gives = { λ _ e. e ≡ NoMemory };
+
+    fn from(_e: AllocFailed<T>) -> RunFault {
+        RunFault::NoMemory
+    }
+}
+
+impl From<ArchFault> for RunFault {
+    ghost from_gives = { λ fault e. e ≡ of_arch fault };
+
+    fn from(fault: ArchFault) -> RunFault {
+        match fault {
+            ArchFault::NoMemory => RunFault::NoMemory,
+            _ => RunFault::Arch(fault),
+        }
+    }
+}
+
+impl From<NetFault> for RunFault {
+    ghost from_gives = { λ fault e. e ≡ of_net fault };
+
+    fn from(fault: NetFault) -> RunFault {
+        match fault {
+            NetFault::NoMemory => RunFault::NoMemory,
+            _ => RunFault::Net(fault),
+        }
+    }
+}
+
+impl From<PlaceFault> for RunFault {
+    ghost from_gives = { λ fault e. e ≡ of_place fault };
+
+    fn from(fault: PlaceFault) -> RunFault {
+        match fault {
+            PlaceFault::NoMemory => RunFault::NoMemory,
+            _ => RunFault::Place(fault),
+        }
+    }
+}
+
+impl From<GridFault> for RunFault {
+    ghost from_gives = { λ fault e. e ≡ Size fault };
+
+    fn from(fault: GridFault) -> RunFault {
+        RunFault::Size(fault)
+    }
+}
+
+impl From<WriteFault> for RunFault {
+    ghost from_gives = { λ _ e. e ≡ Report };
+
+    fn from(_fault: WriteFault) -> RunFault {
+        RunFault::Report
+    }
+}
+
+/// The place in the netlist of the name that a fault is told with, where it is told with one.
+fn named_place(fault: &RunFault) -> Option<Span> {
+    match fault {
+        RunFault::Net(
+            NetFault::MissingPinlist(span) | NetFault::NoDriver(span) | NetFault::TwoDrivers(span),
+        ) => Some(*span),
+        _ => None,
+    }
+}
+
+/// The line that tells of a fault, without a line feed at its end: `vplace: ROLE: CODE NAME` and its detail. `net`
+/// is the netlist text in which the span of a fault lies; a span that does not lie in it names nothing.
+pub fn fault_line(alloc: Global, fault: &RunFault, net: &[u8]) -> Result<Vec<u8>, AllocError> {
+    let mut line = format!(in alloc; "vplace: {fault}")?.into_bytes();
+    if let Some(span) = named_place(fault) {
+        line.extend_from_slice(b" name ")?;
+        line.extend_from_slice(net.get(span.start..span.stop).unwrap_or(b""))?;
+    }
+    Ok(line)
+}
