@@ -36,8 +36,8 @@ any_push p (x ∷ xs) y = ap (λ b. p x || b) (any_push p xs y) ∙ or_assoc (p 
 one_more : (row : List Terminal) (j b : ℕ) (t : Terminal) → j < length row → t ≡ get_or row j t → list_any (is_at b) (take (j + 1) row) ≡ (list_any (is_at b) (take j row) || eqb t.block.0 b)
 one_more row j b t lt is = ap (list_any (is_at b)) (take_more row j t lt ∙ ap (λ x. take j row ++ x ∷ []) (sym is)) ∙ any_push (is_at b) (take j row) t
 
-pub started : (blocks net : ℕ) (row : List Terminal) (before : List (ℕ × NetId)) (stamps : List ℕ) → length stamps ≡ blocks → All (λ s. s ≤ net) stamps → All (λ e. e.0 < blocks) before → Stamping blocks net row 0 before before stamps
-started blocks net row before stamps size old within =
+pub started : (blocks net : ℕ) (on_net : List Terminal) (before : List (ℕ × NetId)) (stamps : List ℕ) → length stamps ≡ blocks → All (λ s. s ≤ net) stamps → All (λ e. e.0 < blocks) before → Stamping blocks net on_net 0 before before stamps
+started blocks net on_net before stamps size old within =
     record {
       size = size;
       upto = λ b lt. let h = All-get_or (λ s. s ≤ net) stamps b 0 (omega (arith, size)) old in omega (arith, h);

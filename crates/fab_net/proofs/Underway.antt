@@ -26,7 +26,7 @@ use Rattle.fab_net.proofs.Texts.{unless_true, one_more_is_some}
 
 -- one more element, and one less
 
-all_push : {X : Type 0} (P : X → Type 0) (xs : List X) (x : X) → AllByRecursion P xs → P x → AllByRecursion P (xs ++ x ∷ [])
+pub all_push : {X : Type 0} (P : X → Type 0) (xs : List X) (x : X) → AllByRecursion P xs → P x → AllByRecursion P (xs ++ x ∷ [])
 all_push P [] x h k = (k, tt)
 all_push P (y ∷ ys) x h k = (h.0, all_push P ys x h.1 k)
 
@@ -50,7 +50,7 @@ or_none : (a b : Bool) → (a || b) ≡ false → (a ≡ false) × (b ≡ false)
 or_none true b h = absurd (false≢true (sym h))
 or_none false b h = (refl, h)
 
-distinct_push : (xs : List (List ℕ)) (x : List ℕ) → AllDistinct xs → list_any (bytes_eq x) xs ≡ false → AllDistinct (xs ++ x ∷ [])
+pub distinct_push : (xs : List (List ℕ)) (x : List ℕ) → AllDistinct xs → list_any (bytes_eq x) xs ≡ false → AllDistinct (xs ++ x ∷ [])
 distinct_push [] x d h = (refl, tt)
 distinct_push (n ∷ ns) x d h =
     let b = or_none (bytes_eq x n) (list_any (bytes_eq x) ns) h in

@@ -104,7 +104,7 @@ put_site os b x s h k = inner x s (sym (get_set_same os b None (Some x) h) ∙ k
     inner : (u v : Site) → Some (Some u) ≡ Some (Some v) → u ≡ v
     inner u v h = cc
 
-apart_put : (os : List (Option Site)) (b : ℕ) (x : Site) → NoneShared os → slice_get os b ≡ Some None → holder_of os x ≡ None → NoneShared (set os b (Some x))
+pub apart_put : (os : List (Option Site)) (b : ℕ) (x : Site) → NoneShared os → slice_get os b ≡ Some None → holder_of os x ≡ None → NoneShared (set os b (Some x))
 apart_put os b x apart missing free a c s h k =
     elim (cases_eq a b) [
       | inl ab ↦ elim (cases_eq c b) [
