@@ -1,3 +1,4 @@
 pub mod Place
 pub mod PlaceFaults
+pub mod Taken
 pub mod Examples

@@ -25,13 +25,14 @@ size_fault_by g (Some size) = unless (size.0 == g.nx && size.1 == g.ny) WrongSiz
 abbrev pub sites_given : List TextLine → List Site
 sites_given ls = filter_map site_in ls
 
--- the line names a block that one of these names
+-- a named block is this one
+abbrev pub is_block : ℕ → Option ℕ → Bool
+is_block block None = false
+is_block block (Some other) = other == block
+
+-- one of these lines names the block
 abbrev pub is_repeated : Netlist → List TextLine → ℕ → Bool
-is_repeated d before block = list_any (λ l. is_this_block (block_in d l)) before
-  where
-    is_this_block : Option ℕ → Bool
-    is_this_block None = false
-    is_this_block (Some other) = other == block
+is_repeated d before block = list_any (λ l. is_block block (block_in d l)) before
 
 abbrev pub same_kind : SiteKind → SiteKind → Bool
 same_kind site_kind.Logic site_kind.Logic = true
@@ -43,21 +44,19 @@ abbrev pub kind_fault : Netlist → ℕ → ℕ → Option SiteKind → Option P
 kind_fault d n block None = Some (NoSuchSite n)
 kind_fault d n block (Some kind) = unless (same_kind kind (kind_wanted d block)) (WrongKind n)
 
--- the first fault of a block's line that follows others, where it gives this site and names this block, or none
-abbrev pub placed_fault : Netlist → GridShape → List TextLine → ℕ → Site → Option ℕ → Option PlaceFault
-placed_fault d g before n site None = Some (UnknownBlock n)
-placed_fault d g before n site (Some block) =
+-- the first fault of a block's line with this number that follows others, where it gives this site, or none, and names
+-- this block, or none
+abbrev pub block_fault_by : Netlist → GridShape → List TextLine → ℕ → Option Site → Option ℕ → Option PlaceFault
+block_fault_by d g before n None named = Some (BadLine n)
+block_fault_by d g before n (Some site) None = Some (UnknownBlock n)
+block_fault_by d g before n (Some site) (Some block) =
     or_else (unless (not (is_repeated d before block)) (Repeated n))
     (or_else (kind_fault d n block (kind_at g site))
     (unless (not (list_any (same_site site) (sites_given before))) (Taken n)))
 
-abbrev pub block_fault_by : Netlist → GridShape → List TextLine → TextLine → Option Site → Option PlaceFault
-block_fault_by d g before l None = Some (BadLine l.number)
-block_fault_by d g before l (Some site) = placed_fault d g before l.number site (block_in d l)
-
 -- the first fault of a block's line that follows other block lines
 abbrev pub block_fault : Netlist → GridShape → List TextLine → TextLine → Option PlaceFault
-block_fault d g before l = block_fault_by d g before l (site_in l)
+block_fault d g before l = block_fault_by d g before l.number (site_in l) (block_in d l)
 
 -- the first fault of a line that follows others: the first two lines are the header
 abbrev pub fault_of : Netlist → GridShape → List TextLine → TextLine → Option PlaceFault

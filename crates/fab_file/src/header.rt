@@ -1,6 +1,6 @@
 //! The header of a placement text: two lines, the second of which gives the size of the array.
 
-ghost use Rattle.std.specs.Prelude.{◌≡◌, Some, None, IfOk, IfErr};
+ghost use Rattle.std.specs.Prelude.{◌≡◌, Some, None, drop, IfOk, IfErr, OnOk};
 ghost use Rattle.fab_text.specs.Lines.{lines};
 ghost use Rattle.fab_text.specs.Shown.{shown};
 ghost use Rattle.fab_file.specs.Place.{is_files_line, is_size_line, size_in, both, place_size_of};
@@ -51,13 +51,12 @@ pub(crate) fn size_in(line: &Line) -> Option<(u16, u16)>
     }
 }
 
-/// The columns and rows that the header of a placement text gives, or `BadHeader`. The lines behind the header are
-/// not looked at.
-pub fn place_size(alloc: Global, bytes: &[u8]) -> Result<(u16, u16), PlaceFault>
-    ensures size { IfOk result (λ r. place_size_of (lines bytes.now) ≡ Some r) }
-    ensures fault { IfErr result (λ e. FaultIs e (size_fault (place_size_of (lines bytes.now)))) }
+/// Takes the header off the lines of a placement text: the columns and rows that it gives.
+pub(crate) fn take_size(left: &mut Lines) -> Result<(u16, u16), PlaceFault>
+    ensures size { IfOk result (λ r. place_size_of left.old ≡ Some r) }
+    ensures rest { OnOk result (left.new ≡ drop 2 left.old) }
+    ensures fault { IfErr result (λ e. FaultIs e (size_fault (place_size_of left.old))) }
 {
-    let mut left = Lines::new(alloc, bytes);
     let Some(files) = left.next()? else {
         return Err(PlaceFault::BadHeader);
     };
@@ -71,4 +70,13 @@ pub fn place_size(alloc: Global, bytes: &[u8]) -> Result<(u16, u16), PlaceFault>
         Some(sides) => Ok(sides),
         None => Err(PlaceFault::BadHeader),
     }
+}
+
+/// The columns and rows that the header of a placement text gives, or `BadHeader`. The lines behind the header are
+/// not looked at.
+pub fn place_size(alloc: Global, bytes: &[u8]) -> Result<(u16, u16), PlaceFault>
+    ensures size { IfOk result (λ r. place_size_of (lines bytes.now) ≡ Some r) }
+    ensures fault { IfErr result (λ e. FaultIs e (size_fault (place_size_of (lines bytes.now)))) }
+{
+    take_size(&mut Lines::new(alloc, bytes))
 }

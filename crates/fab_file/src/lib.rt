@@ -3,9 +3,13 @@
 
 pub mod fault;
 pub mod header;
+pub mod reading;
+pub mod taking;
 #[cfg(test)]
 mod tests;
 pub mod words;
 
 pub use fault::PlaceFault;
 pub use header::place_size;
+pub use reading::read_place;
+pub use taking::PlaceLines;

@@ -2,8 +2,9 @@
 
 ghost use Rattle.std.specs.Prelude.{◌≡◌, ◌≤◌, IfSome};
 ghost use Rattle.fab_text.specs.Shown.{shown};
-ghost use Rattle.fab_file.specs.Place.{word_at, is_word, small, small_number};
+ghost use Rattle.fab_file.specs.Place.{word_at, is_word, small, small_number, site_from, site_in};
 
+use fab_arch::Site;
 use fab_text::{Line, decimal};
 
 /// The word at a place of a line, or an empty one.
@@ -30,4 +31,27 @@ pub(crate) fn small_number(word: &[u8]) -> Option<u16>
         Ok(n) => { if n <= 65_535 { Some(n as u16) } else { None } }
         Err(_) => None,
     }
+}
+
+/// The site that a line `name x y sub` gives.
+pub(crate) fn site_in(line: &Line) -> Option<Site>
+    ensures { result ≡ site_in (shown line.now) }
+{
+    if line.words.len() != 4 {
+        return None;
+    }
+    site_from(
+        small_number(word_at(line, 1)),
+        small_number(word_at(line, 2)),
+        small_number(word_at(line, 3)),
+    )
+}
+
+fn site_from(x: Option<u16>, y: Option<u16>, sub: Option<u16>) -> Option<Site>
+    ensures { result ≡ site_from x y sub }
+{
+    let x = x?;
+    let y = y?;
+    let sub = sub?;
+    Some(Site { x, y, sub })
 }

@@ -1,0 +1,52 @@
+//! Placement texts: a header, and a line for each block.
+
+ghost use Rattle.std.specs.Prelude.{◌≡◌, ◌==◌, ◌&&◌, List, IfOk, IfErr, MatchResult};
+ghost use Rattle.fab_arch.specs.declared.array.Site.{Site};
+ghost use Rattle.fab_text.specs.Lines.{lines};
+ghost use Rattle.fab_file.specs.Place.{StandsFor};
+ghost use Rattle.fab_file.specs.PlaceFaults.{FaultIs, first_fault};
+ghost use Rattle.fab_file.specs.declared.fault.PlaceFault.TheVariants.{NoMemory};
+
+use crate::fault::PlaceFault;
+use crate::header::take_size;
+use crate::taking::PlaceLines;
+use fab_arch::Grid;
+use fab_net::Design;
+use fab_site::Placement;
+use fab_text::Lines;
+use std::alloc::Global;
+
+/// Whether an array has so many columns and rows.
+fn is_size(grid: &Grid, nx: u16, ny: u16) -> bool
+    ensures { result ≡ (nx == grid.now.nx && ny == grid.now.ny) }
+{
+    nx == grid.nx() && ny == grid.ny()
+}
+
+/// The placement that a text stands for, of a design on an array, or the text's first fault: that of the first line
+/// with one, else the first block that no line names.
+pub fn read_place(
+    alloc: Global,
+    bytes: &[u8],
+    design: &Design,
+    grid: &Grid,
+) -> Result<Placement, PlaceFault>
+    // What is read is what the text stands for.
+    ensures found { IfOk result (λ p. StandsFor design.now grid.now (lines bytes.now) p.sites) }
+    ensures grid { IfOk result (λ p. p.grid ≡ grid.now) }
+    // What it stands for is read, unless memory runs out.
+    ensures only { (sites : List Site) → StandsFor design.now grid.now (lines bytes.now) sites → MatchResult result (λ p. p.sites ≡ sites) (λ e. e ≡ NoMemory) }
+    // An error is the first fault, or want of memory.
+    ensures fault { IfErr result (λ e. FaultIs e (first_fault design.now grid.now (lines bytes.now))) }
+{
+    let mut placed = PlaceLines::new(alloc, design, grid)?;
+    let mut left = Lines::new(alloc, bytes);
+    let (nx, ny) = take_size(&mut left)?;
+    if !is_size(grid, nx, ny) {
+        return Err(PlaceFault::WrongSize);
+    }
+    while let Some(line) = left.next()? {
+        placed.take(&line)?;
+    }
+    placed.finish()
+}
