@@ -1,2 +1,3 @@
 pub mod CheckReport
 pub mod RunFaults
+pub mod Check

@@ -1,8 +1,10 @@
 //! Runs over texts: what goes in, what comes out.
 #![tactic(auto)]
 
+pub mod check;
 pub mod fault;
 #[cfg(test)]
 mod tests;
 
+pub use check::check_run;
 pub use fault::{RunFault, fault_line};

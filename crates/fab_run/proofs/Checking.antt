@@ -1,0 +1,110 @@
+-- The faults of three texts, in their order.
+use Rattle.std.proofs.Common.{◌≡◌, ℕ, ◌+◌, ◌-◌, ◌<◌, ◌≤◌, Bool, true, false, not, cond, List, [], ◌∷◌, Option, Some, None, IfOk, OnOk, Result, Ok, Err, length, refl, sym, ap, ◌∙◌, inl, inr, ◌⊎◌, arith}
+use Rattle.std.specs.Prelude.{IfErr, MatchResult}
+use Rattle.std.specs.List.{count_by}
+use Rattle.std.proofs.lemmas.Bool.{cases_Bool}
+use Rattle.std.proofs.lemmas.List.Sums.{sum_by-cons}
+use Rattle.fab_text.specs.Lines.{lines}
+use Rattle.fab_arch.specs.declared.fault.ArchFault.{ArchFault}
+use Rattle.fab_arch.specs.declared.fault.ArchFault.TheVariants as arch_fault
+use Rattle.fab_arch.specs.declared.array.Site.{Site}
+use Rattle.fab_arch.specs.Grid.{GridShape}
+use Rattle.fab_net.specs.declared.pieces.BlockKind.{BlockKind}
+use Rattle.fab_net.specs.declared.fault.NetFault.{NetFault}
+use Rattle.fab_net.specs.declared.fault.NetFault.TheVariants as net_fault
+use Rattle.fab_file.specs.declared.fault.PlaceFault.{PlaceFault}
+use Rattle.fab_file.specs.declared.fault.PlaceFault.TheVariants as place_fault
+use Rattle.fab_file.specs.Place.{place_size_of}
+use Rattle.fab_file.specs.PlaceFaults.{FaultIs, first_fault}
+use Rattle.fab_run.specs.declared.fault.RunFault.{RunFault}
+use Rattle.fab_run.specs.declared.fault.RunFault.TheVariants as run_fault
+use Rattle.fab_run.specs.RunFaults.{of_arch, of_net, of_place}
+use Rattle.fab_run.specs.Check.{MeanDesign, FitsOn, AreChecked, FaultOf, IsTextFault, failed_with}
+use Rattle.fab_net.specs.Netlist.{Netlist, is_logic, logic_count, pad_count}
+
+both_kinds : {X : Type 0} (p : X → Bool) (xs : List X) → count_by p xs + count_by (λ x. not (p x)) xs ≡ length xs
+both_kinds p [] = refl
+both_kinds p (x ∷ xs) =
+    let one = sum_by-cons (λ x. cond (p x) 1 0) x xs in
+    let two = sum_by-cons (λ x. cond (not (p x)) 1 0) x xs in
+    let rest = both_kinds p xs in
+    elim (cases_Bool (p x)) [
+      | inl y ↦
+          let a : ◌≡◌ {A = ℕ} (cond (p x) 1 0) 1 = rw y refl in
+          let b : ◌≡◌ {A = ℕ} (cond (not (p x)) 1 0) 0 = rw y refl in
+          omega (arith, one, two, rest, a, b)
+      | inr n ↦
+          let a : ◌≡◌ {A = ℕ} (cond (p x) 1 0) 0 = rw n refl in
+          let b : ◌≡◌ {A = ℕ} (cond (not (p x)) 1 0) 1 = rw n refl in
+          omega (arith, one, two, rest, a, b)
+    ]
+
+-- the blocks that are no logic blocks are pads
+pub other_blocks : (d : Netlist) → length d.kinds - logic_count d ≡ pad_count d
+other_blocks d = let h = both_kinds is_logic d.kinds in omega (arith, h)
+
+-- a fault of a text is not one of the report's writer
+
+pub arch_text : (e : ArchFault) → IsTextFault (of_arch e)
+arch_text arch_fault.NoIoRat = tt
+arch_text (arch_fault.RepeatedIoRat n) = tt
+arch_text (arch_fault.BadNumber n) = tt
+arch_text (arch_fault.BadPinLine n) = tt
+arch_text arch_fault.NoPins = tt
+arch_text (arch_fault.TooLarge n) = tt
+arch_text arch_fault.NoMemory = tt
+
+pub net_text : (e : NetFault) → IsTextFault (of_net e)
+net_text (net_fault.UnknownWord n) = tt
+net_text (net_fault.NoName n) = tt
+net_text (net_fault.PinlistWithoutBlock n) = tt
+net_text (net_fault.MissingPinlist n) = tt
+net_text (net_fault.PinCount n) = tt
+net_text (net_fault.SubblockWithoutLogic n) = tt
+net_text (net_fault.DuplicateBlock n) = tt
+net_text (net_fault.NoDriver n) = tt
+net_text (net_fault.TwoDrivers n) = tt
+net_text (net_fault.TooLarge n) = tt
+net_text net_fault.NoMemory = tt
+
+pub place_text : (e : PlaceFault) → IsTextFault (of_place e)
+place_text place_fault.BadHeader = tt
+place_text place_fault.WrongSize = tt
+place_text (place_fault.UnknownBlock n) = tt
+place_text (place_fault.Repeated n) = tt
+place_text (place_fault.NoSuchSite n) = tt
+place_text (place_fault.WrongKind n) = tt
+place_text (place_fault.Taken n) = tt
+place_text (place_fault.Missing n) = tt
+place_text (place_fault.NotAPad n) = tt
+place_text (place_fault.BadLine n) = tt
+place_text place_fault.BadLabel = tt
+place_text place_fault.Write = tt
+place_text place_fault.NoMemory = tt
+
+pub never_report : (e : RunFault) → IsTextFault e → e ≡ run_fault.Report → ⊥
+never_report e h k = rw k at h
+
+pub failed_never : (e : RunFault) (n : ℕ) → IsTextFault e → failed_with e n ≡ n
+failed_never (run_fault.Arch e) n h = refl
+failed_never (run_fault.Net e) n h = refl
+failed_never (run_fault.Place e) n h = refl
+failed_never (run_fault.Size e) n h = refl
+failed_never run_fault.Report n h = absurd h
+failed_never run_fault.NoMemory n h = refl
+
+-- a fault of a placement text, behind its header
+pub placed : (arch net place : List ℕ) (io_rat : ℕ) (d : Netlist) (g : GridShape) (e : PlaceFault) → MeanDesign arch net io_rat d → g.io_rat ≡ io_rat → place_size_of (lines place) ≡ Some (g.nx, g.ny) → FitsOn d g → FaultIs e (first_fault d g (lines place)) → FaultOf arch net place (of_place e)
+placed arch net place io_rat d g place_fault.BadHeader m r s f h = (io_rat, d, m, inr (g, r, s, f, h))
+placed arch net place io_rat d g place_fault.WrongSize m r s f h = (io_rat, d, m, inr (g, r, s, f, h))
+placed arch net place io_rat d g (place_fault.UnknownBlock n) m r s f h = (io_rat, d, m, inr (g, r, s, f, h))
+placed arch net place io_rat d g (place_fault.Repeated n) m r s f h = (io_rat, d, m, inr (g, r, s, f, h))
+placed arch net place io_rat d g (place_fault.NoSuchSite n) m r s f h = (io_rat, d, m, inr (g, r, s, f, h))
+placed arch net place io_rat d g (place_fault.WrongKind n) m r s f h = (io_rat, d, m, inr (g, r, s, f, h))
+placed arch net place io_rat d g (place_fault.Taken n) m r s f h = (io_rat, d, m, inr (g, r, s, f, h))
+placed arch net place io_rat d g (place_fault.Missing n) m r s f h = (io_rat, d, m, inr (g, r, s, f, h))
+placed arch net place io_rat d g (place_fault.NotAPad n) m r s f h = (io_rat, d, m, inr (g, r, s, f, h))
+placed arch net place io_rat d g (place_fault.BadLine n) m r s f h = (io_rat, d, m, inr (g, r, s, f, h))
+placed arch net place io_rat d g place_fault.BadLabel m r s f h = (io_rat, d, m, inr (g, r, s, f, h))
+placed arch net place io_rat d g place_fault.Write m r s f h = (io_rat, d, m, inr (g, r, s, f, h))
+placed arch net place io_rat d g place_fault.NoMemory m r s f h = tt
