@@ -1,0 +1,29 @@
+-- How a run of the program ends: the number that the shell is told, and the end that each fault leads to.
+use Rattle.std.specs.Prelude.{ℕ}
+use Rattle.fab_arch.specs.declared.fault.ArchFault.TheVariants.{NoMemory as ArchNoMemory}
+use Rattle.fab_net.specs.declared.fault.NetFault.TheVariants.{NoMemory as NetNoMemory}
+use Rattle.fab_file.specs.declared.fault.PlaceFault.TheVariants.{NoMemory as PlaceNoMemory, Write as PlaceWrite}
+use Rattle.fab_run.specs.declared.fault.RunFault.{RunFault}
+use Rattle.fab_run.specs.declared.fault.RunFault.TheVariants.{Arch, Net, Place, Size, Report, NoMemory as RunNoMemory}
+use Rattle.vplace.specs.declared.status.Status.{Status}
+use Rattle.vplace.specs.declared.status.Status.TheVariants.{Done, Refused, CommandLine, NoMemory, Device}
+
+abbrev pub code_of : Status → ℕ
+code_of Done = 0
+code_of Refused = 1
+code_of CommandLine = 2
+code_of NoMemory = 3
+code_of Device = 4
+
+-- A text or a size is refused; want of memory is said to be that, whichever reader met it; a writer that failed is a device.
+abbrev pub status_of : RunFault → Status
+status_of (Arch ArchNoMemory) = NoMemory
+status_of (Arch _) = Refused
+status_of (Net NetNoMemory) = NoMemory
+status_of (Net _) = Refused
+status_of (Place PlaceNoMemory) = NoMemory
+status_of (Place PlaceWrite) = Device
+status_of (Place _) = Refused
+status_of (Size _) = Refused
+status_of Report = Device
+status_of RunNoMemory = NoMemory

@@ -1,0 +1,105 @@
+//! The subcommand `check`: three files are read, and only then is the first of their texts looked at.
+
+ghost use Rattle.std.specs.Prelude.{◌≡◌, ◌≢◌, ◌⊎◌, ℕ, List, OnOk, IfErr};
+ghost use Rattle.fab_arch.specs.declared.array.Site.{Site};
+ghost use Rattle.fab_arch.specs.Grid.{GridShape};
+ghost use Rattle.fab_net.specs.Netlist.{Netlist};
+ghost use Rattle.fab_run.specs.Check.{AreChecked, FaultOf, IsReported};
+ghost use Rattle.fab_run.specs.declared.fault.RunFault.{RunFault as RunFaultOf};
+ghost use Rattle.vplace.specs.Status.{status_of};
+
+use crate::files::{NamedFiles, ReadFault};
+use crate::messages;
+use crate::messages::Role;
+use crate::status::Status;
+use fab_run::check_run;
+use fab_text::Sink;
+use std::alloc::Global;
+
+/// The names of the files of a check.
+#[derive(Drop)]
+pub struct CheckNames {
+    pub arch: Vec<u8>,
+    pub net: Vec<u8>,
+    pub place: Vec<u8>,
+}
+
+/// Reads the file of a role, or says why it was not read.
+fn read_role<F: NamedFiles, E: Sink>(
+    alloc: Global,
+    files: &F,
+    role: Role,
+    name: &[u8],
+    err: &mut E,
+) -> Result<Vec<u8>, Status>
+    ensures read { OnOk result (E.contents err.new ≡ E.contents err.old) }
+    ensures fault { IfErr result (λ status. (status ≡ Status.Device) ⊎ (status ≡ Status.NoMemory)) }
+{
+    match files.read(alloc, name) {
+        Ok(text) => Ok(text),
+        Err(ReadFault::Unreadable) => Err(messages::unreadable(err, role)),
+        Err(ReadFault::NoMemory) => Err(messages::no_memory(err)),
+    }
+}
+
+/// Checks a placement that lies in files.
+pub fn check_files<F: NamedFiles, O: Sink, E: Sink>(
+    alloc: Global,
+    names: &CheckNames,
+    files: &F,
+    out: &mut O,
+    err: &mut E,
+) -> Status
+    ensures silent { result ≡ Status.Refused → O.contents out.new ≡ O.contents out.old }
+    ensures written { result ≡ Status.Done → O.failed out.new ≡ O.failed out.old }
+    ensures quiet { result ≡ Status.Done → E.contents err.new ≡ E.contents err.old }
+    ensures line { result ≢ Status.CommandLine }
+{
+    let arch = match read_role(alloc, files, Role::Arch, names.arch.as_slice(), err) {
+        Ok(text) => text,
+        Err(status) => return status,
+    };
+    let net = match read_role(alloc, files, Role::Net, names.net.as_slice(), err) {
+        Ok(text) => text,
+        Err(status) => return status,
+    };
+    let place = match read_role(alloc, files, Role::Place, names.place.as_slice(), err) {
+        Ok(text) => text,
+        Err(status) => return status,
+    };
+    check_texts(
+        alloc,
+        arch.as_slice(),
+        net.as_slice(),
+        place.as_slice(),
+        out,
+        err,
+    )
+}
+
+/// Checks a placement, all of whose texts are at hand: the report goes out where they mean a design, an array and a
+/// legal placement, else one line of the first check that fails goes to the standard error.
+pub fn check_texts<O: Sink, E: Sink>(
+    alloc: Global,
+    arch: &[u8],
+    net: &[u8],
+    place: &[u8],
+    out: &mut O,
+    err: &mut E,
+) -> Status
+    // What goes out is the report of what the texts mean.
+    ensures done { result ≡ Status.Done → (cost : ℕ) × IsReported arch.now net.now place.now cost (O.contents out.old) (O.contents out.new) }
+    // A refusal is that of the first check that fails.
+    ensures refused { result ≡ Status.Refused → (fault : RunFaultOf) × FaultOf arch.now net.now place.now fault × (status_of fault ≡ Status.Refused) }
+    // Texts that mean all this are never refused.
+    ensures only { (d : Netlist) (g : GridShape) (sites : List Site) → AreChecked arch.now net.now place.now d g sites → (result ≡ Status.Done) ⊎ ((result ≡ Status.NoMemory) ⊎ (result ≡ Status.Device)) }
+    ensures silent { result ≡ Status.Refused → O.contents out.new ≡ O.contents out.old }
+    ensures written { result ≡ Status.Done → O.failed out.new ≡ O.failed out.old }
+    ensures quiet { result ≡ Status.Done → E.contents err.new ≡ E.contents err.old }
+    ensures line { result ≢ Status.CommandLine }
+{
+    match check_run(alloc, arch, net, place, out) {
+        Ok(_) => Status::Done,
+        Err(fault) => messages::run_fault(alloc, err, &fault, net),
+    }
+}

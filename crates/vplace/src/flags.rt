@@ -1,0 +1,107 @@
+//! The command line: its subcommands and options, and what the words ask for.
+
+use crate::checking::CheckNames;
+use crate::words::{as_bytes, as_text};
+use clap::{Arg, ArgAction, ArgMatches, Command, Error};
+use std::alloc::{AllocError, Global};
+
+/// What the words ask for.
+#[derive(Drop)]
+pub enum Asked {
+    /// To check the built-in example.
+    Example,
+    /// To check a placement that lies in files.
+    Check(CheckNames),
+}
+
+const NAME: &str = "vplace";
+
+const ABOUT: &str =
+    "Check placements of FPGA designs, after VPR 4.30: is a placement legal, and what is its wire cost?";
+
+const AFTER: &str =
+    "Without a command, a built-in example of four blocks on a 3 x 3 array is checked.
+
+Exit status:
+  0  done
+  1  a file is refused, or the design does not fit on the array
+  2  the command line is wrong
+  3  there is no memory
+  4  a file cannot be read, or the report cannot be written";
+
+const CHECK_ABOUT: &str = "Check a placement: legal or not, and its wire cost";
+
+const CHECK_AFTER: &str =
+    "A placement is legal where each block of the netlist stands on a site of its kind and no two on one site.
+Prints two lines, `legal B blocks on a NX x NY array` and `cost C`, or one line on standard error that
+names the first fault, as `vplace: place: P8 Missing block 3`.
+
+Example:
+  vplace check --arch small.arch --net small.net --place small.place";
+
+// A required option with one value, the name of a file.
+fn file_option<'a>(alloc: Global, name: &'a str, help: &'a str) -> Arg<'a> {
+    Arg::new(alloc, name)
+        .long(name)
+        .value_name("FILE")
+        .required(true)
+        .action(ArgAction::Set)
+        .help(help)
+}
+
+fn check_command<'a>(alloc: Global) -> Result<Command<'a>, AllocError> {
+    let arch = file_option(
+        alloc,
+        "arch",
+        "The architecture: pads for each position, and the pins of a logic block",
+    );
+    let net = file_option(
+        alloc,
+        "net",
+        "The netlist: the blocks, and the nets on their pins",
+    );
+    let place = file_option(
+        alloc,
+        "place",
+        "The placement: the size of the array, and the site of each block",
+    );
+    Command::new(alloc, "check")
+        .about(CHECK_ABOUT)
+        .after_help(CHECK_AFTER)
+        .arg(arch)?
+        .arg(net)?
+        .arg(place)
+}
+
+fn vplace_command<'a>(alloc: Global) -> Result<Command<'a>, AllocError> {
+    Command::new(alloc, NAME)
+        .about(ABOUT)
+        .after_help(AFTER)
+        .subcommand(check_command(alloc)?)
+}
+
+// The file name that an option was given.
+fn file_name(alloc: Global, matches: &ArgMatches<'_>, option: &str) -> Result<Vec<u8>, AllocError> {
+    as_bytes(alloc, matches.get_str(option).unwrap_or(""))
+}
+
+fn check_names(alloc: Global, matches: &ArgMatches<'_>) -> Result<CheckNames, AllocError> {
+    let arch = file_name(alloc, matches, "arch")?;
+    let net = file_name(alloc, matches, "net")?;
+    let place = file_name(alloc, matches, "place")?;
+    Ok(CheckNames { arch, net, place })
+}
+
+/// What the words ask for; else what is to be said of them.
+pub fn parse_words(alloc: Global, words: &[Vec<u8>]) -> Result<Asked, Error> {
+    let mut texts = Vec::new(alloc);
+    texts.push(String::from_str(alloc, NAME)?)?;
+    for word in words {
+        texts.push(as_text(alloc, word.as_slice())?)?;
+    }
+    let matches = vplace_command(alloc)?.try_get_matches_from(texts.as_slice())?;
+    match matches.subcommand_matches("check") {
+        Some(check) => Ok(Asked::Check(check_names(alloc, check)?)),
+        None => Ok(Asked::Example),
+    }
+}

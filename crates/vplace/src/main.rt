@@ -1,0 +1,35 @@
+//! `vplace`, the program: its words, the files that they name, and what is said on the two outputs.
+#![tactic(auto)]
+
+mod checking;
+mod example;
+mod files;
+mod flags;
+mod messages;
+mod program;
+mod status;
+#[cfg(test)]
+mod tests;
+mod words;
+
+use fab_text::Counted;
+use files::HostFiles;
+use std::io;
+use std::process::ExitCode;
+use words::given_words;
+
+fn main(rt: HostRuntime) -> ExitCode {
+    let mut out = Counted::new(io::writer(&rt));
+    let mut err = Counted::new(rt.stderr());
+    let status = match given_words(&rt) {
+        Ok(words) => program::program(
+            &rt,
+            words.as_slice(),
+            &HostFiles::new(&rt),
+            &mut out,
+            &mut err,
+        ),
+        Err(_) => messages::no_memory(&mut err).code(),
+    };
+    ExitCode::from(status)
+}

@@ -1,0 +1,62 @@
+//! What is said on standard error: one line for each fault, and the status that goes with it.
+
+ghost use Rattle.std.specs.Prelude.{◌≡◌, ◌⊎◌};
+ghost use Rattle.vplace.specs.Status.{status_of};
+
+use crate::status::{Status, status_after};
+use fab_run::{RunFault, fault_line};
+use fab_text::{Sink, write_whole};
+use std::alloc::Global;
+
+/// Says that there is no memory. A standard error that fails too has nobody to be told.
+pub fn no_memory<E: Sink>(err: &mut E) -> Status
+    ensures { result ≡ Status.NoMemory }
+{
+    let _ = write_whole(err, b"vplace: no memory\n");
+    Status::NoMemory
+}
+
+/// Which of the files of a run.
+#[derive(Clone, Copy, Debug, PartialEq, Eq)]
+pub enum Role {
+    Arch,
+    Net,
+    Place,
+}
+
+/// Says that the file of a role cannot be read.
+pub fn unreadable<E: Sink>(err: &mut E, role: Role) -> Status
+    ensures { result ≡ Status.Device }
+{
+    let line: &[u8] = match role {
+        Role::Arch => b"vplace: cannot read arch\n",
+        Role::Net => b"vplace: cannot read net\n",
+        Role::Place => b"vplace: cannot read place\n",
+    };
+    let _ = write_whole(err, line);
+    Status::Device
+}
+
+/// Says that the report cannot be written.
+pub fn unwritable_report<E: Sink>(err: &mut E) -> Status
+    ensures { result ≡ Status.Device }
+{
+    let _ = write_whole(err, b"vplace: cannot write report\n");
+    Status::Device
+}
+
+/// Says why a run gave no answer. `net` is the netlist text in which the span of a fault lies.
+pub fn run_fault<E: Sink>(alloc: Global, err: &mut E, fault: &RunFault, net: &[u8]) -> Status
+    ensures { (result ≡ status_of fault.now) ⊎ (result ≡ Status.NoMemory) }
+{
+    match fault_line(alloc, fault, net) {
+        Ok(mut line) => {
+            if line.push(b'\n').is_err() {
+                return no_memory(err);
+            }
+            let _ = write_whole(err, line.as_slice());
+            status_after(fault)
+        }
+        Err(_) => no_memory(err),
+    }
+}

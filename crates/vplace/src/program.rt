@@ -1,0 +1,82 @@
+//! The whole program over its words, its files and its two outputs, so that a test can run it in memory.
+
+ghost use Rattle.std.specs.Prelude.{◌≡◌, ◌⊎◌};
+
+use crate::checking::{check_files, check_texts};
+use crate::files::NamedFiles;
+use crate::flags::{Asked, parse_words};
+use crate::status::Status;
+use crate::words::as_bytes;
+use crate::{example, messages};
+use clap::Error;
+use clap::error::ErrorKind;
+use fab_text::{Sink, write_whole};
+use std::alloc::{AllocError, Global};
+
+// The text of what is said of a command line, as bytes.
+fn text_of(alloc: Global, error: &Error) -> Result<Vec<u8>, AllocError> {
+    let text = error.to_string(alloc)?;
+    as_bytes(alloc, text.as_str())
+}
+
+// Help that was asked for goes to the output, what is wrong with the words to the standard error.
+fn tell<O: Sink, E: Sink>(alloc: Global, error: &Error, out: &mut O, err: &mut E) -> Status
+    ensures silent { (result ≡ Status.Refused) ⊎ (result ≡ Status.CommandLine) → O.contents out.new ≡ O.contents out.old }
+    ensures written { result ≡ Status.Done → O.failed out.new ≡ O.failed out.old }
+    ensures quiet { result ≡ Status.Done → E.contents err.new ≡ E.contents err.old }
+{
+    if error.kind() == ErrorKind::OutOfMemory {
+        return messages::no_memory(err);
+    }
+    let Ok(text) = text_of(alloc, error) else {
+        return messages::no_memory(err);
+    };
+    if error.use_stderr() {
+        let _ = write_whole(err, text.as_slice());
+        return Status::CommandLine;
+    }
+    match write_whole(out, text.as_slice()) {
+        Ok(()) => Status::Done,
+        Err(_) => messages::unwritable_report(err),
+    }
+}
+
+// Does what the words ask for.
+fn run<F: NamedFiles, O: Sink, E: Sink>(
+    alloc: Global,
+    words: &[Vec<u8>],
+    files: &F,
+    out: &mut O,
+    err: &mut E,
+) -> Status
+    ensures silent { (result ≡ Status.Refused) ⊎ (result ≡ Status.CommandLine) → O.contents out.new ≡ O.contents out.old }
+    ensures written { result ≡ Status.Done → O.failed out.new ≡ O.failed out.old }
+    ensures quiet { result ≡ Status.Done → E.contents err.new ≡ E.contents err.old }
+{
+    match parse_words(alloc, words) {
+        Ok(Asked::Example) => {
+            check_texts(alloc, example::ARCH, example::NET, example::PLACE, out, err)
+        }
+        Ok(Asked::Check(names)) => check_files(alloc, &names, files, out, err),
+        Err(error) => tell(alloc, &error, out, err),
+    }
+}
+
+/// Does what the words ask for, and answers the status that the shell is told: 0 done, 1 a file refused or a design
+/// that does not fit, 2 the command line, 3 no memory, 4 a device. `words` are those after the program's name.
+pub fn program<R: AllocGlobal, F: NamedFiles, O: Sink, E: Sink>(
+    rt: &R,
+    words: &[Vec<u8>],
+    files: &F,
+    out: &mut O,
+    err: &mut E,
+) -> u8
+    // Nothing goes to the output where a file or the command line is refused.
+    ensures silent { (result ≡ 1) ⊎ (result ≡ 2) → O.contents out.new ≡ O.contents out.old }
+
+    // Where the status is 0, no write to the output failed, and nothing was said on the standard error.
+    ensures written { result ≡ 0 → O.failed out.new ≡ O.failed out.old }
+    ensures quiet { result ≡ 0 → E.contents err.new ≡ E.contents err.old }
+{
+    run(rt.alloc(), words, files, out, err).code()
+}

@@ -1,0 +1,55 @@
+//! How a run of the program ended, and the number that the shell is told.
+
+ghost use Rattle.std.specs.Prelude.{◌≡◌};
+ghost use Rattle.vplace.specs.Status.{code_of, status_of};
+
+use fab_arch::ArchFault;
+use fab_file::PlaceFault;
+use fab_net::NetFault;
+use fab_run::RunFault;
+
+/// How a run of the program ended.
+#[derive(Clone, Copy, Debug, PartialEq, Eq)]
+pub enum Status {
+    /// It did what was asked.
+    Done,
+    /// A file is refused, or the design does not fit.
+    Refused,
+    /// The command line is wrong.
+    CommandLine,
+    /// There was no memory to go on.
+    NoMemory,
+    /// A file could not be read, or an output not be written.
+    Device,
+}
+
+impl Status {
+    /// The number that the shell is told.
+    pub fn code(self) -> u8
+        ensures { result ≡ code_of self }
+    {
+        match self {
+            Status::Done => 0,
+            Status::Refused => 1,
+            Status::CommandLine => 2,
+            Status::NoMemory => 3,
+            Status::Device => 4,
+        }
+    }
+}
+
+/// How a run ends that met this fault.
+pub fn status_after(fault: &RunFault) -> Status
+    ensures { result ≡ status_of fault.now }
+{
+    match fault {
+        RunFault::NoMemory
+        | RunFault::Arch(ArchFault::NoMemory)
+        | RunFault::Net(NetFault::NoMemory)
+        | RunFault::Place(PlaceFault::NoMemory) => Status::NoMemory,
+        RunFault::Report | RunFault::Place(PlaceFault::Write) => Status::Device,
+        RunFault::Arch(_) | RunFault::Net(_) | RunFault::Place(_) | RunFault::Size(_) => {
+            Status::Refused
+        }
+    }
+}

@@ -1,0 +1,83 @@
+//! The words of the command line: read as bytes, shown to the parser of the command line as text, and turned back.
+//!
+//! A word may be any bytes, and the parser takes text alone. So a word that is no UTF-8 is shown as text in which a
+//! letter of the end of Unicode's private range stands for each byte from 128 on. A word that is UTF-8 is shown as it
+//! is, unless it has such a letter itself.
+
+use std::alloc::{AllocError, Global};
+use std::env::FillError;
+use std::rt::Env;
+use std::str;
+
+// The letter of byte b is this code and b.
+const FIRST_CODE: u32 = 0x10_FF00;
+
+// Whether a letter stands for a byte from 128 on.
+fn is_stand_in(letter: char) -> bool {
+    u32::from(letter) >= FIRST_CODE + 128
+}
+
+// What a byte is shown as in a word that is no UTF-8.
+fn letter_of(byte: u8) -> char {
+    if byte < 128 {
+        return char::from(byte);
+    }
+    char::from_u32(FIRST_CODE + u32::from(byte)).unwrap_or(char::REPLACEMENT_CHARACTER)
+}
+
+/// A word as text, from which `as_bytes` makes the word again.
+pub fn as_text(alloc: Global, word: &[u8]) -> Result<String, AllocError> {
+    if let Ok(text) = str::from_utf8(word) {
+        if !text.chars().any(is_stand_in) {
+            return String::from_str(alloc, text);
+        }
+    }
+    let mut text = String::new(alloc);
+    for byte in word {
+        text.push(letter_of(*byte))?;
+    }
+    Ok(text)
+}
+
+/// The bytes of a text in which letters may stand for bytes.
+pub fn as_bytes(alloc: Global, text: &str) -> Result<Vec<u8>, AllocError> {
+    let mut bytes = Vec::new(alloc);
+    for letter in text.chars() {
+        if is_stand_in(letter) {
+            bytes.push(u32::from(letter).to_le_bytes()[0])?;
+        } else {
+            let mut room = [0u8; 4];
+            bytes.extend_from_slice(letter.encode_utf8(&mut room).as_bytes())?;
+        }
+    }
+    Ok(bytes)
+}
+
+// The word at a place, from room for 256 bytes up to room that is enough.
+fn word_at<R: Env + AllocGlobal>(rt: &R, place: usize) -> Result<Option<Vec<u8>>, AllocError> {
+    let mut room = 256usize;
+    for _ in 0..usize::BITS {
+        let mut word = vec![in rt.alloc(); 0u8; room]?;
+        match rt.arg(place, word.as_mut_slice()) {
+            Ok(length) => {
+                word.truncate(length);
+                return Ok(Some(word));
+            }
+            Err(FillError::NotPresent) => return Ok(None),
+            Err(FillError::TooLong) => room = room.saturating_add(room),
+        }
+    }
+    Err(AllocError)
+}
+
+/// The words that the program was started with, without its own name.
+pub fn given_words<R: Env + AllocGlobal>(rt: &R) -> Result<Vec<Vec<u8>>, AllocError> {
+    let mut words = Vec::new(rt.alloc());
+    for place in 1..usize::MAX {
+        match word_at(rt, place)? {
+            Some(word) => words.push(word)?,
+            None => break,
+        }
+    }
+    Ok(words)
+}
