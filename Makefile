@@ -2,7 +2,7 @@
 
 .PHONY: test
 
-# Every proof from nothing, every must-fail edit, every test and program run.
+# Every proof from nothing, every must-fail edit, every test and program run, and the tests of the command line.
 # The last line of the output is `N passed, M failed`.
 test:
-	@rt ci
+	@tests/all

@@ -1,9 +1,11 @@
-use crate::{RunFault, fault_line};
+use crate::{RunFault, check_run, fault_line};
 use fab_arch::{ArchFault, GridFault};
 use fab_file::PlaceFault;
 use fab_net::NetFault;
-use fab_text::Span;
-use std::alloc::AllocError;
+use fab_text::{Counted, Span};
+use std::alloc::{AllocError, Global};
+use std::io;
+use std::io::Write;
 use std::process::Abort;
 use std::test::*;
 
@@ -181,5 +183,113 @@ fn a_name_of_any_bytes_is_told(rt: HostRuntime) -> Result<(), Fail> {
         line.as_slice(),
         b"vplace: net: N8 NoDriver name ".as_slice()
     );
+    Ok(())
+}
+
+const PAIR_ARCH: &[u8] = b"io_rat 1\ninpin class: 0 left\noutpin class: 1 right\n";
+
+// A pad `a`, a pad `z` and a logic block `b`.
+const PAIR_NET: &[u8] =
+    b".input a\npinlist: n1\n.output z\npinlist: n2\n.clb b\npinlist: n1 n2\nsubblock: b 0 1\n";
+
+const PAIR_PLACE: &[u8] =
+    b"Netlist file: t.net Architecture file: t.arch\nArray size: 1 x 1 logic blocks\na 0 1 0\nz 2 1 0\nb 1 1 0\n";
+
+// Takes so many bytes, and then fails.
+#[derive(Drop)]
+struct Narrow {
+    taken: Vec<u8>,
+    room: usize,
+}
+
+impl Write for Narrow {
+    fn write(&mut self, bytes: &[u8]) -> io::Result<usize> {
+        if self.room == 0 {
+            return Err(io::Error::from(io::ErrorKind::StorageFull));
+        }
+        let taken = self.room.min(bytes.len());
+        self.taken.extend_from_slice(&bytes[..taken])?;
+        self.room -= taken;
+        Ok(taken)
+    }
+
+    fn flush(&mut self) -> io::Result<()> {
+        Ok(())
+    }
+}
+
+// What a check answers, and what it wrote where its writer takes so many bytes.
+fn check(
+    alloc: Global,
+    texts: [&[u8]; 3],
+    room: usize,
+) -> Result<(Result<u64, RunFault>, Vec<u8>), AllocError> {
+    let mut report = Counted::new(Narrow {
+        taken: Vec::new(alloc),
+        room,
+    });
+    let answer = check_run(alloc, texts[0], texts[1], texts[2], &mut report);
+    Ok((answer, report.into_inner().taken))
+}
+
+#[test]
+fn lawful_texts_are_reported(rt: HostRuntime) -> Result<(), Fail> {
+    let empty: &[u8] = b"Netlist file: t Architecture file: t\nArray size: 1 x 1 logic blocks\n";
+    let rows: [([&[u8]; 3], u64, &[u8]); 2] = [
+        (
+            [PAIR_ARCH, PAIR_NET, PAIR_PLACE],
+            40_000,
+            b"legal 3 blocks on a 1 x 1 array\ncost 4.0000\n",
+        ),
+        (
+            [PAIR_ARCH, b"", empty],
+            0,
+            b"legal 0 blocks on a 1 x 1 array\ncost 0.0000\n",
+        ),
+    ];
+    for (texts, cost, written) in rows {
+        let (answer, report) = check(rt.alloc(), texts, 1000)?;
+        assert_eq!(rt; answer, Ok(cost));
+        assert_eq!(rt; report.as_slice(), written);
+    }
+    Ok(())
+}
+
+#[test]
+fn the_first_check_that_fails_is_answered(rt: HostRuntime) -> Result<(), Fail> {
+    let huge: &[u8] =
+        b"Netlist file: t Architecture file: t\nArray size: 1001 x 1 logic blocks\nq\n";
+    let crowded: &[u8] = b".clb b\npinlist: open n1\n.clb c\npinlist: n1 n2\n";
+    let small: &[u8] = b"Netlist file: t Architecture file: t\nArray size: 1 x 1 logic blocks\nq\n";
+    let pads: &[u8] =
+        b".input a\npinlist: a\n.input b\npinlist: b\n.input c\npinlist: c\n.input d\npinlist: d\n.input e\npinlist: e\n";
+    let rows: [([&[u8]; 3], RunFault); 7] = [
+        ([b"", b"x", b""], ArchFault::NoIoRat.into()),
+        ([PAIR_ARCH, b"x", b""], NetFault::UnknownWord(1).into()),
+        ([PAIR_ARCH, crowded, b""], PlaceFault::BadHeader.into()),
+        ([PAIR_ARCH, crowded, huge], GridFault::SizeOutOfRange.into()),
+        (
+            [PAIR_ARCH, crowded, small],
+            GridFault::TooFewLogicSites.into(),
+        ),
+        ([PAIR_ARCH, pads, small], GridFault::TooFewPadSites.into()),
+        ([PAIR_ARCH, PAIR_NET, small], PlaceFault::BadLine(3).into()),
+    ];
+    for (texts, fault) in rows {
+        let (answer, report) = check(rt.alloc(), texts, 1000)?;
+        assert_eq!(rt; answer, Err(fault));
+        assert!(rt; report.is_empty());
+    }
+    Ok(())
+}
+
+#[test]
+fn a_report_that_fails_is_told(rt: HostRuntime) -> Result<(), Fail> {
+    let whole: &[u8] = b"legal 3 blocks on a 1 x 1 array\ncost 4.0000\n";
+    for room in 0..whole.len() {
+        let (answer, report) = check(rt.alloc(), [PAIR_ARCH, PAIR_NET, PAIR_PLACE], room)?;
+        assert_eq!(rt; answer, Err(RunFault::Report));
+        assert_eq!(rt; report.as_slice(), &whole[..room]);
+    }
     Ok(())
 }
