@@ -1,3 +1,5 @@
 pub mod Sites
 pub mod Tables
 pub mod Drafting
+pub mod Swaps
+pub mod Swapping

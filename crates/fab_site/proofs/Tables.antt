@@ -203,11 +203,11 @@ at_push_here n (y ∷ ys) x s none h = elim (cases_Bool (same_site y s)) [
     no_some b h = cc
 
 -- no block of a list stands on a site where none of its places is that site
-none_there : (n : ℕ) (xs : List Site) (s : Site) → ((a : ℕ) → a < length xs → same_site (site_of xs a) s ≡ false) → at_from n xs s ≡ None
+pub none_there : (n : ℕ) (xs : List Site) (s : Site) → ((a : ℕ) → a < length xs → same_site (site_of xs a) s ≡ false) → at_from n xs s ≡ None
 none_there n [] s h = refl
 none_there n (x ∷ xs) s h = let k : same_site x s ≡ false = h 0 (omega arith) in rw k (none_there (n + 1) xs s (λ a lt. h (suc a) (omega arith)))
 
-false_of : (b : Bool) → (b ≡ true → ⊥) → b ≡ false
+pub false_of : (b : Bool) → (b ≡ true → ⊥) → b ≡ false
 false_of true h = absurd (h refl)
 false_of false h = refl
 

@@ -32,6 +32,11 @@ abbrev pub held : List ℕ → Option ℕ → Option BlockId
 held holders None = None
 held holders (Some i) = block_from (slice_index holders i)
 
+-- what stands in the table for a block, or for none
+abbrev pub number_for : Option BlockId → ℕ
+number_for None = 0
+number_for (Some b) = b.0 + 1
+
 -- the table holds, for every site, the block that stands there
 pub record IsIndexed (g : GridShape) (sites : List Site) (holders : List ℕ) : Type 0 where
   pub size : length holders ≡ site_count g
