@@ -3,3 +3,4 @@ pub mod Tables
 pub mod Drafting
 pub mod Swaps
 pub mod Swapping
+pub mod Legality
