@@ -60,6 +60,7 @@ both_set g sites s holders i j t r at_i at_j =
   where
     mid : List ℕ
     mid = set holders i (s.block.0 + 1)
+
     each : (x : Site) → held (set (set holders i (s.block.0 + 1)) j (number_for s.other)) (index_of g x) ≡ at (swapped sites s) x
     each x =
         let low : i < length holders = omega (arith, index_below g s.to i at_i, t.size) in
