@@ -1,13 +1,12 @@
 -- What it takes to be a site.
-use Rattle.std.proofs.Common.{◌≡◌, ℕ, ◌+◌, ◌-◌, ◌*◌, ◌<◌, ◌≤◌, Bool, true, false, cond, ◌&&◌, ◌||◌, ◌==◌, Option, Some, None, refl, sym, ap, ◌∙◌, inl, inr, arith}
+use Rattle.std.proofs.Common.{◌≡◌, ℕ, ◌+◌, ◌≤◌, true, ◌&&◌, ◌||◌, ◌==◌, Option, Some, None, refl, sym, ◌∙◌, inl, inr, arith}
 use Rattle.std.specs.Prelude.{nat_le, nat_lt, is_some}
 use Rattle.std.specs.List.{list_any}
-use Rattle.std.proofs.lemmas.Bool.{cases_Bool, and_parts, and_from, leb-true, eqb-true, ltb-true, false≢true}
+use Rattle.std.proofs.lemmas.Bool.{cases_Bool, and_parts, and_from, leb-true, eqb-true, false≢true}
 use Rattle.std.proofs.lemmas.Bool.Decides.{nat_tests}
 use Rattle.fab_arch.specs.declared.array.Site.{Site}
 use Rattle.fab_arch.specs.declared.array.SiteKind.{SiteKind}
-use Rattle.fab_arch.specs.declared.array.SiteKind.TheVariants.{Logic, Pad}
-use Rattle.fab_arch.specs.Grid.{GridShape, shape, perimeter, is_position, is_logic_site, is_pad_site, kind_at}
+use Rattle.fab_arch.specs.Grid.{GridShape, perimeter, is_position, is_logic_site, is_pad_site, kind_at}
 use Rattle.fab_arch.proofs.Perimeter.{round_is}
 use Rattle.fab_site.specs.Index.{place_of, pad_index, index_of}
 

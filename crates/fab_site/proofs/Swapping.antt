@@ -1,6 +1,6 @@
 -- The table of sites after a swap.
-use Rattle.std.proofs.Common.{◌≡◌, ◌≢◌, ℕ, ◌+◌, ◌^◌, ◌<◌, ◌≤◌, Bool, true, false, List, Option, Some, None, length, set, refl, sym, ap, ◌∙◌, inl, inr, arith}
-use Rattle.std.specs.Prelude.{slice_get, slice_set, is_some}
+use Rattle.std.proofs.Common.{◌≡◌, ℕ, ◌+◌, ◌<◌, true, List, Option, Some, None, length, set, refl, sym, ap, ◌∙◌, inl, inr, arith}
+use Rattle.std.specs.Prelude.{is_some}
 use Rattle.std.proofs.lemmas.Bool.{cases_Bool, false≢true}
 use Rattle.std.proofs.lemmas.List.{get_or-set_same, length-set}
 use Rattle.std.proofs.lemmas.Option.{slice_get_within, get_or_from_slice_get}
@@ -8,8 +8,8 @@ use Rattle.fab_arch.specs.declared.array.Site.{Site}
 use Rattle.fab_arch.specs.Grid.{GridShape, kind_at}
 use Rattle.fab_net.specs.declared.pieces.BlockId.{BlockId}
 use Rattle.fab_site.specs.declared.pieces.Swap.{Swap}
-use Rattle.fab_site.specs.Placement.{site_of, same_site, nowhere, at, swapped, AreApart, IsSwapOf}
-use Rattle.fab_site.specs.Index.{index_of, site_count, held, number_for, IsIndexed}
+use Rattle.fab_site.specs.Placement.{site_of, same_site, nowhere, at, swapped, IsSwapOf}
+use Rattle.fab_site.specs.Index.{index_of, held, number_for, IsIndexed}
 use Rattle.fab_site.proofs.Sites.{index_there, site_from}
 use Rattle.fab_site.proofs.Tables.{index_below, index_apart, itself, same_is, held_other, held_here}
 use Rattle.fab_site.proofs.Swaps.{IsReady, IsHeldBy, held_by, nobody_on, length-swapped, apart-swapped, at-to, at-from, at-elsewhere}

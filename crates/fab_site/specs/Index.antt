@@ -1,5 +1,5 @@
 -- The places of an array's sites in one flat table: logic sites by rows, then pad sites by position and sub (our own).
-use Rattle.std.specs.Prelude.{ℕ, ◌≡◌, ◌+◌, ◌-◌, ◌*◌, ◌<◌, ◌≤◌, Bool, if◌then◌else◌, nat_lt, nat_le, ◌&&◌, ◌==◌, List, [], ◌∷◌, length, Option, Some, None, slice_index, refl}
+use Rattle.std.specs.Prelude.{ℕ, ◌≡◌, ◌+◌, ◌-◌, ◌*◌, ◌≤◌, if◌then◌else◌, nat_lt, nat_le, ◌&&◌, ◌==◌, List, length, Option, Some, None, slice_index, refl}
 use Rattle.fab_arch.specs.declared.array.Site.{Site}
 use Rattle.fab_arch.specs.Grid.{GridShape, shape, is_logic_site}
 use Rattle.fab_net.specs.declared.pieces.BlockId.{BlockId}

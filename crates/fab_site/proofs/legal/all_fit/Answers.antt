@@ -1,4 +1,4 @@
-use Rattle.std.proofs.Common.{◌≡◌, ◌↔◌, ℕ, ◌<◌, Some, true, false, rules, below_more}
+use Rattle.std.proofs.Common.{◌≡◌, true, rules, below_more}
 use Rattle.fab_site.specs.Placement.{Fits, site_of}
 use Rattle.fab_site.proofs.legal.all_fit.Goals as goal
 

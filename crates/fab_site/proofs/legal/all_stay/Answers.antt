@@ -1,7 +1,5 @@
-use Rattle.std.proofs.Common.{◌≡◌, ◌↔◌, ℕ, ◌<◌, Some, true, false, refl, sym, ap, ◌∙◌, rules}
-use Rattle.std.specs.Prelude.{slice_get, IsTrue}
-use Rattle.fab_site.specs.Placement.{fixed_at}
-use Rattle.fab_site.proofs.Legality.{Stays, StaysAt, stays_more, stays_not, stays_all}
+use Rattle.std.proofs.Common.{◌≡◌, true, false, refl, rules}
+use Rattle.fab_site.proofs.Legality.{stays_more, stays_not, stays_all}
 use Rattle.fab_site.proofs.legal.all_stay.Goals as goal
 
 never : false ≡ true → ⊥

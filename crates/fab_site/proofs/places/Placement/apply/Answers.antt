@@ -1,7 +1,4 @@
-use Rattle.std.proofs.Common.{◌≡◌, ◌<◌, ◌≤◌, ℕ, Option, Some, sym, ap, ◌∙◌, arith}
-use Rattle.fab_net.specs.declared.pieces.BlockId.{BlockId}
-use Rattle.fab_site.specs.Index.{IsIndexed}
-use Rattle.fab_site.proofs.Swaps.{IsReady}
+use Rattle.std.proofs.Common.{arith}
 use Rattle.fab_site.proofs.Swapping.{ready, indexed_swapped, other_within}
 use Rattle.fab_site.proofs.places.Placement.apply.Goals as goal
 
