@@ -33,7 +33,7 @@ impl Fixed {
         }
     }
 
-    /// Fixes a block, which is not fixed yet, at a site. Where memory is short, nothing is fixed.
+    /// Fixes a block, which is not fixed yet, at a site. Where memory is short, all stays as it was.
     pub fn fix(&mut self, block: BlockId, site: Site) -> Result<(), AllocError>
         requires { fixed_at self.old block.0 ≡ None }
         ensures fixed { OnOk result ((b : ℕ) → fixed_at self.new b ≡ (if b == block.0 then Some site else fixed_at self.old b)) }
