@@ -1,15 +1,14 @@
 -- One more block gets its site.
-use Rattle.std.proofs.Common.{◌≡◌, ◌≢◌, ℕ, ◌+◌, ◌-◌, ◌<◌, ◌≤◌, Bool, true, false, cond, List, [], ◌∷◌, ◌++◌, Option, Some, None, length, map, get_or, set, take, replicate, zero, suc, refl, sym, ap, ◌∙◌, inl, inr, arith}
+use Rattle.std.proofs.Common.{◌≡◌, ◌≢◌, ℕ, ◌+◌, ◌<◌, ◌≤◌, true, false, cond, List, [], ◌∷◌, Option, Some, None, length, map, get_or, set, replicate, zero, suc, refl, sym, ap, ◌∙◌, inl, inr, arith}
 use Rattle.std.specs.Prelude.{slice_get, slice_index, is_some, position}
 use Rattle.std.specs.List.{list_all, list_any, position_or_len}
 use Rattle.std.proofs.lemmas.Bool.{cases_Bool, cases_eq, false≢true}
-use Rattle.std.proofs.lemmas.List.{length-set, length-map, length-replicate, get_or-map}
-use Rattle.std.proofs.lemmas.Option.{slice_get-get_or, slice_get-map}
+use Rattle.std.proofs.lemmas.List.{length-set, length-map, length-replicate}
 use Rattle.fab_arch.specs.declared.array.Site.{Site}
 use Rattle.fab_arch.specs.Grid.{GridShape}
 use Rattle.fab_net.specs.declared.pieces.BlockId.{BlockId}
 use Rattle.fab_net.proofs.Naming.{any_position}
-use Rattle.fab_site.specs.Placement.{same_site, site_of, nowhere, at, at_from, AreApart}
+use Rattle.fab_site.specs.Placement.{same_site, site_of, at_from}
 use Rattle.fab_site.specs.Index.{index_of, site_count, held, IsIndexed}
 use Rattle.fab_site.specs.Draft.{is_missing, is_site, holder_from, holder_of, NoneShared, IsTabled}
 use Rattle.fab_site.proofs.Tables.{index_below, index_apart, itself, same_is, held_zero, held_other, held_here}

@@ -1,13 +1,12 @@
 -- What it takes to be a site.
-use Rattle.std.proofs.Common.{◌≡◌, ℕ, ◌+◌, ◌-◌, ◌*◌, ◌<◌, ◌≤◌, Bool, true, false, cond, ◌&&◌, ◌||◌, ◌==◌, Option, Some, None, refl, sym, ap, ◌∙◌, inl, inr, arith}
+use Rattle.std.proofs.Common.{◌≡◌, ℕ, ◌+◌, ◌≤◌, true, ◌&&◌, ◌||◌, ◌==◌, Option, Some, None, refl, sym, ◌∙◌, inl, inr, arith}
 use Rattle.std.specs.Prelude.{nat_le, nat_lt, is_some}
 use Rattle.std.specs.List.{list_any}
-use Rattle.std.proofs.lemmas.Bool.{cases_Bool, and_parts, leb-true, eqb-true, ltb-true, false≢true}
+use Rattle.std.proofs.lemmas.Bool.{cases_Bool, and_parts, and_from, leb-true, eqb-true, false≢true}
 use Rattle.std.proofs.lemmas.Bool.Decides.{nat_tests}
 use Rattle.fab_arch.specs.declared.array.Site.{Site}
 use Rattle.fab_arch.specs.declared.array.SiteKind.{SiteKind}
-use Rattle.fab_arch.specs.declared.array.SiteKind.TheVariants.{Logic, Pad}
-use Rattle.fab_arch.specs.Grid.{GridShape, shape, perimeter, is_position, is_logic_site, is_pad_site, kind_at}
+use Rattle.fab_arch.specs.Grid.{GridShape, perimeter, is_position, is_logic_site, is_pad_site, kind_at}
 use Rattle.fab_arch.proofs.Perimeter.{round_is}
 use Rattle.fab_site.specs.Index.{place_of, pad_index, index_of}
 
@@ -46,4 +45,28 @@ index_there g s h = elim (cases_Bool (is_logic_site g s)) [
         rw n (pad_there g s.sub (place_of g.nx g.ny s.x s.y) (place_there g.nx g.ny s.x s.y round) p.1)
     | inr m ↦ let e : is_some {T = SiteKind} None ≡ true = rw (n, m) at h in absurd (false≢true e)
   ]
+]
+
+-- the number of a place in the table comes from a site of the array
+
+pad_from : (g : GridShape) (sub : ℕ) (place : Option ℕ) → is_some (pad_index g sub place) ≡ true → (is_some place ≡ true) × (nat_lt sub g.io_rat ≡ true)
+pad_from g sub None h = absurd (false≢true h)
+pad_from g sub (Some p) h = elim (cases_Bool (nat_lt sub g.io_rat)) [
+  | inl y ↦ (refl, y)
+  | inr n ↦ let e : is_some {T = ℕ} None ≡ true = rw n at h in absurd (false≢true e)
+]
+
+place_from : (nx ny x y : ℕ) → is_some (place_of nx ny x y) ≡ true → (((nat_le 1 y && nat_le y ny) && (x == 0 || x == nx + 1)) || ((nat_le 1 x && nat_le x nx) && (y == 0 || y == ny + 1))) ≡ true
+place_from nx ny x y h = grind (arith, nat_tests)
+
+pub site_from : (g : GridShape) (s : Site) → is_some (index_of g s) ≡ true → is_some (kind_at g s) ≡ true
+unfolding index_of
+site_from g s h = elim (cases_Bool (is_logic_site g s)) [
+  | inl y ↦ rw y refl
+  | inr n ↦
+      let p : is_some (pad_index g s.sub (place_of g.nx g.ny s.x s.y)) ≡ true = rw n at h in
+      let parts = pad_from g s.sub (place_of g.nx g.ny s.x s.y) p in
+      let round = round_is g.nx g.ny g.io_rat s ∙ place_from g.nx g.ny s.x s.y parts.0 in
+      let pad : is_pad_site g s ≡ true = and_from (list_any (is_position s) (perimeter g)) (nat_lt s.sub g.io_rat) round parts.1 in
+      rw (n, pad) refl
 ]

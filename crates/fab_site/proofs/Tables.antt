@@ -1,16 +1,15 @@
 -- The table of sites: two sites never share a place, and one more block goes in.
-use Rattle.std.proofs.Common.{◌≡◌, ◌≢◌, ℕ, ◌+◌, ◌-◌, ◌*◌, ◌<◌, ◌≤◌, Bool, true, false, cond, eqb, ◌&&◌, ◌||◌, ◌==◌, List, [], ◌∷◌, ◌++◌, Option, Some, None, length, get_or, set, take, zero, suc, refl, sym, ap, ◌∙◌, inl, inr, ◌⊎◌, arith, subst}
-use Rattle.std.specs.Prelude.{nat_le, nat_lt, is_some, slice_index, slice_index_or}
+use Rattle.std.proofs.Common.{◌≡◌, ◌≢◌, ℕ, ◌+◌, ◌-◌, ◌*◌, ◌<◌, ◌≤◌, Bool, true, false, cond, eqb, ◌&&◌, ◌==◌, List, [], ◌∷◌, ◌++◌, Option, Some, None, length, set, take, suc, refl, sym, ap, ◌∙◌, inl, inr, ◌⊎◌, arith}
+use Rattle.std.specs.Prelude.{nat_le, nat_lt, slice_index}
 use Rattle.std.proofs.lemmas.Bool.{cases_Bool, cases_eq, and_parts, and_from, leb-true, eqb-true, eq-eqb, ne_eqb, ltb-true, false≢true}
-use Rattle.std.proofs.lemmas.Bool.Decides.{nat_tests}
 use Rattle.std.proofs.lemmas.List.{get_or-set_same, get_or-set_other, length-set, take_more, take_all, length-take, get_or-take}
 use Rattle.std.proofs.Math.Nat.{mul-le-mul_right}
 use Rattle.fab_arch.specs.declared.array.Site.{Site}
-use Rattle.fab_arch.specs.Grid.{GridShape, shape, is_logic_site, kind_at}
+use Rattle.fab_arch.specs.Grid.{GridShape, is_logic_site}
 use Rattle.fab_net.specs.declared.pieces.BlockId.{BlockId}
 use Rattle.fab_site.specs.Placement.{site_of, same_site, nowhere, at, at_from, AreApart}
-use Rattle.fab_site.specs.Index.{place_of, pad_index, index_of, site_count, block_from, held, IsIndexed}
-use Rattle.fab_site.proofs.Sites.{logic_bounds, index_there}
+use Rattle.fab_site.specs.Index.{place_of, pad_index, index_of, site_count, held, IsIndexed}
+use Rattle.fab_site.proofs.Sites.{logic_bounds}
 
 -- a row and a column of a table tell each other apart
 rows_apart : (n a b c d : ℕ) → b < n → d < n → a * n + b ≡ c * n + d → a < c → ⊥
@@ -203,11 +202,11 @@ at_push_here n (y ∷ ys) x s none h = elim (cases_Bool (same_site y s)) [
     no_some b h = cc
 
 -- no block of a list stands on a site where none of its places is that site
-none_there : (n : ℕ) (xs : List Site) (s : Site) → ((a : ℕ) → a < length xs → same_site (site_of xs a) s ≡ false) → at_from n xs s ≡ None
+pub none_there : (n : ℕ) (xs : List Site) (s : Site) → ((a : ℕ) → a < length xs → same_site (site_of xs a) s ≡ false) → at_from n xs s ≡ None
 none_there n [] s h = refl
 none_there n (x ∷ xs) s h = let k : same_site x s ≡ false = h 0 (omega arith) in rw k (none_there (n + 1) xs s (λ a lt. h (suc a) (omega arith)))
 
-false_of : (b : Bool) → (b ≡ true → ⊥) → b ≡ false
+pub false_of : (b : Bool) → (b ≡ true → ⊥) → b ≡ false
 false_of true h = absurd (h refl)
 false_of false h = refl
 

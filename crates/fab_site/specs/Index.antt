@@ -1,5 +1,5 @@
 -- The places of an array's sites in one flat table: logic sites by rows, then pad sites by position and sub (our own).
-use Rattle.std.specs.Prelude.{ℕ, ◌≡◌, ◌+◌, ◌-◌, ◌*◌, ◌<◌, ◌≤◌, Bool, if◌then◌else◌, nat_lt, nat_le, ◌&&◌, ◌==◌, List, [], ◌∷◌, length, Option, Some, None, slice_index, refl}
+use Rattle.std.specs.Prelude.{ℕ, ◌≡◌, ◌+◌, ◌-◌, ◌*◌, ◌≤◌, if◌then◌else◌, nat_lt, nat_le, ◌&&◌, ◌==◌, List, length, Option, Some, None, slice_index, refl}
 use Rattle.fab_arch.specs.declared.array.Site.{Site}
 use Rattle.fab_arch.specs.Grid.{GridShape, shape, is_logic_site}
 use Rattle.fab_net.specs.declared.pieces.BlockId.{BlockId}
@@ -31,6 +31,11 @@ block_from n = if n == 0 then None else Some (record { 0 = n - 1 })
 abbrev pub held : List ℕ → Option ℕ → Option BlockId
 held holders None = None
 held holders (Some i) = block_from (slice_index holders i)
+
+-- what stands in the table for a block, or for none
+abbrev pub number_for : Option BlockId → ℕ
+number_for None = 0
+number_for (Some b) = b.0 + 1
 
 -- the table holds, for every site, the block that stands there
 pub record IsIndexed (g : GridShape) (sites : List Site) (holders : List ℕ) : Type 0 where

@@ -41,6 +41,14 @@ with_other sites (Some b) site = slice_set sites b.0 site
 abbrev pub swapped : List Site → Swap → List Site
 swapped sites s = with_other (slice_set sites s.block.0 s.to) s.other s.from
 
+-- the swap is one of these sites (our own): its block stands at `from` and goes to another site of the same kind,
+-- and `other` is the block that stands there, if any
+pub record IsSwapOf (g : GridShape) (sites : List Site) (s : Swap) : Type 0 where
+  pub stands : slice_get sites s.block.0 ≡ Some s.from
+  pub away : ¬ (s.to ≡ s.from)
+  pub holder : at sites s.to ≡ s.other
+  pub kind : kind_at g s.to ≡ kind_at g s.from
+
 -- the kind of site that a block needs
 abbrev pub kind_wanted : Netlist → ℕ → SiteKind
 kind_wanted d b = if is_logic_at d b then site_kind.Logic else site_kind.Pad

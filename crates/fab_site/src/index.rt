@@ -1,8 +1,9 @@
 //! The flat table of an array's sites: where in it a site lies.
 
-ghost use Rattle.std.specs.Prelude.{◌≡◌, ℕ, ◌+◌, ◌-◌, ◌*◌, ◌<◌, ◌≤◌};
+ghost use Rattle.std.specs.Prelude.{◌≡◌, ℕ, ◌+◌, ◌-◌, ◌*◌, ◌^◌, ◌<◌, ◌≤◌, Some};
 ghost use Rattle.fab_arch.specs.Grid.{shape, is_logic_site};
-ghost use Rattle.fab_site.specs.Index.{place_of, pad_index, index_of, site_count, held};
+ghost use Rattle.fab_site.specs.Index.{place_of, pad_index, index_of, site_count, held, number_for};
+ghost use Rattle.fab_net.specs.declared.pieces.BlockId.{BlockId};
 
 use fab_arch::{Grid, Site};
 use fab_net::BlockId;
@@ -92,5 +93,16 @@ pub(crate) fn held(holders: &[u32], index: Option<usize>) -> Option<BlockId>
         Some(0) => None,
         Some(holder) => Some(BlockId(*holder - 1)),
         None => None,
+    }
+}
+
+/// The number that stands in the table for a site's block, or for none.
+pub(crate) fn number_for(holder: Option<BlockId>) -> u32
+    requires { (b : BlockId) → holder ≡ Some b → b.0 + 1 < 2 ^ 32 }
+    ensures { result ≡ number_for holder }
+{
+    match holder {
+        Some(block) => block.0 + 1,
+        None => 0,
     }
 }

@@ -2,12 +2,16 @@
 #![tactic(auto)]
 
 pub mod drafts;
+pub mod fixed;
 pub mod index;
+pub mod legal;
 pub mod pieces;
 pub mod places;
 #[cfg(test)]
 mod tests;
 
 pub use drafts::Draft;
+pub use fixed::Fixed;
+pub use legal::is_legal;
 pub use pieces::Swap;
 pub use places::Placement;

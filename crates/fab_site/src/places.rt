@@ -1,11 +1,13 @@
 //! A placement: the site of each block, and on each site its block, in two flat arrays.
 
-ghost use Rattle.std.specs.Prelude.{◌≡◌, ℕ, ◌<◌, ◌≤◌, [], length, is_some, IsTrue, IfOk};
+ghost use Rattle.std.specs.Prelude.{◌≡◌, ℕ, ◌+◌, ◌^◌, ◌<◌, ◌≤◌, [], length, is_some, slice_set, Some, IsTrue, IfOk};
 ghost use Rattle.fab_arch.specs.Grid.{kind_at};
-ghost use Rattle.fab_site.specs.Index.{IsIndexed};
-ghost use Rattle.fab_site.specs.Placement.{AreApart, IsLegal, site_of as site_of_block, at as block_at};
+ghost use Rattle.fab_net.specs.declared.pieces.BlockId.{BlockId};
+ghost use Rattle.fab_site.specs.Index.{IsIndexed, index_of, site_count, number_for};
+ghost use Rattle.fab_site.specs.Placement.{AreApart, IsLegal, IsSwapOf, swapped, site_of as site_of_block, at as block_at};
 
-use crate::index::{held, index_of, site_count};
+use crate::index::{held, index_of, number_for, site_count};
+use crate::pieces::Swap;
 use fab_arch::{Grid, Site};
 use fab_net::{BlockId, Design};
 use std::alloc::{AllocError, Global};
@@ -80,11 +82,30 @@ impl Placement {
         held(&self.holders, index_of(&self.grid, site))
     }
 
-    /// How many blocks stand on the array.
+    /// How many blocks stand on the array, no two on one site.
     pub fn blocks(&self) -> usize
-        ensures { result ≡ length self.now.sites }
+        ensures count { result ≡ length self.now.sites }
+        ensures apart { AreApart self.now.sites }
     {
         self.sites.len()
+    }
+
+    /// The blocks' sites, by number.
+    pub(crate) fn sites(&self) -> &[Site]
+        ensures { result.now ≡ self.now.sites }
+    {
+        &self.sites
+    }
+
+    /// Makes a swap: its block goes to `to`, and the block that stands there, if any, goes to `from`. The swap
+    /// is one of this placement by condition: it says who stands where, and both sites are of one kind.
+    pub fn apply(&mut self, swap: &Swap)
+        requires { IsSwapOf self.old.grid self.old.sites swap.now }
+        ensures { self.new ≡ record self.old { sites = swapped self.old.sites swap.now } }
+    {
+        set_holder(&self.grid, &mut self.holders, swap.to, Some(swap.block));
+        set_holder(&self.grid, &mut self.holders, swap.from, swap.other);
+        change_places(&mut self.sites, swap);
     }
 
     /// A second placement that gives each block the same site.
@@ -113,4 +134,29 @@ fn holders_of(alloc: Global, grid: &Grid, sites: &[Site]) -> Result<Vec<u32>, Al
         }
     }
     Ok(holders)
+}
+
+/// Writes into the table who stands on a site.
+fn set_holder(grid: &Grid, holders: &mut Vec<u32>, site: Site, holder: Option<BlockId>)
+    requires size { length holders.old.items ≡ site_count grid.now }
+    requires fits { (b : BlockId) → holder ≡ Some b → b.0 + 1 < 2 ^ 32 }
+    ensures size { length holders.new.items ≡ length holders.old.items }
+    ensures set { (i : ℕ) → index_of grid.now site ≡ Some i → holders.new.items ≡ slice_set holders.old.items i (number_for holder) }
+{
+    let number = number_for(holder);
+    if let Some(index) = index_of(grid, site) {
+        holders[index] = number;
+    }
+}
+
+/// Gives the swap's blocks their new sites.
+fn change_places(sites: &mut Vec<Site>, swap: &Swap)
+    requires block { swap.now.block.0 < length sites.old.items }
+    requires other { (b : BlockId) → swap.now.other ≡ Some b → b.0 < length sites.old.items }
+    ensures { sites.new.items ≡ swapped sites.old.items swap.now }
+{
+    sites[swap.block.0 as usize] = swap.to;
+    if let Some(other) = swap.other {
+        sites[other.0 as usize] = swap.from;
+    }
 }

@@ -1,8 +1,8 @@
-ghost use Rattle.std.specs.Prelude.{◌≡◌, ◌<◌, length};
+ghost use Rattle.std.specs.Prelude.{◌≡◌, ◌<◌, length, slice_get, Some, IfOk, IfSome};
 
-use crate::{Draft, Placement};
-use fab_arch::{Grid, Site};
-use fab_net::BlockId;
+use crate::{Draft, Fixed, Placement, Swap, is_legal};
+use fab_arch::{Grid, Site, read_arch};
+use fab_net::{BlockId, Design, read_net};
 use std::alloc::{AllocError, Global};
 use std::test::*;
 
@@ -26,11 +26,64 @@ fn give(draft: &mut Draft, grid: &Grid, block: BlockId, to: Site) -> bool
 }
 
 // The placement, where each block has its site.
-fn finished(alloc: Global, draft: Draft) -> Result<Option<Placement>, AllocError> {
+fn finished(alloc: Global, draft: Draft) -> Result<Option<Placement>, AllocError>
+    ensures { IfOk result (λ o. IfSome o (λ p. p.grid ≡ draft.grid)) }
+{
     match draft.first_missing() {
         Some(_) => Ok(None),
         None => Ok(Some(draft.finish(alloc)?)),
     }
+}
+
+// Blocks 0 and 1 on these sites, where the array has both and they are two.
+fn two_blocks(alloc: Global, grid: &Grid, first: Site, second: Site) -> Result<Placement, Fail>
+    ensures { IfOk result (λ p. p.grid ≡ grid.now) }
+{
+    let mut draft = Draft::new(alloc, 2, grid)?;
+    if give(&mut draft, grid, BlockId(0), first) && give(&mut draft, grid, BlockId(1), second) {
+        if let Some(placement) = finished(alloc, draft)? {
+            return Ok(placement);
+        }
+    }
+    Err(Fail::from("no placement"))
+}
+
+// Swaps a block to another site of the kind where it stands.
+fn move_to(placement: &mut Placement, grid: &Grid, block: BlockId, to: Site) -> bool
+    requires { placement.old.grid ≡ grid.now }
+    ensures { placement.new.grid ≡ placement.old.grid }
+{
+    let Some(from) = site_of(placement, block) else {
+        return false;
+    };
+    if from == to || grid.has_site(from) != grid.has_site(to) {
+        return false;
+    }
+    let other = placement.at(to);
+    placement.apply(&Swap {
+        block,
+        from,
+        to,
+        other,
+    });
+    true
+}
+
+// Where a block stands, if there is one of this number.
+fn site_of(placement: &Placement, block: BlockId) -> Option<Site>
+    ensures { IfSome result (λ s. slice_get placement.now.sites block.0 ≡ Some s) }
+{
+    if (block.0 as usize) < placement.blocks() {
+        Some(placement.site_of(block))
+    } else {
+        None
+    }
+}
+
+// An input pad a, block 0, and a logic block b, block 1.
+fn pad_and_logic(alloc: Global) -> Result<Design, Fail> {
+    let arch = read_arch(alloc, b"io_rat 2\ninpin class: 0 left\n")?;
+    Ok(read_net(alloc, b".input a\npinlist: n\n.clb b\npinlist: n\n", &arch)?)
 }
 
 #[test]
@@ -56,5 +109,102 @@ fn a_draft_becomes_a_placement(rt: HostRuntime) -> Result<(), Fail> {
     assert_eq!(rt; placement.at(site(1, 1, 0)), None);
     let copy = placement.copy()?;
     assert_eq!(rt; copy.at(site(0, 1, 1)), Some(BlockId(1)));
+    Ok(())
+}
+
+#[test]
+fn a_block_goes_to_an_empty_site(rt: HostRuntime) -> Result<(), Fail> {
+    let grid = Grid::new(2, 2, 2)?;
+    let mut placement = two_blocks(rt.alloc(), &grid, site(1, 1, 0), site(2, 2, 0))?;
+    assert!(rt; move_to(&mut placement, &grid, BlockId(0), site(2, 1, 0)));
+    assert_eq!(rt; site_of(&placement, BlockId(0)), Some(site(2, 1, 0)));
+    assert_eq!(rt; site_of(&placement, BlockId(1)), Some(site(2, 2, 0)));
+    assert_eq!(rt; placement.at(site(2, 1, 0)), Some(BlockId(0)));
+    assert_eq!(rt; placement.at(site(1, 1, 0)), None);
+    assert_eq!(rt; placement.at(site(2, 2, 0)), Some(BlockId(1)));
+    Ok(())
+}
+
+#[test]
+fn two_blocks_change_places(rt: HostRuntime) -> Result<(), Fail> {
+    let grid = Grid::new(2, 2, 2)?;
+    let mut placement = two_blocks(rt.alloc(), &grid, site(0, 1, 1), site(3, 2, 0))?;
+    assert!(rt; !move_to(&mut placement, &grid, BlockId(0), site(1, 1, 0)));
+    assert!(rt; move_to(&mut placement, &grid, BlockId(0), site(3, 2, 0)));
+    assert_eq!(rt; site_of(&placement, BlockId(0)), Some(site(3, 2, 0)));
+    assert_eq!(rt; site_of(&placement, BlockId(1)), Some(site(0, 1, 1)));
+    assert_eq!(rt; placement.at(site(3, 2, 0)), Some(BlockId(0)));
+    assert_eq!(rt; placement.at(site(0, 1, 1)), Some(BlockId(1)));
+    assert!(rt; move_to(&mut placement, &grid, BlockId(1), site(3, 2, 0)));
+    assert_eq!(rt; placement.at(site(0, 1, 1)), Some(BlockId(0)));
+    assert_eq!(rt; placement.at(site(3, 2, 0)), Some(BlockId(1)));
+    Ok(())
+}
+
+#[test]
+fn blocks_are_fixed(rt: HostRuntime) -> Result<(), Fail> {
+    let mut fixed = Fixed::none(rt.alloc());
+    assert_eq!(rt; fixed.site_of(BlockId(0)), None);
+    fixed.fix(BlockId(2), site(0, 1, 1))?;
+    fixed.fix(BlockId(0), site(1, 2, 0))?;
+    assert_eq!(rt; fixed.site_of(BlockId(0)), Some(site(1, 2, 0)));
+    assert_eq!(rt; fixed.site_of(BlockId(1)), None);
+    assert_eq!(rt; fixed.site_of(BlockId(2)), Some(site(0, 1, 1)));
+    assert_eq!(rt; fixed.site_of(BlockId(3)), None);
+    Ok(())
+}
+
+// Whether the pad on (0, 2, 1) and the logic block on (2, 2, 0) are legal on this array.
+fn legal_on(alloc: Global, grid: &Grid) -> Result<bool, Fail> {
+    let design = pad_and_logic(alloc)?;
+    let larger = Grid::new(2, 2, 2)?;
+    let placement = two_blocks(alloc, &larger, site(0, 2, 1), site(2, 2, 0))?;
+    Ok(is_legal(&design, grid, &Fixed::none(alloc), &placement))
+}
+
+// Whether they are legal where one block is fixed at a site.
+fn legal_with(alloc: Global, block: BlockId, at: Site) -> Result<bool, Fail> {
+    let design = pad_and_logic(alloc)?;
+    let grid = Grid::new(2, 2, 2)?;
+    let placement = two_blocks(alloc, &grid, site(0, 2, 1), site(2, 2, 0))?;
+    let mut fixed = Fixed::none(alloc);
+    fixed.fix(block, at)?;
+    Ok(is_legal(&design, &grid, &fixed, &placement))
+}
+
+#[test]
+fn legal_is_each_block_on_a_site_of_the_array(rt: HostRuntime) -> Result<(), Fail> {
+    assert!(rt; legal_on(rt.alloc(), &Grid::new(2, 2, 2)?)?);
+    assert!(rt; !legal_on(rt.alloc(), &Grid::new(1, 2, 2)?)?);
+    assert!(rt; !legal_on(rt.alloc(), &Grid::new(2, 2, 1)?)?);
+    Ok(())
+}
+
+#[test]
+fn legal_is_each_fixed_block_at_its_site(rt: HostRuntime) -> Result<(), Fail> {
+    assert!(rt; legal_with(rt.alloc(), BlockId(1), site(2, 2, 0))?);
+    assert!(rt; !legal_with(rt.alloc(), BlockId(1), site(1, 2, 0))?);
+    assert!(rt; !legal_with(rt.alloc(), BlockId(0), site(0, 2, 0))?);
+    assert!(rt; !legal_with(rt.alloc(), BlockId(2), site(1, 1, 0))?);
+    Ok(())
+}
+
+#[test]
+fn a_logic_block_on_a_pad_site_is_not_legal(rt: HostRuntime) -> Result<(), Fail> {
+    let design = pad_and_logic(rt.alloc())?;
+    let grid = Grid::new(2, 2, 2)?;
+    let crossed = two_blocks(rt.alloc(), &grid, site(2, 2, 0), site(0, 2, 1))?;
+    assert!(rt; !is_legal(&design, &grid, &Fixed::none(rt.alloc()), &crossed));
+    Ok(())
+}
+
+#[test]
+fn no_blocks_are_not_legal(rt: HostRuntime) -> Result<(), Fail> {
+    let design = pad_and_logic(rt.alloc())?;
+    let grid = Grid::new(2, 2, 2)?;
+    let draft = Draft::new(rt.alloc(), 0, &grid)?;
+    if let Some(placement) = finished(rt.alloc(), draft)? {
+        assert!(rt; !is_legal(&design, &grid, &Fixed::none(rt.alloc()), &placement));
+    }
     Ok(())
 }

@@ -1,5 +1,4 @@
-use Rattle.std.proofs.Common.{◌≡◌, ◌<◌, Some, length, sym, ◌∙◌, arith}
-use Rattle.fab_site.specs.Index.{index_of}
+use Rattle.std.proofs.Common.{sym, ◌∙◌, arith}
 use Rattle.fab_site.proofs.Tables.{index_below}
 use Rattle.fab_site.proofs.drafts.enter.Goals as goal
 

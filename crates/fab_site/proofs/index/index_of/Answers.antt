@@ -1,4 +1,4 @@
-use Rattle.std.proofs.Common.{◌≡◌, ◌≤◌, true, false, Some, refl, sym, ap, ◌∙◌}
+use Rattle.std.proofs.Common.{◌≡◌, true, false, refl, sym, ◌∙◌}
 use Rattle.fab_arch.specs.Grid.{is_logic_site}
 use Rattle.fab_site.specs.Index.{index_of}
 use Rattle.fab_site.proofs.Sites.{logic_bounds}

@@ -1,10 +1,10 @@
-use Rattle.std.proofs.Common.{◌≡◌, ℕ, ◌≤◌, true, false, Some, None, length, replicate, set, zero, suc, refl, sym, ap, ◌∙◌, arith}
+use Rattle.std.proofs.Common.{◌≡◌, ℕ, true, Some, None, replicate, zero, suc, refl, sym, ap, ◌∙◌, arith}
 use Rattle.std.specs.Prelude.{is_some, slice_index}
 use Rattle.std.proofs.lemmas.Bool.{false≢true}
-use Rattle.fab_site.specs.Index.{index_of, site_count}
+use Rattle.fab_site.specs.Index.{index_of}
 use Rattle.fab_site.specs.Placement.{site_of}
 use Rattle.fab_site.proofs.Sites.{index_there}
-use Rattle.fab_site.proofs.Tables.{IsFilled, index_below, filled_none, filled_step, filled_all}
+use Rattle.fab_site.proofs.Tables.{index_below, filled_none, filled_step, filled_all}
 use Rattle.fab_site.proofs.places.holders_of.Goals as goal
 use Rattle.fab_site.proofs.places.holders_of.Goals.{in-Some, in_default}
 

@@ -1,4 +1,4 @@
-use Rattle.std.proofs.Common.{◌≡◌, sym, ap, ◌∙◌}
+use Rattle.std.proofs.Common.{◌∙◌}
 use Rattle.fab_site.proofs.Drafting.{tabled_all}
 use Rattle.fab_site.proofs.drafts.Draft.finish.Goals as goal
 

@@ -1,4 +1,4 @@
-use Rattle.std.proofs.Common.{ℕ, ◌≡◌, Option, None, length, replicate, zero, suc, refl, sym, ap, arith}
+use Rattle.std.proofs.Common.{ℕ, ◌≡◌, length, replicate, zero, suc, refl, arith}
 use Rattle.std.specs.Prelude.{slice_index}
 use Rattle.fab_site.specs.Index.{site_count}
 use Rattle.fab_site.proofs.Drafting.{tabled_none}

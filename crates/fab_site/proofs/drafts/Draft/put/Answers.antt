@@ -1,4 +1,3 @@
-use Rattle.std.proofs.Common.{◌≡◌, sym, ap, ◌∙◌}
 use Rattle.fab_site.proofs.Sites.{index_there}
 use Rattle.fab_site.proofs.Drafting.{tabled_enter}
 use Rattle.fab_site.proofs.drafts.Draft.put.Goals as goal

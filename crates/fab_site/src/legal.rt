@@ -1,0 +1,81 @@
+//! Whether a placement is legal.
+
+ghost use Rattle.std.specs.Prelude.{◌≡◌, ◌↔◌, ℕ, ◌<◌, length, if◌then◌else◌, slice_get, Some, IsTrue};
+ghost use Rattle.fab_arch.specs.declared.array.Site.{Site};
+ghost use Rattle.fab_arch.specs.declared.array.SiteKind.TheVariants.{Logic, Pad};
+ghost use Rattle.fab_net.specs.Netlist.{is_logic};
+ghost use Rattle.fab_site.specs.Placement.{Fits, IsLegal, fixed_at, site_of};
+
+use crate::fixed::Fixed;
+use crate::places::Placement;
+use fab_arch::{Grid, Site, SiteKind};
+use fab_net::{BlockId, BlockKind, Design};
+
+/// Whether each of the design's blocks stands on a site of its kind, no two on one, and each fixed block where
+/// it is fixed. Takes no memory.
+pub fn is_legal(design: &Design, grid: &Grid, fixed: &Fixed, placement: &Placement) -> bool
+    ensures { IsTrue result ↔ IsLegal design.now grid.now fixed.now placement.now.sites }
+{
+    placement.blocks() == design.blocks()
+        && all_fit(design, grid, placement.sites())
+        && all_stay(fixed.sites(), placement.sites())
+}
+
+/// Whether each block stands on a site of its kind.
+fn all_fit(design: &Design, grid: &Grid, sites: &[Site]) -> bool
+    requires { length sites.now ≡ length design.now.kinds }
+    ensures { IsTrue result ↔ ((b : ℕ) → b < length sites.now → Fits design.now grid.now b (site_of sites.now b)) }
+{
+    for block in 0..sites.len() {
+        if !fits(design, grid, block, sites[block]) {
+            return false;
+        }
+    }
+    true
+}
+
+/// Whether a site is one of the array's, of a block's kind.
+fn fits(design: &Design, grid: &Grid, block: usize, site: Site) -> bool
+    requires { block < length design.now.kinds }
+    ensures { IsTrue result ↔ Fits design.now grid.now block site }
+{
+    let _blocks = design.blocks();
+    let kind = design.kind(BlockId(block as u32));
+    match grid.has_site(site) {
+        Some(found) => found == wanted(kind),
+        None => false,
+    }
+}
+
+/// The kind of site for a kind of block.
+fn wanted(kind: BlockKind) -> SiteKind
+    ensures { result ≡ (if is_logic kind then Logic else Pad) }
+{
+    match kind {
+        BlockKind::Logic => SiteKind::Logic,
+        BlockKind::InputPad | BlockKind::OutputPad => SiteKind::Pad,
+    }
+}
+
+/// Whether each fixed block stands where it is fixed.
+fn all_stay(fixed: &[Option<Site>], sites: &[Site]) -> bool
+    ensures { IsTrue result ↔ ((b : ℕ) (s : Site) → fixed_at fixed.now b ≡ Some s → slice_get sites.now b ≡ Some s) }
+{
+    for block in 0..fixed.len() {
+        if !stays(fixed[block], sites, block) {
+            return false;
+        }
+    }
+    true
+}
+
+/// Whether a block stands where it is fixed, if it is.
+fn stays(fixed: Option<Site>, sites: &[Site], block: usize) -> bool
+    ensures { IsTrue result ↔ ((s : Site) → fixed ≡ Some s → slice_get sites.now block ≡ Some s) }
+{
+    match (fixed, sites.get(block)) {
+        (Some(site), Some(at)) => *at == site,
+        (Some(_), None) => false,
+        (None, _) => true,
+    }
+}
