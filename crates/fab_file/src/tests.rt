@@ -1,8 +1,9 @@
 use crate::{PlaceFault, PlaceLines, place_size, read_place};
 use fab_arch::{Grid, Site, read_arch};
-use fab_net::{BlockId, read_net};
+use fab_net::{BlockId, Design, read_net};
+use fab_site::Placement;
 use fab_text::Lines;
-use std::alloc::Global;
+use std::alloc::{AllocError, Global};
 use std::test::*;
 
 // The size, and None where it is refused for its header; anything else fails the test.
@@ -77,32 +78,49 @@ fn site(x: u16, y: u16, sub: u16) -> Site {
     Site { x, y, sub }
 }
 
-// The sites of the three blocks, or why the text gives none on one logic site.
-fn read(alloc: Global, text: &[u8]) -> Result<Result<[Site; 3], PlaceFault>, Fail> {
+fn design(alloc: Global) -> Result<Design, Fail> {
     let arch = read_arch(alloc, ARCH)?;
-    let design = read_net(alloc, NET, &arch)?;
-    let grid = Grid::new(1, 1, arch.io_rat)?;
-    match read_place(alloc, text, &design, &grid) {
-        Ok(placement) => {
-            if placement.blocks() != 3 {
-                return Err(Fail::from("not three blocks"));
-            }
-            let found = [
-                placement.site_of(BlockId(0)),
-                placement.site_of(BlockId(1)),
-                placement.site_of(BlockId(2)),
-            ];
-            Ok(Ok(found))
-        }
-        Err(fault) => Ok(Err(fault)),
+    Ok(read_net(alloc, NET, &arch)?)
+}
+
+// What a text is read to, on one logic site.
+fn read(alloc: Global, text: &[u8]) -> Result<Result<Placement, PlaceFault>, Fail> {
+    let grid = Grid::new(1, 1, 1)?;
+    let design = design(alloc)?;
+    Ok(read_place(alloc, text, &design, &grid))
+}
+
+// The sites of three blocks.
+fn three_sites(placement: &Placement) -> Option<[Site; 3]> {
+    if placement.blocks() == 3 {
+        Some([
+            placement.site_of(BlockId(0)),
+            placement.site_of(BlockId(1)),
+            placement.site_of(BlockId(2)),
+        ])
+    } else {
+        None
     }
 }
 
-// The same, of the header and these lines.
-fn read_lines(alloc: Global, lines: &[u8]) -> Result<Result<[Site; 3], PlaceFault>, Fail> {
+// The sites that a text gives.
+fn sites_in(alloc: Global, text: &[u8]) -> Result<Option<[Site; 3]>, Fail> {
+    match read(alloc, text)? {
+        Ok(placement) => Ok(three_sites(&placement)),
+        Err(_) => Ok(None),
+    }
+}
+
+// Why a text stands for no placement.
+fn fault_in(alloc: Global, text: &[u8]) -> Result<Option<PlaceFault>, Fail> {
+    Ok(read(alloc, text)?.err())
+}
+
+// The header and these lines.
+fn text_of(alloc: Global, lines: &[u8]) -> Result<Vec<u8>, AllocError> {
     let mut text = Vec::from_slice(alloc, HEADER)?;
     text.extend_from_slice(lines)?;
-    read(alloc, text.as_slice())
+    Ok(text)
 }
 
 #[test]
@@ -114,15 +132,10 @@ fn placements_are_read(rt: HostRuntime) -> Result<(), Fail> {
         b"z 2 \\\r\n 1 0\r\n\r\na 00 01 000 # left\nb 1 1 \\\n0\n",
         b"b 1 1 0 #b 1 1 0\n\n a 0 1 0\n\tz 2 1 0\t",
     ];
+    let wanted = [site(0, 1, 0), site(2, 1, 0), site(1, 1, 0)];
     for lines in rows {
-        match read_lines(alloc, lines)? {
-            Ok(sites) => {
-                assert_eq!(rt; sites[0], site(0, 1, 0));
-                assert_eq!(rt; sites[1], site(2, 1, 0));
-                assert_eq!(rt; sites[2], site(1, 1, 0));
-            }
-            Err(fault) => return Err(fault.into()),
-        }
+        let text = text_of(alloc, lines)?;
+        assert_eq!(rt; sites_in(alloc, text.as_slice())?, Some(wanted));
     }
     Ok(())
 }
@@ -147,10 +160,8 @@ fn the_first_faulty_line_is_told(rt: HostRuntime) -> Result<(), Fail> {
         (b"a 0 \\\n1 -0\nq\n", PlaceFault::BadLine(6)),
     ];
     for (lines, fault) in rows {
-        match read_lines(alloc, lines)? {
-            Ok(_) => return Err(Fail::from("a faulty text was read")),
-            Err(told) => assert_eq!(rt; told, fault),
-        }
+        let text = text_of(alloc, lines)?;
+        assert_eq!(rt; fault_in(alloc, text.as_slice())?, Some(fault));
     }
     Ok(())
 }
@@ -171,10 +182,7 @@ fn another_size_is_refused_before_the_blocks(rt: HostRuntime) -> Result<(), Fail
         (b"", PlaceFault::BadHeader),
     ];
     for (text, fault) in rows {
-        match read(alloc, text)? {
-            Ok(_) => return Err(Fail::from("a faulty header was read")),
-            Err(told) => assert_eq!(rt; told, fault),
-        }
+        assert_eq!(rt; fault_in(alloc, text)?, Some(fault));
     }
     Ok(())
 }
@@ -187,29 +195,39 @@ fn take_next(lines: &mut Lines, placed: &mut PlaceLines) -> Result<Option<PlaceF
     }
 }
 
+// What four lines and their end are told.
+fn told(
+    alloc: Global,
+    design: &Design,
+    grid: &Grid,
+    text: &[u8],
+) -> Result<[Option<PlaceFault>; 5], Fail> {
+    let mut placed = PlaceLines::new(alloc, design, grid)?;
+    let mut lines = Lines::new(alloc, text);
+    let one = take_next(&mut lines, &mut placed)?;
+    let two = take_next(&mut lines, &mut placed)?;
+    let three = take_next(&mut lines, &mut placed)?;
+    let four = take_next(&mut lines, &mut placed)?;
+    Ok([one, two, three, four, placed.finish().err()])
+}
+
 #[test]
 fn a_refused_line_changes_nothing(rt: HostRuntime) -> Result<(), Fail> {
-    let alloc = rt.alloc();
-    let arch = read_arch(alloc, ARCH)?;
-    let design = read_net(alloc, NET, &arch)?;
-    let grid = Grid::new(1, 1, arch.io_rat)?;
-    let mut lines = Lines::new(alloc, b"a 0 1 0\nz 0 1 0\nz 1 1 0\nz 2 1 0\n");
-    let mut placed = PlaceLines::new(alloc, &design, &grid)?;
-    assert_eq!(rt; take_next(&mut lines, &mut placed)?, None);
-    assert_eq!(rt;
-        take_next(&mut lines, &mut placed)?,
-        Some(PlaceFault::Taken(2))
-    );
-    assert_eq!(rt;
-        take_next(&mut lines, &mut placed)?,
-        Some(PlaceFault::WrongKind(3))
-    );
-    assert_eq!(rt; take_next(&mut lines, &mut placed)?, None);
-    match placed.finish() {
-        Ok(_) => Err(Fail::from("a block has no line")),
-        Err(fault) => {
-            assert_eq!(rt; fault, PlaceFault::Missing(2));
-            Ok(())
-        }
-    }
+    let grid = Grid::new(1, 1, 1)?;
+    let design = design(rt.alloc())?;
+    let told = told(
+        rt.alloc(),
+        &design,
+        &grid,
+        b"a 0 1 0\nz 0 1 0\nz 1 1 0\nz 2 1 0\n",
+    )?;
+    let wanted = [
+        None,
+        Some(PlaceFault::Taken(2)),
+        Some(PlaceFault::WrongKind(3)),
+        None,
+        Some(PlaceFault::Missing(2)),
+    ];
+    assert_eq!(rt; told, wanted);
+    Ok(())
 }

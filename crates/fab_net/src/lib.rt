@@ -9,6 +9,8 @@ pub mod pieces;
 pub mod pins;
 pub mod reading;
 pub mod rows;
+#[cfg(test)]
+mod tests;
 
 pub use design::Design;
 pub use fault::NetFault;
