@@ -1,3 +1,4 @@
 pub mod Placement
 pub mod Index
 pub mod Draft
+pub mod Pins

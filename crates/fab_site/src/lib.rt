@@ -6,6 +6,7 @@ pub mod fixed;
 pub mod index;
 pub mod legal;
 pub mod pieces;
+pub mod pins;
 pub mod places;
 #[cfg(test)]
 mod tests;
@@ -14,4 +15,5 @@ pub use drafts::Draft;
 pub use fixed::Fixed;
 pub use legal::is_legal;
 pub use pieces::Swap;
+pub use pins::Pins;
 pub use places::Placement;
