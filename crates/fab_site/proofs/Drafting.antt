@@ -87,7 +87,7 @@ holder_other n (Some y ∷ os) zero x s h k = absurd (none_some y (sym (inner (S
     inner u v h = cc
 holder_other n (o ∷ os) (suc b) x s h k = ap (cond (is_site o s) (Some (record { 0 = n }))) (holder_other (n + 1) os b x s h k)
 
-held_by : (n : ℕ) (os : List (Option Site)) (a : ℕ) (s : Site) → slice_get os a ≡ Some (Some s) → holder_from n os s ≡ None → ⊥
+pub held_by : (n : ℕ) (os : List (Option Site)) (a : ℕ) (s : Site) → slice_get os a ≡ Some (Some s) → holder_from n os s ≡ None → ⊥
 held_by n [] a s h k = none_some (Some s) h
 held_by n (o ∷ os) zero s h k =
     let is : is_site o s ≡ true = ap (λ x. is_site x s) (inner o (Some s) h) ∙ itself s in

@@ -4,3 +4,7 @@ pub mod Drafting
 pub mod Swaps
 pub mod Swapping
 pub mod Legality
+pub mod AllSites
+pub mod Stock
+pub mod Dealing
+pub mod Drawing

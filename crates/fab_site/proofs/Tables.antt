@@ -44,7 +44,7 @@ within_is n v h = let a = and_parts (nat_le 1 v) (nat_le v n) h in (leb-true 1 v
 none_is_some : (p : ℕ) → None ≡ Some p → ⊥
 none_is_some p h = cc
 
-place_is : (nx ny x y p : ℕ) → place_of nx ny x y ≡ Some p → IsPlace nx ny x y p
+pub place_is : (nx ny x y p : ℕ) → place_of nx ny x y ≡ Some p → IsPlace nx ny x y p
 place_is nx ny x y p h = elim (cases_Bool (nat_le 1 y && nat_le y ny)) [
   | inl rows ↦
       let w = within_is ny y rows in
@@ -139,7 +139,7 @@ index_is g s i h = elim (cases_Bool (is_logic_site g s)) [
   | inr n ↦ inr (pad_index_is g s i (place_of g.nx g.ny s.x s.y) refl (rw n at h))
 ]
 
-logic_below : (g : GridShape) (s : Site) (i : ℕ) → IsLogicIndex g s i → i < g.nx * g.ny
+pub logic_below : (g : GridShape) (s : Site) (i : ℕ) → IsLogicIndex g s i → i < g.nx * g.ny
 logic_below g s i h =
     let b = logic_bounds g s h.logic in
     let room : (s.y - 1 + 1) * g.nx ≤ g.ny * g.nx = mul-le-mul_right g.nx (omega (arith, b.y_low, b.y_high)) in

@@ -2,3 +2,5 @@ pub mod Placement
 pub mod Index
 pub mod Draft
 pub mod Pins
+pub mod Words
+pub mod Start

@@ -8,8 +8,10 @@ pub mod legal;
 pub mod pieces;
 pub mod pins;
 pub mod places;
+pub mod starting;
 #[cfg(test)]
 mod tests;
+pub mod words;
 
 pub use drafts::Draft;
 pub use fixed::Fixed;
@@ -17,3 +19,5 @@ pub use legal::is_legal;
 pub use pieces::Swap;
 pub use pins::Pins;
 pub use places::Placement;
+pub use starting::start;
+pub use words::{ListWords, Words, pick};

@@ -1,0 +1,20 @@
+-- Random words: what a start placement and moves draw from (our own).
+use Rattle.std.specs.Prelude.{ℕ, ◌≡◌, ◌-◌, ◌*◌, ◌/◌, ◌^◌, List, [], ◌∷◌, slice_index_or, refl}
+
+-- a choice among so many, by a word of 32 bits
+abbrev pub pick_of : ℕ → ℕ → ℕ
+pick_of w n = w * n / 2 ^ 32
+
+-- the word at a place of a list, 0 beyond its end
+abbrev pub word_at : List ℕ → ℕ → ℕ
+word_at words i = slice_index_or words i 0
+
+-- the words of a move, all 0 beyond the end of a list
+abbrev pub words_at : List (List ℕ) → ℕ → List ℕ
+words_at moves k = slice_index_or moves k (0 ∷ 0 ∷ 0 ∷ 0 ∷ [])
+
+pub the_middle_word : pick_of (2 ^ 31) 3 ≡ 1
+the_middle_word = refl
+
+pub the_last_word : pick_of (2 ^ 32 - 1) 3 ≡ 2
+the_last_word = refl

@@ -1,0 +1,56 @@
+//! Random words, from which a start placement and moves draw.
+
+ghost use Rattle.std.specs.Prelude.{◌≡◌, ℕ, ◌<◌, List};
+ghost use Rattle.fab_site.specs.Words.{pick_of, word_at, words_at};
+
+/// Random words of 32 bits. Each answer is a function of the number that is asked for.
+pub trait Words {
+    /// The four words of each move.
+    ghost moves: { Self → ℕ → List ℕ };
+
+    /// The start words.
+    ghost starts: { Self → ℕ → ℕ };
+
+    /// The four words of a move.
+    fn move_words(&self, k: u64) -> [u32; 4]
+        ensures { result ≡ moves self.now k };
+
+    /// The start word of a number.
+    fn start_word(&self, i: u32) -> u32
+        ensures { result ≡ starts self.now i };
+}
+
+/// Words that were given; beyond the ends of its lists every word is 0.
+#[derive(Drop)]
+pub struct ListWords {
+    pub starts: Vec<u32>,
+    pub moves: Vec<[u32; 4]>,
+}
+
+impl Words for ListWords {
+    ghost moves = { λ w. words_at w.moves.items };
+
+    ghost starts = { λ w. word_at w.starts.items };
+
+    fn move_words(&self, k: u64) -> [u32; 4] {
+        match self.moves.get(k as usize) {
+            Some(words) => *words,
+            None => [0; 4],
+        }
+    }
+
+    fn start_word(&self, i: u32) -> u32 {
+        match self.starts.get(i as usize) {
+            Some(word) => *word,
+            None => 0,
+        }
+    }
+}
+
+/// A choice among so many, by a word: `floor(w * n / 2^32)`, so below `n` where `n` is not 0.
+pub fn pick(w: u32, n: u32) -> u32
+    ensures value { result ≡ pick_of w n }
+    ensures below { 0 < n → result < n }
+{
+    ((u64::from(w) * u64::from(n)) >> 32) as u32
+}
