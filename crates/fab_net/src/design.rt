@@ -33,7 +33,7 @@ impl Design {
     ghost use Rattle.std.specs.Option.{option_map};
     ghost use Rattle.fab_net.specs.BlockNets.{block_nets as nets_by_block, net_id};
     ghost use Rattle.fab_net.specs.Names.{number_of};
-    ghost use Rattle.fab_net.specs.Netlist.{IsLawful, net_at, nets_of as nets_on_block, logic_count};
+    ghost use Rattle.fab_net.specs.Netlist.{IsLawful, net_at, nets_of as nets_on_block, logic_count, pad_count};
     ghost use Rattle.fab_net.specs.Shown.{netlist};
 
     /// A design of its parts. Callers read designs by `read_net`.
@@ -80,6 +80,16 @@ impl Design {
         self.kinds
             .iter()
             .filter(|kind| **kind == BlockKind::Logic)
+            .count()
+    }
+
+    /// How many blocks are pads.
+    pub fn pads(&self) -> usize
+        ensures { result ≡ pad_count self.now }
+    {
+        self.kinds
+            .iter()
+            .filter(|kind| **kind != BlockKind::Logic)
             .count()
     }
 

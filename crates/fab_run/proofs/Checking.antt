@@ -22,27 +22,6 @@ use Rattle.fab_run.specs.RunFaults.{of_arch, of_net, of_place}
 use Rattle.fab_run.specs.Check.{MeanDesign, FitsOn, AreChecked, FaultOf, IsTextFault, failed_with}
 use Rattle.fab_net.specs.Netlist.{Netlist, is_logic, logic_count, pad_count}
 
-both_kinds : {X : Type 0} (p : X → Bool) (xs : List X) → count_by p xs + count_by (λ x. not (p x)) xs ≡ length xs
-both_kinds p [] = refl
-both_kinds p (x ∷ xs) =
-    let one = sum_by-cons (λ x. cond (p x) 1 0) x xs in
-    let two = sum_by-cons (λ x. cond (not (p x)) 1 0) x xs in
-    let rest = both_kinds p xs in
-    elim (cases_Bool (p x)) [
-      | inl y ↦
-          let a : ◌≡◌ {A = ℕ} (cond (p x) 1 0) 1 = rw y refl in
-          let b : ◌≡◌ {A = ℕ} (cond (not (p x)) 1 0) 0 = rw y refl in
-          omega (arith, one, two, rest, a, b)
-      | inr n ↦
-          let a : ◌≡◌ {A = ℕ} (cond (p x) 1 0) 0 = rw n refl in
-          let b : ◌≡◌ {A = ℕ} (cond (not (p x)) 1 0) 1 = rw n refl in
-          omega (arith, one, two, rest, a, b)
-    ]
-
--- the blocks that are no logic blocks are pads
-pub other_blocks : (d : Netlist) → length d.kinds - logic_count d ≡ pad_count d
-other_blocks d = let h = both_kinds is_logic d.kinds in omega (arith, h)
-
 -- a fault of a text is not one of the report's writer
 
 pub arch_text : (e : ArchFault) → IsTextFault (of_arch e)

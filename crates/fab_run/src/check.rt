@@ -4,7 +4,7 @@ ghost use Rattle.std.specs.Prelude.{◌≡◌, ◌≢◌, ◌<◌, ◌^◌, ◌�
 ghost use Rattle.fab_arch.specs.declared.array.Site.{Site};
 ghost use Rattle.fab_arch.specs.Grid.{GridShape};
 ghost use Rattle.fab_text.specs.Lines.{lines};
-ghost use Rattle.fab_net.specs.Netlist.{Netlist, pad_count};
+ghost use Rattle.fab_net.specs.Netlist.{Netlist};
 ghost use Rattle.fab_file.specs.Place.{place_size_of};
 ghost use Rattle.fab_cost.specs.Cost.{cost_of};
 ghost use Rattle.fab_run.specs.CheckReport.{check_report};
@@ -33,13 +33,6 @@ fn read_design(alloc: Global, arch: &[u8], net: &[u8]) -> Result<(u16, Design), 
     Ok((arch.io_rat, design))
 }
 
-/// How many blocks of a design are pads.
-fn pads(design: &Design) -> usize
-    ensures { result ≡ pad_count design.now }
-{
-    design.blocks() - design.logic_blocks()
-}
-
 /// The array that the header of a placement text gives, where it holds the design; else the header's fault, or that
 /// of the size.
 fn read_array(alloc: Global, place: &[u8], design: &Design, io_rat: u16) -> Result<Grid, RunFault>
@@ -50,7 +43,7 @@ fn read_array(alloc: Global, place: &[u8], design: &Design, io_rat: u16) -> Resu
 {
     let (nx, ny) = place_size(alloc, place)?;
     let grid = Grid::new(nx, ny, io_rat)?;
-    grid.holds(design.logic_blocks(), pads(design))?;
+    grid.holds(design.logic_blocks(), design.pads())?;
     Ok(grid)
 }
 

@@ -122,15 +122,12 @@ came xs j i hj hi =
           record {
             was = length xs - 1;
             below = omega arith;
-            other = λ k. absurd_by (omega (arith, k, e, hi));
+            other = λ k. omega (arith, k, e, hi);
             from = inr (e, refl);
             same = front ∙ ap (site_of (set xs j last)) e ∙ get_or-set_same xs j last nowhere hj;
           }
       | inr n ↦ record { was = i; below = omega arith; other = n; from = inl refl; same = front ∙ get_or-set_other xs j i last nowhere n }
     ]
-  where
-    absurd_by : ⊥ → ⊥
-    absurd_by h = h
 
 without_apart : (xs : List Site) (j : ℕ) → j < length xs → AreApart xs → AreApart (without xs j)
 without_apart xs j hj apart a b la lb e =

@@ -1,6 +1,6 @@
-ghost use Rattle.std.specs.Prelude.{◌≡◌, ◌<◌, length, slice_get, Some, IfOk, IfSome};
+ghost use Rattle.std.specs.Prelude.{◌≡◌, ◌<◌, [], length, slice_get, Some, IfOk, IfSome};
 
-use crate::{Draft, Fixed, Placement, Swap, is_legal};
+use crate::{Draft, Fixed, ListWords, Pins, Placement, Swap, Words, is_legal, pick, start};
 use fab_arch::{Grid, Site, read_arch};
 use fab_net::{BlockId, Design, read_net};
 use std::alloc::{AllocError, Global};
@@ -206,5 +206,96 @@ fn no_blocks_are_not_legal(rt: HostRuntime) -> Result<(), Fail> {
     if let Some(placement) = finished(rt.alloc(), draft)? {
         assert!(rt; !is_legal(&design, &grid, &Fixed::none(rt.alloc()), &placement));
     }
+    Ok(())
+}
+
+// The words that are 0 but for these start words.
+fn start_words(alloc: Global, starts: &[u32]) -> Result<ListWords, AllocError> {
+    Ok(ListWords {
+        starts: Vec::from_slice(alloc, starts)?,
+        moves: Vec::new(alloc),
+    })
+}
+
+fn no_pins(alloc: Global) -> Pins
+    ensures { (result.fixed ≡ []) × (result.begun ≡ []) }
+{
+    Pins {
+        fixed: Fixed::none(alloc),
+        begun: Fixed::none(alloc),
+    }
+}
+
+// The start placement with no block given, where the array holds the design.
+fn started(
+    alloc: Global,
+    design: &Design,
+    grid: &Grid,
+    starts: &[u32],
+) -> Result<Option<Placement>, AllocError> {
+    if grid.holds(design.logic_blocks(), design.pads()).is_err() {
+        return Ok(None);
+    }
+    let words = start_words(alloc, starts)?;
+    let placement = start(alloc, design, grid, &no_pins(alloc), &words)?;
+    Ok(Some(placement))
+}
+
+// A pad and two logic blocks.
+fn three_blocks(alloc: Global) -> Result<Design, Fail> {
+    let arch = read_arch(alloc, b"io_rat 1\ninpin class: 0 global top\n")?;
+    let text =
+        b".global clk\n.input ck\npinlist: clk\n.clb b1\npinlist: clk\n.clb b2\npinlist: clk\n";
+    Ok(read_net(alloc, text, &arch)?)
+}
+
+// The sites of three blocks at the start, on an array of 2 by 2.
+fn three_started(alloc: Global, starts: &[u32]) -> Result<Option<[Site; 3]>, Fail> {
+    let grid = Grid::new(2, 2, 1)?;
+    let design = three_blocks(alloc)?;
+    match started(alloc, &design, &grid, starts)? {
+        Some(placement) => Ok(three_sites(&placement)),
+        None => Ok(None),
+    }
+}
+
+fn three_sites(placement: &Placement) -> Option<[Site; 3]> {
+    if placement.blocks() == 3 {
+        Some([
+            placement.site_of(BlockId(0)),
+            placement.site_of(BlockId(1)),
+            placement.site_of(BlockId(2)),
+        ])
+    } else {
+        None
+    }
+}
+
+#[test]
+fn blocks_draw_their_start_sites(rt: HostRuntime) -> Result<(), Fail> {
+    let alloc = rt.alloc();
+    let first = [site(0, 1, 0), site(1, 1, 0), site(2, 2, 0)];
+    assert_eq!(rt; three_started(alloc, &[])?, Some(first));
+    // The pad draws the fifth of 8 positions, the logic blocks the third of 4 and then the third of 3.
+    let second = [site(3, 2, 0), site(1, 2, 0), site(2, 2, 0)];
+    assert_eq!(rt;
+        three_started(alloc, &[2_147_483_648, 2_147_483_648, 4_294_967_295])?,
+        Some(second)
+    );
+    Ok(())
+}
+
+#[test]
+fn listed_words_end_in_zeros(rt: HostRuntime) -> Result<(), Fail> {
+    let alloc = rt.alloc();
+    let mut words = start_words(alloc, &[7, 8])?;
+    words.moves.push([1, 2, 3, 4])?;
+    assert_eq!(rt; (words.start_word(1), words.start_word(2)), (8, 0));
+    assert_eq!(rt; words.move_words(0), [1, 2, 3, 4]);
+    assert_eq!(rt; words.move_words(1), [0; 4]);
+    assert_eq!(rt;
+        (pick(4_294_967_295, 3), pick(2_147_483_648, 3), pick(5, 0)),
+        (2, 1, 0)
+    );
     Ok(())
 }
