@@ -38,11 +38,7 @@ fn has_header(alloc: Global, bytes: &[u8]) -> Result<bool, AllocError>
 }
 
 /// The lines of a text behind its header, which must be of this array, or all lines where there is no header.
-fn block_lines<'a>(
-    alloc: Global,
-    bytes: &'a [u8],
-    grid: &Grid,
-) -> Result<Lines<'a>, PlaceFault>
+fn block_lines<'a>(alloc: Global, bytes: &'a [u8], grid: &Grid) -> Result<Lines<'a>, PlaceFault>
     ensures rest { IfOk result (λ left. left ≡ block_lines (lines bytes.now)) }
     ensures ok { OnOk result (header_fault grid.now (lines bytes.now) ≡ None) }
     ensures fault { IfErr result (λ e. FaultIs e (header_fault grid.now (lines bytes.now))) }
@@ -90,7 +86,9 @@ fn keep(sites: &mut Fixed, design: &Design, line: &Line) -> Result<(), AllocErro
     requires { (b : ℕ) (s : Site) → site_for design.now b (shown line.now) ≡ Some s → fixed_at sites.old b ≡ None }
     ensures { OnOk result ((b : ℕ) → fixed_at sites.new b ≡ either_site (fixed_at sites.old b) (site_for design.now b (shown line.now))) }
 {
-    if let Some(block) = design.block_named(word_at(line, 0)) && let Some(site) = site_in(line) {
+    if let Some(block) = design.block_named(word_at(line, 0))
+        && let Some(site) = site_in(line)
+    {
         sites.fix(block, site)?;
     }
     Ok(())

@@ -36,7 +36,7 @@ pub returns-in_err-take-clause-only : goal.returns-in_err-take-clause-only
 returns-in_err-take-clause-only c fixed begun one =
     let next : c.loop-begun.left ≡ shown c.in-Some.line ∷ c.next.new.self = rw c.in-Some.is at c.in_ok-line.ensures.some in
     let here = rw next at c.loop-begun.invariant in
-    let refused = rw c.without_free-line.ensures at c.in_err-take.ensures.fault in
+    let refused = ap (take_fault c.loop-begun.placed) (sym c.without_free-line.ensures) ∙ c.in_err-take.ensures.fault in
     let first = fails c.args.design.now c.args.grid.now (lines c.args.bytes.now) c.next.new.self (shown c.in-Some.line) c.loop-begun.placed c.loop-begun.fixed c.loop-begun.begun _ here refused in
     absurd (none_some _ (sym (no_fault_in c.args.design.now c.args.grid.now (lines c.args.bytes.now) fixed begun one) ∙ first))
 
@@ -45,7 +45,7 @@ returns-in_err-take-clause-fault c =
     let p = err_from_is_err_and c.from_residual-in_err-take.result c.from_residual-in_err-take.ensures.1 in
     let next : c.loop-begun.left ≡ shown c.in-Some.line ∷ c.next.new.self = rw c.in-Some.is at c.in_ok-line.ensures.some in
     let here = rw next at c.loop-begun.invariant in
-    let refused = rw c.without_free-line.ensures at c.in_err-take.ensures.fault in
+    let refused = ap (take_fault c.loop-begun.placed) (sym c.without_free-line.ensures) ∙ c.in_err-take.ensures.fault in
     let first = fails c.args.design.now c.args.grid.now (lines c.args.bytes.now) c.next.new.self (shown c.in-Some.line) c.loop-begun.placed c.loop-begun.fixed c.loop-begun.begun _ here refused in
     rw (p.1, p.2) (fault_is _ _ first)
 
@@ -53,16 +53,16 @@ pub keep-requires : goal.keep-requires
 keep-requires c b s h =
     let next : c.loop-begun.left ≡ shown c.in-Some.line ∷ c.next.new.self = rw c.in-Some.is at c.in_ok-line.ensures.some in
     let here = rw next at c.loop-begun.invariant in
-    let taken = rw c.without_free-line.ensures at c.in_ok-take.ensures.ok in
-    let given = rw c.without_free-line.ensures at h in
+    let taken = ap (take_fault c.loop-begun.placed) (sym c.without_free-line.ensures) ∙ c.in_ok-take.ensures.ok in
+    let given = ap (site_for c.args.design.now b) (sym c.without_free-line.ensures) ∙ h in
     (is_new c.args.design.now c.args.grid.now (lines c.args.bytes.now) c.next.new.self (shown c.in-Some.line) c.loop-begun.placed c.loop-begun.fixed c.loop-begun.begun b s here taken given).1
 
 pub keep-requires-else-free : goal.keep-requires-else-free
 keep-requires-else-free c b s h =
     let next : c.loop-begun.left ≡ shown c.in-Some.line ∷ c.next.new.self = rw c.in-Some.is at c.in_ok-line.ensures.some in
     let here = rw next at c.loop-begun.invariant in
-    let taken = rw c.without_free-line.ensures at c.in_ok-take.ensures.ok in
-    let given = rw c.without_free-line.ensures at h in
+    let taken = ap (take_fault c.loop-begun.placed) (sym c.without_free-line.ensures) ∙ c.in_ok-take.ensures.ok in
+    let given = ap (site_for c.args.design.now b) (sym c.without_free-line.ensures) ∙ h in
     (is_new c.args.design.now c.args.grid.now (lines c.args.bytes.now) c.next.new.self (shown c.in-Some.line) c.loop-begun.placed c.loop-begun.fixed c.loop-begun.begun b s here taken given).0
 
 pub loop-begun-preserved : goal.loop-begun-preserved
@@ -73,8 +73,8 @@ loop-begun-preserved c =
     let next : c.loop-begun.left ≡ l ∷ c.next.new.self = rw c.in-Some.is at c.in_ok-line.ensures.some in
     let here = rw next at c.loop-begun.invariant in
     let plain = c.without_free-line.ensures in
-    let clear : take_fault c.loop-begun.placed (without_free l) ≡ None = rw plain at c.in_ok-take.ensures.ok in
-    let taken : c.take.new.self ≡ with_line c.loop-begun.placed (without_free l) = rw plain at c.in_ok-take.ensures.taken in
+    let clear : take_fault c.loop-begun.placed (without_free l) ≡ None = ap (take_fault c.loop-begun.placed) (sym plain) ∙ c.in_ok-take.ensures.ok in
+    let taken : c.take.new.self ≡ with_line c.loop-begun.placed (without_free l) = c.in_ok-take.ensures.taken ∙ ap (with_line c.loop-begun.placed) plain in
     let law = c.in_ok-placed.ensures.lawful in
     elim c.if-free.branch [
       | then-free+in_ok-keep w ↦
