@@ -1,11 +1,11 @@
 -- A reader of a location text: the lines that it took, and those that are left.
-use Rattle.std.proofs.Common.{◌≡◌, ◌≢◌, ℕ, ◌+◌, ◌<◌, ◌≤◌, Bool, true, false, cond, eqb, List, [], ◌∷◌, ◌++◌, Option, Some, None, length, map, set, replicate, zero, suc, refl, sym, ap, ◌∙◌, subst, ◌&&◌, inl, inr, arith}
+use Rattle.std.proofs.Common.{◌≡◌, ◌≢◌, ℕ, ◌<◌, Bool, true, false, cond, eqb, List, [], ◌∷◌, ◌++◌, Option, Some, None, length, map, set, replicate, zero, suc, refl, sym, ap, ◌∙◌, subst, ◌&&◌, inl, inr, arith}
 use Rattle.std.specs.Prelude.{slice_get, is_some}
 use Rattle.std.specs.List.{AllByRecursion}
 use Rattle.std.proofs.lemmas.Bool.{cases_Bool, cases_eq, false≢true, and_parts, eqb-true, eq-eqb, ne_eqb}
 use Rattle.std.proofs.lemmas.List.{append-nil, append_assoc, map_push}
 use Rattle.fab_text.specs.Lines.{TextLine}
-use Rattle.fab_text.specs.FirstFault.{or_else, unless, fault_behind}
+use Rattle.fab_text.specs.FirstFault.{or_else, fault_behind}
 use Rattle.fab_arch.specs.declared.array.Site.{Site}
 use Rattle.fab_arch.specs.Grid.{GridShape}
 use Rattle.fab_net.specs.Names.{AllDistinct}
@@ -16,10 +16,10 @@ use Rattle.fab_site.proofs.Drafting.{get_set_same, get_set_other}
 use Rattle.fab_file.specs.declared.fault.PlaceFault.{PlaceFault}
 use Rattle.fab_file.specs.declared.fault.PlaceFault.TheVariants as fault
 use Rattle.fab_file.specs.Place.{site_in, block_in, place_size_of}
-use Rattle.fab_file.specs.PlaceFaults.{is_block, size_fault_by}
+use Rattle.fab_file.specs.PlaceFaults.{size_fault_by}
 use Rattle.fab_file.specs.Taken.{LinesOf, no_lines, has_site, take_fault, with_line}
-use Rattle.fab_file.specs.Pinned.{has_header, block_lines, is_free, without_free, Locates, site_for, fixed_by, begun_by, first_given, IsLocated, pin_fault, pins_fault, header_fault}
-use Rattle.fab_file.proofs.Seats.{none_some, some_none, inner, first_word, IsSeated, Seats, no_seats, IsTakable, takable, named_below, on, same_fault}
+use Rattle.fab_file.specs.Pinned.{block_lines, is_free, without_free, Locates, site_for, fixed_by, begun_by, first_given, IsLocated, pin_fault, pins_fault, header_fault}
+use Rattle.fab_file.proofs.Seats.{none_some, some_none, first_word, IsSeated, Seats, no_seats, IsTakable, takable, named_below, on, same_fault}
 use Rattle.fab_file.proofs.PinText.{behind_lawful_header, same_block, same_firsts, either_none}
 
 -- the lines that were taken have no fault, and gave these sites; the others are left

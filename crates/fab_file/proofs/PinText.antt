@@ -1,5 +1,5 @@
 -- A location text: its header and its block lines, and why a text that stands for sites has no fault.
-use Rattle.std.proofs.Common.{◌≡◌, ◌≢◌, ℕ, ◌+◌, ◌<◌, ◌≤◌, Bool, true, false, not, cond, eqb, ◌||◌, ◌&&◌, List, [], ◌∷◌, ◌++◌, Option, Some, None, length, map, take, get_or, zero, suc, refl, sym, ap, ◌∙◌, inl, inr, arith}
+use Rattle.std.proofs.Common.{◌≡◌, ℕ, Bool, true, false, cond, eqb, ◌||◌, List, [], ◌∷◌, ◌++◌, Option, Some, None, map, take, get_or, refl, sym, ap, ◌∙◌, inl, inr}
 use Rattle.std.specs.Prelude.{is_some}
 use Rattle.std.specs.List.{list_any, AllByRecursion}
 use Rattle.std.specs.Str.{bytes_eq}
@@ -7,11 +7,11 @@ use Rattle.std.proofs.lemmas.Bool.{cases_Bool, false≢true, eqb-true, eq-eqb}
 use Rattle.std.proofs.lemmas.List.{append_assoc, map-append}
 use Rattle.std.proofs.lemmas.List.Folds.{list_any-append}
 use Rattle.fab_text.specs.Lines.{TextLine}
-use Rattle.fab_text.specs.FirstFault.{or_else, unless, fault_behind, fault_of_all}
+use Rattle.fab_text.specs.FirstFault.{or_else, fault_behind, fault_of_all}
 use Rattle.fab_arch.specs.declared.array.Site.{Site}
 use Rattle.fab_arch.specs.declared.array.SiteKind.{SiteKind}
 use Rattle.fab_arch.specs.declared.array.SiteKind.TheVariants as site_kind
-use Rattle.fab_arch.specs.Grid.{GridShape, kind_at}
+use Rattle.fab_arch.specs.Grid.{GridShape}
 use Rattle.fab_net.specs.Names.{number_of, AllDistinct}
 use Rattle.fab_net.specs.Netlist.{Netlist}
 use Rattle.fab_net.proofs.Naming.{name_at_number, other_way, itself}
@@ -21,10 +21,10 @@ use Rattle.fab_site.specs.Pins.{either_site, given_at, ArePins}
 use Rattle.fab_site.proofs.Tables.{same_is}
 use Rattle.fab_file.specs.declared.fault.PlaceFault.{PlaceFault}
 use Rattle.fab_file.specs.declared.fault.PlaceFault.TheVariants as fault
-use Rattle.fab_file.specs.Place.{word_at, is_files_line, size_in, place_size_of, site_in, block_in}
+use Rattle.fab_file.specs.Place.{is_files_line, size_in, site_in, block_in}
 use Rattle.fab_file.specs.PlaceFaults.{sites_given, is_block, is_repeated, same_kind, size_fault_by, FaultIs}
-use Rattle.fab_file.specs.Pinned.{begins_header, has_header, block_lines, is_free, first_four, without_free, Locates, site_for, fixed_by, begun_by, first_given, IsLocated, pin_fault, pins_line_fault, pins_text_fault, pins_fault, header_fault}
-use Rattle.fab_file.proofs.Seats.{none_some, some_none, inner, or_neither, first_word}
+use Rattle.fab_file.specs.Pinned.{begins_header, has_header, block_lines, is_free, without_free, Locates, site_for, fixed_by, begun_by, first_given, IsLocated, pin_fault, pins_line_fault, pins_text_fault, pins_fault, header_fault}
+use Rattle.fab_file.proofs.Seats.{some_none, or_neither, first_word}
 
 -- the header, and then the block lines
 

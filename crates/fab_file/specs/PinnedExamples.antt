@@ -1,9 +1,9 @@
 -- Examples of what location texts stand for: the netlist of a pad `a` and two logic blocks, on four logic sites.
 use Rattle.std.specs.Prelude.{ℕ, ◌≡◌, List, [], ◌∷◌, ◌++◌, Option, Some, None, refl, codes}
-use Rattle.fab_text.specs.Lines.{TextLine, lines, lines_from, trimmed, content, is_continued, without_backslash, words_of}
+use Rattle.fab_text.specs.Lines.{lines, lines_from, trimmed, content, is_continued, without_backslash, words_of}
 use Rattle.fab_text.specs.Decimal.{decimal_of}
 use Rattle.fab_arch.specs.declared.array.Site.{Site}
-use Rattle.fab_arch.specs.Grid.{GridShape, shape}
+use Rattle.fab_arch.specs.Grid.{shape}
 use Rattle.fab_net.specs.declared.pieces.BlockKind.TheVariants.{InputPad, Logic}
 use Rattle.fab_net.specs.Netlist.{Netlist}
 use Rattle.fab_site.specs.Placement.{site}

@@ -1,6 +1,5 @@
-use Rattle.std.proofs.Common.{◌≡◌, ℕ, ◌∷◌, List, [], Some, None, refl, sym, ap, ◌∙◌}
+use Rattle.std.proofs.Common.{◌≡◌, ◌∷◌, None, sym, ap, ◌∙◌}
 use Rattle.std.proofs.lemmas.Result.{err_from_is_err_and}
-use Rattle.fab_arch.specs.declared.array.Site.{Site}
 use Rattle.fab_text.specs.Lines.{lines}
 use Rattle.fab_text.specs.Shown.{shown}
 use Rattle.fab_site.specs.Placement.{fixed_at}
