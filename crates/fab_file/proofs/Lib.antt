@@ -1,3 +1,5 @@
 pub mod Seats
 pub mod Legal
 pub mod Underway
+pub mod PinText
+pub mod PinLines

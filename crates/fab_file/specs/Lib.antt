@@ -2,3 +2,5 @@ pub mod Place
 pub mod PlaceFaults
 pub mod Taken
 pub mod Examples
+pub mod Pinned
+pub mod PinnedExamples

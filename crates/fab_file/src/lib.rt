@@ -3,6 +3,7 @@
 
 pub mod fault;
 pub mod header;
+pub mod pinning;
 pub mod reading;
 pub mod taking;
 #[cfg(test)]
@@ -11,5 +12,6 @@ pub mod words;
 
 pub use fault::PlaceFault;
 pub use header::place_size;
+pub use pinning::read_pins;
 pub use reading::read_place;
 pub use taking::PlaceLines;

@@ -1,7 +1,7 @@
-use crate::{PlaceFault, PlaceLines, place_size, read_place};
+use crate::{PlaceFault, PlaceLines, place_size, read_pins, read_place};
 use fab_arch::{Grid, Site, read_arch};
 use fab_net::{BlockId, Design, read_net};
-use fab_site::Placement;
+use fab_site::{Pins, Placement};
 use fab_text::Lines;
 use std::alloc::{AllocError, Global};
 use std::test::*;
@@ -229,5 +229,82 @@ fn a_refused_line_changes_nothing(rt: HostRuntime) -> Result<(), Fail> {
         Some(PlaceFault::Missing(2)),
     ];
     assert_eq!(rt; told, wanted);
+    Ok(())
+}
+
+// Where each of three blocks is fixed, and where each is begun.
+fn three_pins(pins: &Pins) -> [Option<Site>; 6] {
+    [
+        pins.fixed.site_of(BlockId(0)),
+        pins.fixed.site_of(BlockId(1)),
+        pins.fixed.site_of(BlockId(2)),
+        pins.begun.site_of(BlockId(0)),
+        pins.begun.site_of(BlockId(1)),
+        pins.begun.site_of(BlockId(2)),
+    ]
+}
+
+// What a location text is read to, on one logic site.
+fn located(alloc: Global, text: &[u8]) -> Result<Result<[Option<Site>; 6], PlaceFault>, Fail> {
+    let grid = Grid::new(1, 1, 1)?;
+    let design = design(alloc)?;
+    match read_pins(alloc, text, &design, &grid) {
+        Ok(pins) => Ok(Ok(three_pins(&pins))),
+        Err(fault) => Ok(Err(fault)),
+    }
+}
+
+#[test]
+fn location_texts_are_read(rt: HostRuntime) -> Result<(), Fail> {
+    let alloc = rt.alloc();
+    let a = Some(site(0, 1, 0));
+    let z = Some(site(2, 1, 0));
+    let b = Some(site(1, 1, 0));
+    let rows: [(&[u8], [Option<Site>; 6]); 6] = [
+        (b"", [None, None, None, None, None, None]),
+        (b"b 1 1 0\n", [None, None, b, None, None, None]),
+        (b"b 1 1 0 free\n", [None, None, None, None, None, b]),
+        (b"z 2 1 0 free\na 0 1 0\n", [a, None, None, None, z, None]),
+        (
+            b"\n# pads\n a 00 \\\n01 0 free # begun\nz 2 1 0 # free\n",
+            [None, z, None, a, None, None],
+        ),
+        (
+            b"Netlist file: t Architecture file: t\nArray size: 1 x 1 logic blocks\nb 1 1 0\n",
+            [None, None, b, None, None, None],
+        ),
+    ];
+    for (text, wanted) in rows {
+        assert_eq!(rt; located(alloc, text)?, Ok(wanted));
+    }
+    Ok(())
+}
+
+#[test]
+fn the_first_fault_of_a_location_text_is_told(rt: HostRuntime) -> Result<(), Fail> {
+    let alloc = rt.alloc();
+    let rows: [(&[u8], PlaceFault); 12] = [
+        (b"a 0 1 0 free\nz 0 1 0\n", PlaceFault::Taken(2)),
+        (b"a 0 1 0\na 1 0 0 free\n", PlaceFault::Repeated(2)),
+        (b"b 1 1 0 fixed\n", PlaceFault::BadLine(1)),
+        (b"b 1 1 0 free free\n", PlaceFault::BadLine(1)),
+        (b"b 1 1 free\n", PlaceFault::BadLine(1)),
+        (b"q 9 9 65536 free\n", PlaceFault::BadLine(1)),
+        (
+            b"a 0 1 0\nArray size: 1 x 1 logic blocks\n",
+            PlaceFault::BadLine(2),
+        ),
+        (b"q 9 9 9 free\n", PlaceFault::UnknownBlock(1)),
+        (b"a 1 0 0\nb 0 0 0\n", PlaceFault::NoSuchSite(2)),
+        (b"\nb 0 1 0 free\n", PlaceFault::WrongKind(2)),
+        (b"Netlist file: t\nb 1 1 0\n", PlaceFault::BadHeader),
+        (
+            b"Netlist file: t Architecture file: t\nArray size: 1 x 2 logic blocks\nq\n",
+            PlaceFault::WrongSize,
+        ),
+    ];
+    for (text, fault) in rows {
+        assert_eq!(rt; located(alloc, text)?, Err(fault));
+    }
     Ok(())
 }

@@ -1,0 +1,97 @@
+-- What a location text stands for (fixing after the VPR manual's pad file; that it may name any block, and the last word
+-- `free`, are our own): a header, which may be left out, and lines that give blocks their sites, in any order.
+use Rattle.std.specs.Prelude.{ℕ, ◌≡◌, Bool, true, false, ◌&&◌, ◌==◌, if◌then◌else◌, List, [], ◌∷◌, length, map, take, drop, codes, Option, Some, None}
+use Rattle.std.specs.List.{AllByRecursion}
+use Rattle.fab_text.specs.Lines.{TextLine}
+use Rattle.fab_text.specs.FirstFault.{fault_of_all}
+use Rattle.fab_arch.specs.declared.array.Site.{Site}
+use Rattle.fab_arch.specs.Grid.{GridShape}
+use Rattle.fab_net.specs.Names.{AllDistinct}
+use Rattle.fab_net.specs.Netlist.{Netlist}
+use Rattle.fab_site.specs.Placement.{fixed_at}
+use Rattle.fab_site.specs.Pins.{either_site, ArePins}
+use Rattle.fab_file.specs.declared.fault.PlaceFault.{PlaceFault}
+use Rattle.fab_file.specs.declared.fault.PlaceFault.TheVariants.{BadHeader}
+use Rattle.fab_file.specs.Place.{word_at, is_word, size_in, place_size_of, site_in, block_in}
+use Rattle.fab_file.specs.PlaceFaults.{is_block, files_fault, size_fault_by, block_fault}
+
+-- a first line that begins so is the header's
+abbrev pub begins_header : TextLine → Bool
+begins_header l = is_word l 0 (codes "Netlist") && is_word l 1 (codes "file:")
+
+abbrev pub has_header : List TextLine → Bool
+has_header [] = false
+has_header (first ∷ ls) = begins_header first
+
+-- the lines behind the header, or all where there is none
+abbrev pub block_lines : List TextLine → List TextLine
+block_lines ls = if has_header ls then drop 2 ls else ls
+
+-- a line of five words, of which `free` is the last
+abbrev pub is_free : TextLine → Bool
+is_free l = length l.words == 5 && is_word l 4 (codes "free")
+
+abbrev pub first_four : TextLine → TextLine
+first_four l = record { number = l.number; words = take 4 l.words; spans = take 4 l.spans }
+
+-- a line without its last word `free`, where it has it: `name x y sub`
+abbrev pub without_free : TextLine → TextLine
+without_free l = if is_free l then first_four l else l
+
+-- the line names a block, and gives it a site
+pub record Locates (d : Netlist) (l : TextLine) : Type 0 where
+  pub block : ℕ
+  pub site : Site
+  pub named : block_in d l ≡ Some block
+  pub given : site_in (without_free l) ≡ Some site
+
+-- the site that a line `name x y sub` gives a block, if it names that one
+abbrev pub site_for : Netlist → ℕ → TextLine → Option Site
+site_for d b l = if is_block b (block_in d l) then site_in l else None
+
+-- the site where a line fixes a block, if it does
+abbrev pub fixed_by : Netlist → ℕ → TextLine → Option Site
+fixed_by d b l = if is_free l then None else site_for d b (without_free l)
+
+-- the site where a line only begins a block, if it does
+abbrev pub begun_by : Netlist → ℕ → TextLine → Option Site
+begun_by d b l = if is_free l then site_for d b (without_free l) else None
+
+-- the site that the first of these lines gives which gives one
+abbrev pub first_given : (TextLine → Option Site) → List TextLine → Option Site
+first_given by_line [] = None
+first_given by_line (l ∷ ls) = either_site (by_line l) (first_given by_line ls)
+
+-- the text stands for these sites: a header gives the array's size, each line locates a block, no block has two lines,
+-- blocks are fixed and begun where their lines say and no others are, and no site is given twice
+pub record IsLocated (d : Netlist) (g : GridShape) (ls : List TextLine) (fixed begun : List (Option Site)) : Type 0 where
+  pub header : has_header ls ≡ true → place_size_of ls ≡ Some (g.nx, g.ny)
+  pub lines : AllByRecursion (Locates d) (block_lines ls)
+  pub distinct : AllDistinct (map (λ l. word_at l 0) (block_lines ls))
+  pub fixed_sites : (b : ℕ) → fixed_at fixed b ≡ first_given (fixed_by d b) (block_lines ls)
+  pub begun_sites : (b : ℕ) → fixed_at begun b ≡ first_given (begun_by d b) (block_lines ls)
+  pub lawful : ArePins d g fixed begun
+
+-- the first fault of a block line that follows others: that of `name x y sub`, whether `free` stands behind it or not
+abbrev pub pin_fault : Netlist → GridShape → List TextLine → TextLine → Option PlaceFault
+pin_fault d g before l = block_fault d g (map without_free before) (without_free l)
+
+-- the first fault of a line that follows others: where the first begins a header, the first two lines are it
+abbrev pub pins_line_fault : Netlist → GridShape → List TextLine → TextLine → Option PlaceFault
+pins_line_fault d g [] l = if begins_header l then files_fault l else pin_fault d g [] l
+pins_line_fault d g (first ∷ []) l = if begins_header first then size_fault_by g (size_in l) else pin_fault d g (first ∷ []) l
+pins_line_fault d g (first ∷ second ∷ before) l = pin_fault d g (if begins_header first then before else first ∷ second ∷ before) l
+
+-- the fault of a whole text, whose lines have none: half a header
+abbrev pub pins_text_fault : List TextLine → Option PlaceFault
+pins_text_fault [] = None
+pins_text_fault (first ∷ []) = if begins_header first then Some BadHeader else None
+pins_text_fault (first ∷ second ∷ rest) = None
+
+-- the first fault of a location text
+abbrev pub pins_fault : Netlist → GridShape → List TextLine → Option PlaceFault
+pins_fault d g ls = fault_of_all (pins_line_fault d g) pins_text_fault ls
+
+-- the fault of the header, where there is one
+abbrev pub header_fault : GridShape → List TextLine → Option PlaceFault
+header_fault g ls = if has_header ls then size_fault_by g (place_size_of ls) else None
