@@ -1,3 +1,4 @@
 pub mod Seats
 pub mod Legal
 pub mod Underway
+pub mod Pushed

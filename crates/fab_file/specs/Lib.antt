@@ -2,3 +2,4 @@ pub mod Place
 pub mod PlaceFaults
 pub mod Taken
 pub mod Examples
+pub mod Written
