@@ -6,3 +6,4 @@ pub mod Split
 pub mod Told
 pub mod Spoken
 pub mod Laid
+pub mod Back

@@ -24,7 +24,7 @@ pub record IsWord (w : List ℕ) : Type 0 where
   pub some : 0 < length w
   pub clean : list_any is_mark w ≡ false
 
-not_true : (b : Bool) → not b ≡ true → b ≡ false
+pub not_true : (b : Bool) → not b ≡ true → b ≡ false
 not_true true h = absurd (false≢true h)
 not_true false h = refl
 

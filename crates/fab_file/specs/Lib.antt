@@ -3,3 +3,4 @@ pub mod PlaceFaults
 pub mod Taken
 pub mod Examples
 pub mod Written
+pub mod ReadsBack
