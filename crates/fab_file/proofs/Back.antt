@@ -100,13 +100,16 @@ told net arch d g sites labels law words limits legal =
     let bs = range_with_len 0 (length d.kinds) in
     let block : (b : ℕ) → 0 ≤ b → b < 0 + length d.kinds → Says (block_line d sites b) (words_at_block d sites b) =
     λ b ge lt.
-      let small = site_small d g sites b limits legal (omega arith) in
-      block_says (name_at d b) (site_of sites b) b (name_word d.names b (omega (arith, law.named)) words) (wide _ small.x) (wide _ small.y) (wide _ small.sub) (omega (arith, law.few_blocks)) in
+    let small = site_small d g sites b limits legal (omega arith) in
+    block_says (name_at d b) (site_of sites b) b (name_word d.names b (omega (arith, law.named)) words) (wide _ small.x) (wide _ small.y) (wide _ small.sub) (omega (arith, law.few_blocks)) in
     let blocks = blocks_say d sites bs (in_range (λ b. Says (block_line d sites b) (words_at_block d sites b)) 0 (length d.kinds) block) in
-    let say : AllSay (head_lines net arch g ++ block_lines d sites) (files_words net arch ∷ size_words g ∷ [] ∷ [] ∷ [] ∷ map (words_at_block d sites) bs) =
-    (files_says net arch (word_of net first.0) (word_of arch second.0) (not_true (is_continued arch) second.1),
-    (size_says g (decimal_word g.nx (omega (arith, limits.columns.1))) (decimal_word g.ny (omega (arith, limits.rows.1))),
-    (empty_says, (names_say, (rule_says, blocks))))) in
+    let say : AllSay (head_lines net arch g ++ block_lines d sites) (files_words net arch ∷ size_words g ∷ [] ∷ [] ∷ [] ∷ map (words_at_block d sites) bs) = (
+      files_says net arch (word_of net first.0) (word_of arch second.0) (not_true (is_continued arch) second.1),
+      (
+        size_says g (decimal_word g.nx (omega (arith, limits.columns.1))) (decimal_word g.ny (omega (arith, limits.rows.1))),
+        (empty_says, (names_say, (rule_says, blocks))),
+      ),
+    ) in
     ap (λ t. map words_in (lines t)) (sym (flat_map-append ended (head_lines net arch g) (block_lines d sites)))
     ∙ lines_told (head_lines net arch g ++ block_lines d sites) (files_words net arch ∷ size_words g ∷ [] ∷ [] ∷ [] ∷ map (words_at_block d sites) bs) say
     ∙ ap (λ ws. files_words net arch ∷ size_words g ∷ ws) (all_have_words d sites bs)

@@ -37,8 +37,8 @@ says_cut body tail ws feed after hash some sep back r =
     let clean : list_any is_hash (body ++ 9 ∷ []) ≡ false = list_any-append is_hash body (9 ∷ []) ∙ rw hash refl in
     let tab : (k : ℕ) → length body ≤ k → k < length (body ++ 9 ∷ []) → is_separator (get_or (body ++ 9 ∷ []) k 0) ≡ true =
     λ k ge lt.
-      let e : k ≡ length body = omega (arith, length-append body (9 ∷ [])) in
-      ap (λ i. is_separator (get_or (body ++ 9 ∷ []) i 0)) e ∙ ap is_separator (get_or-append_seam body 9 [] 0) in
+    let e : k ≡ length body = omega (arith, length-append body (9 ∷ [])) in
+    ap (λ i. is_separator (get_or (body ++ 9 ∷ []) i 0)) e ∙ ap is_separator (get_or-append_seam body 9 [] 0) in
     let single : list_any is_line_feed (body ++ 9 ∷ 35 ∷ tail) ≡ false = list_any-append is_line_feed body (9 ∷ 35 ∷ tail) ∙ rw (feed, after) refl in
     record {
       single = single;

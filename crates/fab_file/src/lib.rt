@@ -14,4 +14,4 @@ pub use fault::PlaceFault;
 pub use header::place_size;
 pub use reading::read_place;
 pub use taking::PlaceLines;
-pub use writing::{Labels, write_place};
+pub use writing::{Labels, write_place, written_texts_read_back};

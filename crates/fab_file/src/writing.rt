@@ -6,6 +6,7 @@ ghost use Rattle.std.specs.Io.KnownBytes.{Appends};
 ghost use Rattle.fab_text.specs.Lines.{is_continued};
 ghost use Rattle.fab_site.specs.Placement.{IsLegal};
 ghost use Rattle.fab_file.specs.declared.fault.PlaceFault.TheVariants.{BadLabel, Write};
+ghost use Rattle.fab_file.specs.ReadsBack.{ReadBack};
 ghost use Rattle.fab_file.specs.Written.{is_mark, can_be_word, is_label, are_labels, files_text, size_text, column, block_text, head_lines, block_lines, ended, place_text, IsCut, IsWriteFault, failed_with};
 
 use crate::fault::PlaceFault;
@@ -184,3 +185,9 @@ pub fn write_place<W: Sink>(
     write_whole(out, &text)?;
     Ok(())
 }
+
+/// The law that the text of a legal placement stands for it, whatever the labels: so `read_place` gives it back. The
+/// names of the blocks are words, as in each design that was read.
+pub fn written_texts_read_back()
+    ensures { ReadBack }
+{}
