@@ -259,14 +259,14 @@ impl Write for Narrow {
 
 // What a write answered, how often its writer failed, and what went out.
 #[derive(Drop)]
-struct Told {
+struct Outcome {
     answer: Result<(), PlaceFault>,
     failures: u64,
     text: Vec<u8>,
 }
 
 // Writes the placement that lines give, on one logic site, where the writer takes so many bytes.
-fn write(alloc: Global, labels: [&[u8]; 2], lines: &[u8], room: usize) -> Result<Told, Fail> {
+fn write(alloc: Global, labels: [&[u8]; 2], lines: &[u8], room: usize) -> Result<Outcome, Fail> {
     let grid = Grid::new(1, 1, 1)?;
     let design = design(alloc)?;
     let text = text_of(alloc, lines)?;
@@ -281,7 +281,7 @@ fn write(alloc: Global, labels: [&[u8]; 2], lines: &[u8], room: usize) -> Result
     };
     let answer = write_place(alloc, &mut out, &shown, &design, &grid, &placement);
     let failures = out.failures();
-    Ok(Told {
+    Ok(Outcome {
         answer,
         failures,
         text: out.into_inner().taken,
@@ -306,8 +306,8 @@ fn placements_are_written(rt: HostRuntime) -> Result<(), Fail> {
         ),
     ];
     for (labels, lines, text) in rows {
-        let told = write(rt.alloc(), labels, lines, 1000)?;
-        assert_eq!(rt; told.text.as_slice(), text);
+        let outcome = write(rt.alloc(), labels, lines, 1000)?;
+        assert_eq!(rt; outcome.text.as_slice(), text);
     }
     Ok(())
 }
@@ -326,9 +326,9 @@ fn bad_labels_write_nothing(rt: HostRuntime) -> Result<(), Fail> {
         [b"t", b"a\\"],
     ];
     for labels in rows {
-        let told = write(rt.alloc(), labels, LINES, 1000)?;
-        assert_eq!(rt; told.answer, Err(PlaceFault::BadLabel));
-        assert!(rt; told.text.is_empty());
+        let outcome = write(rt.alloc(), labels, LINES, 1000)?;
+        assert_eq!(rt; outcome.answer, Err(PlaceFault::BadLabel));
+        assert!(rt; outcome.text.is_empty());
     }
     Ok(())
 }
@@ -336,24 +336,23 @@ fn bad_labels_write_nothing(rt: HostRuntime) -> Result<(), Fail> {
 #[test]
 fn a_writer_that_fails_has_taken_a_beginning(rt: HostRuntime) -> Result<(), Fail> {
     for room in 0..WRITTEN.len() {
-        let told = write(rt.alloc(), LABELS, LINES, room)?;
-        assert_eq!(rt; (told.answer, told.failures), (Err(PlaceFault::Write), 1));
-        assert_eq!(rt; told.text.as_slice(), &WRITTEN[..room]);
+        let outcome = write(rt.alloc(), LABELS, LINES, room)?;
+        assert_eq!(rt;
+            (outcome.answer, outcome.failures),
+            (Err(PlaceFault::Write), 1)
+        );
+        assert_eq!(rt; outcome.text.as_slice(), &WRITTEN[..room]);
     }
     Ok(())
 }
 
 #[test]
 fn what_is_written_reads_back(rt: HostRuntime) -> Result<(), Fail> {
-    let told = write(rt.alloc(), LABELS, LINES, 1000)?;
+    let outcome = write(rt.alloc(), LABELS, LINES, 1000)?;
     let wanted = [site(0, 1, 0), site(2, 1, 0), site(1, 1, 0)];
-    assert_eq!(rt; fault_in(rt.alloc(), told.text.as_slice())?, None);
-    let read = read(rt.alloc(), told.text.as_slice())?;
-    match read {
-        Ok(placement) => {
-            assert_eq!(rt; three_sites(&placement), Some(wanted));
-        }
-        Err(fault) => return Err(fault.into()),
-    }
+    assert_eq!(rt;
+        sites_in(rt.alloc(), outcome.text.as_slice())?,
+        Some(wanted)
+    );
     Ok(())
 }
