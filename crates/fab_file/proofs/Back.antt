@@ -1,9 +1,9 @@
 -- What is written reads back.
-use Rattle.std.proofs.Common.{◌≡◌, ℕ, ◌+◌, ◌-◌, ◌^◌, ◌<◌, ◌≤◌, Bool, true, false, not, eqb, ltb, leb, ◌||◌, ◌&&◌, List, [], ◌∷◌, ◌++◌, Option, Some, None, length, map, get_or, zero, suc, refl, sym, ap, subst, ◌∙◌, arith, inl, inr, lit<, codes}
+use Rattle.std.proofs.Common.{◌≡◌, ℕ, ◌+◌, ◌^◌, ◌<◌, ◌≤◌, true, not, leb, ◌||◌, ◌&&◌, List, [], ◌∷◌, ◌++◌, Some, None, length, map, get_or, zero, suc, refl, sym, ap, subst, ◌∙◌, arith, inl, inr}
 use Rattle.std.specs.Prelude.{decimal, filter, nat_le, nat_lt, ◌==◌}
-use Rattle.std.specs.List.{flat_map, list_any, range_with_len, AllByRecursion}
+use Rattle.std.specs.List.{list_any, range_with_len, AllByRecursion}
 use Rattle.std.specs.Str.{bytes_eq}
-use Rattle.std.proofs.lemmas.Bool.{cases_Bool, false≢true, and_parts}
+use Rattle.std.proofs.lemmas.Bool.{cases_Bool, and_parts}
 use Rattle.std.proofs.lemmas.Bool.Decides.{nat_tests}
 use Rattle.std.proofs.lemmas.Grind.{flat_map-append}
 use Rattle.std.proofs.lemmas.List.FromFn.{fill_by_all}
@@ -15,7 +15,7 @@ use Rattle.fab_arch.proofs.Perimeter.{round_is}
 use Rattle.fab_net.specs.Names.{number_of, AllDistinct}
 use Rattle.fab_net.specs.Netlist.{Netlist, IsLawful}
 use Rattle.fab_site.specs.Placement.{site_of, kind_wanted, IsLegal}
-use Rattle.fab_file.specs.Place.{word_at, small_number, is_files_line, size_in, site_in, Places, names_block, StandsFor}
+use Rattle.fab_file.specs.Place.{word_at, small_number, is_files_line, size_in, site_in, Places, names_block}
 use Rattle.fab_file.specs.Written.{can_be_word, is_label, are_labels, head_lines, block_line, block_lines, ended, place_text}
 use Rattle.fab_file.specs.ReadsBack.{AreWords, ReadBack}
 use Rattle.fab_file.proofs.Seats.{none_some, first_word}

@@ -1,12 +1,11 @@
 -- The words of bytes that stand in a text.
-use Rattle.std.proofs.Common.{◌≡◌, ℕ, ◌+◌, ◌-◌, ◌<◌, ◌≤◌, true, false, Bool, cond, eqb, ◌||◌, List, [], ◌∷◌, ◌++◌, length, take, drop, map, get_or, refl, sym, ap, ◌∙◌, arith, append_assoc, suc}
+use Rattle.std.proofs.Common.{◌≡◌, ℕ, ◌+◌, ◌-◌, ◌<◌, ◌≤◌, true, false, Bool, cond, eqb, List, [], ◌∷◌, ◌++◌, length, take, drop, map, get_or, refl, sym, ap, ◌∙◌, arith, append_assoc}
 use Rattle.std.specs.Prelude.{slice_range}
 use Rattle.std.proofs.Math.Seq.{drop-append_seam, take-append_seam, take-length}
 use Rattle.std.proofs.lemmas.List.{length-append, get_or_append_left, get_or-append-add}
 use Rattle.std.proofs.lemmas.List.Sums.{suffix_len_is}
 use Rattle.std.specs.List.{AllByRecursion, list_any, position_or_len, before_first, suffix_len}
-use Rattle.fab_text.specs.declared.pieces.Span.{Span}
-use Rattle.fab_text.specs.Lines.{is_separator, is_hash, is_line_feed, run, words_at, bytes_at, trimmed, content, is_continued, without_backslash, Physical, words_of, physical, put_first}
+use Rattle.fab_text.specs.Lines.{is_separator, is_hash, is_line_feed, run, words_at, bytes_at, trimmed, content, is_continued, without_backslash, words_of, physical, put_first}
 use Rattle.fab_text.specs.Runs.{EndsWord}
 use Rattle.fab_text.proofs.Runs.{runs}
 use Rattle.fab_file.proofs.Seats.{or_neither}

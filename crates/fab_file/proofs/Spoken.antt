@@ -1,22 +1,19 @@
 -- The words of the lines that are written.
-use Rattle.std.proofs.Common.{◌≡◌, ℕ, ◌+◌, ◌-◌, ◌*◌, ◌/◌, ◌%◌, ◌^◌, ◌<◌, ◌≤◌, Bool, true, false, not, cond, eqb, ltb, ◌||◌, ◌&&◌, List, [], ◌∷◌, ◌++◌, Ok, length, get_or, refl, sym, ap, subst, ◌∙◌, arith, append_assoc, lit<, inl, inr, codes}
+use Rattle.std.proofs.Common.{◌≡◌, ℕ, ◌+◌, ◌-◌, ◌*◌, ◌%◌, ◌^◌, ◌<◌, Bool, true, false, not, eqb, ltb, ◌||◌, List, [], ◌∷◌, Ok, length, refl, sym, ap, ◌∙◌, arith, lit<, inl, inr}
 use Rattle.std.specs.Prelude.{decimal}
 use Rattle.std.specs.Char.{is_ascii_digit}
 use Rattle.std.specs.List.{AllByRecursion, list_any, list_all}
 use Rattle.std.specs.Str.Parse.{digits_value}
-use Rattle.std.proofs.Math.Seq.{get_or-append_seam}
 use Rattle.std.proofs.lemmas.Bool.{cases_Bool, false≢true, and_parts}
 use Rattle.std.proofs.lemmas.Bool.Decides.{nat_tests}
 use Rattle.std.proofs.lemmas.Fmt.{decimal_is_IsNumeral, decimal_by_steps, decimal_nonempty}
-use Rattle.std.proofs.lemmas.List.{append-nil, length-append}
+use Rattle.std.proofs.lemmas.List.{append-nil}
 use Rattle.std.proofs.lemmas.List.Folds.{list_any-append, list_all-append, list_any_at}
 use Rattle.fab_text.specs.Decimal.{decimal_of}
-use Rattle.fab_text.specs.Lines.{is_separator, is_hash, is_line_feed, is_continued, trimmed, content}
-use Rattle.fab_arch.specs.declared.array.Site.{Site}
-use Rattle.fab_arch.specs.Grid.{GridShape}
-use Rattle.fab_file.specs.Written.{is_mark, can_be_word, is_label, files_text, size_text, column, block_text}
+use Rattle.fab_text.specs.Lines.{is_separator, is_hash, is_line_feed}
+use Rattle.fab_file.specs.Written.{is_mark, can_be_word}
 use Rattle.fab_file.proofs.Seats.{or_neither}
-use Rattle.fab_file.proofs.Split.{Reads, no_words, behind_separator, word_first, uncut, cut, last_byte, last-append, trimmed_is, not_continued, no_backslash_last, Says}
+use Rattle.fab_file.proofs.Split.{last_byte, last-append}
 
 -- words
 

@@ -9,7 +9,7 @@ use Rattle.fab_site.specs.Placement.{IsLegal}
 use Rattle.fab_file.specs.Place.{StandsFor}
 use Rattle.fab_file.specs.Written.{can_be_word, are_labels, place_text}
 
--- each name can be one word of a line, as each name that a text gave
+-- each name can be one word of a line
 abbrev pub AreWords : List (List ℕ) → Type 0
 AreWords names = AllByRecursion (λ name. can_be_word name ≡ true) names
 

@@ -56,7 +56,7 @@ fn ends_with_backslash(label: &[u8]) -> bool
 fn is_label(label: &[u8]) -> bool
     ensures { result ≡ is_label label.now }
 {
-    (label.len() != 0 && !has_mark(label)) && !ends_with_backslash(label)
+    (!label.is_empty() && !has_mark(label)) && !ends_with_backslash(label)
 }
 
 fn are_labels(labels: &Labels) -> bool
@@ -186,8 +186,8 @@ pub fn write_place<W: Sink>(
     Ok(())
 }
 
-/// The law that the text of a legal placement stands for it, whatever the labels: so `read_place` gives it back. The
-/// names of the blocks are words, as in each design that was read.
+/// The law that the text of a legal placement stands for it, so that `read_place` gives it back: whatever the labels
+/// that can stand in a header, of each design whose names can each be one word of a line.
 pub fn written_texts_read_back()
     ensures { ReadBack }
 {}

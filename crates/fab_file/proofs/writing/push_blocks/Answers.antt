@@ -1,4 +1,4 @@
-use Rattle.std.proofs.Common.{◌≡◌, ◌++◌, refl, ◌∙◌}
+use Rattle.std.proofs.Common.{◌≡◌, ◌++◌}
 use Rattle.fab_file.specs.Written.{ended, block_line}
 use Rattle.fab_file.proofs.Pushed.{one_more}
 use Rattle.fab_file.proofs.writing.push_blocks.Goals as goal
