@@ -194,7 +194,7 @@ no_fault_in d g ls sites law t =
 
 -- a text stands for one placement at most
 
-any_at : (names : List (List ℕ)) (b : ℕ) → b < length names → list_any (bytes_eq (get_or names b [])) names ≡ true
+pub any_at : (names : List (List ℕ)) (b : ℕ) → b < length names → list_any (bytes_eq (get_or names b [])) names ≡ true
 any_at [] b lt = absurd (omega arith)
 any_at (n ∷ ns) zero lt = rw (itself n) refl
 any_at (n ∷ ns) (suc b) lt = rw (any_at ns b (omega arith)) (or_true (bytes_eq (get_or ns b []) n))
@@ -203,7 +203,7 @@ any_at (n ∷ ns) (suc b) lt = rw (any_at ns b (omega arith)) (or_true (bytes_eq
     or_true true = refl
     or_true false = refl
 
-number_at : (names : List (List ℕ)) (b : ℕ) → AllDistinct names → b < length names → number_of (get_or names b []) names ≡ Some b
+pub number_at : (names : List (List ℕ)) (b : ℕ) → AllDistinct names → b < length names → number_of (get_or names b []) names ≡ Some b
 number_at names b distinct lt = by_option (number_of (get_or names b []) names) refl (has_number (get_or names b []) names ∙ any_at names b lt)
   where
     by_option : (o : Option ℕ) → number_of (get_or names b []) names ≡ o → is_some (number_of (get_or names b []) names) ≡ true → number_of (get_or names b []) names ≡ Some b

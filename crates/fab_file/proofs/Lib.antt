@@ -3,3 +3,9 @@ pub mod Legal
 pub mod Underway
 pub mod PinText
 pub mod PinLines
+pub mod Pushed
+pub mod Split
+pub mod Told
+pub mod Spoken
+pub mod Laid
+pub mod Back

@@ -1,6 +1,8 @@
 pub mod Place
 pub mod PlaceFaults
 pub mod Taken
-pub mod Examples
 pub mod Pinned
 pub mod PinnedExamples
+pub mod Written
+pub mod ReadsBack
+pub mod Examples

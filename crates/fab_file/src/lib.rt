@@ -9,9 +9,11 @@ pub mod taking;
 #[cfg(test)]
 mod tests;
 pub mod words;
+pub mod writing;
 
 pub use fault::PlaceFault;
 pub use header::place_size;
 pub use pinning::read_pins;
 pub use reading::read_place;
 pub use taking::PlaceLines;
+pub use writing::{Labels, write_place, written_texts_read_back};

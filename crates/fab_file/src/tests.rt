@@ -1,9 +1,11 @@
-use crate::{PlaceFault, PlaceLines, place_size, read_pins, read_place};
+use crate::{Labels, PlaceFault, PlaceLines, place_size, read_pins, read_place, write_place};
 use fab_arch::{Grid, Site, read_arch};
 use fab_net::{BlockId, Design, read_net};
 use fab_site::{Pins, Placement};
-use fab_text::Lines;
+use fab_text::{Counted, Lines, Sink};
 use std::alloc::{AllocError, Global};
+use std::io;
+use std::io::Write;
 use std::test::*;
 
 // The size, and None where it is refused for its header; anything else fails the test.
@@ -306,5 +308,128 @@ fn the_first_fault_of_a_location_text_is_told(rt: HostRuntime) -> Result<(), Fai
     for (text, fault) in rows {
         assert_eq!(rt; located(alloc, text)?, Err(fault));
     }
+    Ok(())
+}
+
+// A writer that takes so many bytes, and then fails.
+#[derive(Drop)]
+struct Narrow {
+    taken: Vec<u8>,
+    room: usize,
+}
+
+impl Write for Narrow {
+    fn write(&mut self, bytes: &[u8]) -> io::Result<usize> {
+        if self.room == 0 {
+            return Err(io::Error::from(io::ErrorKind::StorageFull));
+        }
+        let taken = self.room.min(bytes.len());
+        self.taken.extend_from_slice(&bytes[..taken])?;
+        self.room -= taken;
+        Ok(taken)
+    }
+
+    fn flush(&mut self) -> io::Result<()> {
+        Ok(())
+    }
+}
+
+// What a write answered, how often its writer failed, and what went out.
+#[derive(Drop)]
+struct Outcome {
+    answer: Result<(), PlaceFault>,
+    failures: u64,
+    text: Vec<u8>,
+}
+
+// Writes the placement that lines give, on one logic site, where the writer takes so many bytes.
+fn write(alloc: Global, labels: [&[u8]; 2], lines: &[u8], room: usize) -> Result<Outcome, Fail> {
+    let grid = Grid::new(1, 1, 1)?;
+    let design = design(alloc)?;
+    let text = text_of(alloc, lines)?;
+    let placement = read_place(alloc, text.as_slice(), &design, &grid)?;
+    let mut out = Counted::new(Narrow {
+        taken: Vec::new(alloc),
+        room,
+    });
+    let shown = Labels {
+        net: labels[0],
+        arch: labels[1],
+    };
+    let answer = write_place(alloc, &mut out, &shown, &design, &grid, &placement);
+    let failures = out.failures();
+    Ok(Outcome {
+        answer,
+        failures,
+        text: out.into_inner().taken,
+    })
+}
+
+const WRITTEN: &[u8] =
+    b"Netlist file: t.net   Architecture file: t.arch\nArray size: 1 x 1 logic blocks\n\n#block name\tx\ty\tsubblk\tblock number\n#----------\t--\t--\t------\t------------\na\t0\t1\t0\t#0\nz\t2\t1\t0\t#1\nb\t1\t1\t0\t#2\n";
+
+const LABELS: [&[u8]; 2] = [b"t.net", b"t.arch"];
+
+const LINES: &[u8] = b"b 1 1 0\nz 2 1 0\na 0 1 0\n";
+
+#[test]
+fn placements_are_written(rt: HostRuntime) -> Result<(), Fail> {
+    let rows: [([&[u8]; 2], &[u8], &[u8]); 2] = [
+        (LABELS, LINES, WRITTEN),
+        (
+            [b"\\x", b"y\\z\xff"],
+            b"a 1 0 0\nz 1 2 0\nb 1 1 0\n",
+            b"Netlist file: \\x   Architecture file: y\\z\xff\nArray size: 1 x 1 logic blocks\n\n#block name\tx\ty\tsubblk\tblock number\n#----------\t--\t--\t------\t------------\na\t1\t0\t0\t#0\nz\t1\t2\t0\t#1\nb\t1\t1\t0\t#2\n",
+        ),
+    ];
+    for (labels, lines, text) in rows {
+        let outcome = write(rt.alloc(), labels, lines, 1000)?;
+        assert_eq!(rt; outcome.text.as_slice(), text);
+    }
+    Ok(())
+}
+
+#[test]
+fn bad_labels_write_nothing(rt: HostRuntime) -> Result<(), Fail> {
+    let rows: [[&[u8]; 2]; 9] = [
+        [b"", b"t"],
+        [b"t", b""],
+        [b"a b", b"t"],
+        [b"t", b"a\tb"],
+        [b"a\r", b"t"],
+        [b"t", b"\na"],
+        [b"#", b"t"],
+        [b"t\\", b"t"],
+        [b"t", b"a\\"],
+    ];
+    for labels in rows {
+        let outcome = write(rt.alloc(), labels, LINES, 1000)?;
+        assert_eq!(rt; outcome.answer, Err(PlaceFault::BadLabel));
+        assert!(rt; outcome.text.is_empty());
+    }
+    Ok(())
+}
+
+#[test]
+fn a_writer_that_fails_has_taken_a_beginning(rt: HostRuntime) -> Result<(), Fail> {
+    for room in 0..WRITTEN.len() {
+        let outcome = write(rt.alloc(), LABELS, LINES, room)?;
+        assert_eq!(rt;
+            (outcome.answer, outcome.failures),
+            (Err(PlaceFault::Write), 1)
+        );
+        assert_eq!(rt; outcome.text.as_slice(), &WRITTEN[..room]);
+    }
+    Ok(())
+}
+
+#[test]
+fn what_is_written_reads_back(rt: HostRuntime) -> Result<(), Fail> {
+    let outcome = write(rt.alloc(), LABELS, LINES, 1000)?;
+    let wanted = [site(0, 1, 0), site(2, 1, 0), site(1, 1, 0)];
+    assert_eq!(rt;
+        sites_in(rt.alloc(), outcome.text.as_slice())?,
+        Some(wanted)
+    );
     Ok(())
 }

@@ -1,0 +1,193 @@
+//! Placements as texts: written in one way, whoever made them.
+
+ghost use Rattle.std.specs.Prelude.{◌≡◌, ◌≢◌, ◌↔◌, ◌<◌, ◌++◌, [], not, length, codes, false, Err, IfErr, IfOk, OnOk, slice_index_or};
+ghost use Rattle.std.specs.List.{flat_map, list_any};
+ghost use Rattle.std.specs.Io.KnownBytes.{Appends};
+ghost use Rattle.fab_text.specs.Lines.{is_continued};
+ghost use Rattle.fab_site.specs.Placement.{IsLegal};
+ghost use Rattle.fab_file.specs.declared.fault.PlaceFault.TheVariants.{BadLabel, Write};
+ghost use Rattle.fab_file.specs.ReadsBack.{ReadBack};
+ghost use Rattle.fab_file.specs.Written.{is_mark, can_be_word, is_label, are_labels, files_text, size_text, column, block_text, head_lines, block_lines, ended, place_text, IsCut, IsWriteFault, failed_with};
+
+use crate::fault::PlaceFault;
+use fab_arch::{Grid, Site};
+use fab_net::{BlockId, Design};
+use fab_site::Placement;
+use fab_text::{Sink, WriteFault, push_number, write_whole};
+use std::alloc::{AllocError, Global};
+
+/// The names of the netlist's and the architecture's files that a header shows.
+#[derive(Clone, Copy, Debug, PartialEq, Eq)]
+pub struct Labels<'a> {
+    pub net: &'a [u8],
+    pub arch: &'a [u8],
+}
+
+impl From<WriteFault> for PlaceFault {
+    ghost from_gives = { λ _ e. e ≡ Write };
+
+    fn from(_fault: WriteFault) -> PlaceFault {
+        PlaceFault::Write
+    }
+}
+
+fn is_mark(byte: u8) -> bool
+    ensures { result ≡ is_mark byte }
+{
+    (byte == b' ' || byte == b'\t' || byte == b'\r') || byte == b'\n' || byte == b'#'
+}
+
+fn has_mark(label: &[u8]) -> bool
+    ensures { result ≡ list_any is_mark label.now }
+{
+    label.iter().any(|byte| is_mark(*byte))
+}
+
+#[tactic(auto, unfolding(fab_text::specs::Lines::is_continued))]
+fn ends_with_backslash(label: &[u8]) -> bool
+    ensures { result ≡ is_continued label.now }
+{
+    match label.last() {
+        Some(byte) => *byte == b'\\',
+        None => false,
+    }
+}
+
+fn is_label(label: &[u8]) -> bool
+    ensures { result ≡ is_label label.now }
+{
+    (!label.is_empty() && !has_mark(label)) && !ends_with_backslash(label)
+}
+
+fn are_labels(labels: &Labels) -> bool
+    ensures { result ≡ are_labels labels.now.net.now labels.now.arch.now }
+{
+    is_label(labels.net) && is_label(labels.arch)
+}
+
+/// Puts the first line of the header at the end.
+fn push_files(text: &mut Vec<u8>, labels: &Labels) -> Result<(), AllocError>
+    ensures { OnOk result (text.new.items ≡ text.old.items ++ ended (files_text labels.now.net.now labels.now.arch.now)) }
+{
+    text.extend_from_slice(b"Netlist file: ")?;
+    text.extend_from_slice(labels.net)?;
+    text.extend_from_slice(b"   Architecture file: ")?;
+    text.extend_from_slice(labels.arch)?;
+    text.extend_from_slice(b"\n")?;
+    Ok(())
+}
+
+/// Puts the second line of the header at the end.
+fn push_size(text: &mut Vec<u8>, grid: &Grid) -> Result<(), AllocError>
+    ensures { OnOk result (text.new.items ≡ text.old.items ++ ended (size_text grid.now)) }
+{
+    text.extend_from_slice(b"Array size: ")?;
+    push_number(text, u64::from(grid.nx()))?;
+    text.extend_from_slice(b" x ")?;
+    push_number(text, u64::from(grid.ny()))?;
+    text.extend_from_slice(b" logic blocks")?;
+    text.extend_from_slice(b"\n")?;
+    Ok(())
+}
+
+/// Puts a tab and a number at the end.
+fn push_column(text: &mut Vec<u8>, n: u16) -> Result<(), AllocError>
+    ensures { OnOk result (text.new.items ≡ text.old.items ++ column n) }
+{
+    text.extend_from_slice(b"\t")?;
+    push_number(text, u64::from(n))?;
+    Ok(())
+}
+
+/// Puts the line of a block at the end.
+fn push_block(text: &mut Vec<u8>, name: &[u8], site: Site, number: u64) -> Result<(), AllocError>
+    ensures { OnOk result (text.new.items ≡ text.old.items ++ ended (block_text name.now site number)) }
+{
+    text.extend_from_slice(name)?;
+    push_column(text, site.x)?;
+    push_column(text, site.y)?;
+    push_column(text, site.sub)?;
+    text.extend_from_slice(b"\t#")?;
+    push_number(text, number)?;
+    text.extend_from_slice(b"\n")?;
+    Ok(())
+}
+
+/// The header of a text, with the comments behind it.
+fn head_of(alloc: Global, labels: &Labels, grid: &Grid) -> Result<Vec<u8>, AllocError>
+    ensures { IfOk result (λ v. v.items ≡ flat_map ended (head_lines labels.now.net.now labels.now.arch.now grid.now)) }
+{
+    let mut text = Vec::new(alloc);
+    push_files(&mut text, labels)?;
+    push_size(&mut text, grid)?;
+    text.extend_from_slice(
+        b"\n#block name\tx\ty\tsubblk\tblock number\n#----------\t--\t--\t------\t------------\n",
+    )?;
+    Ok(text)
+}
+
+/// Puts the lines of all blocks at the end.
+fn push_blocks(text: &mut Vec<u8>, design: &Design, placement: &Placement) -> Result<(), AllocError>
+    requires { length placement.now.sites ≡ length design.now.kinds }
+    ensures { OnOk result (text.new.items ≡ text.old.items ++ flat_map ended (block_lines design.now placement.now.sites)) }
+{
+    for b in 0..design.blocks() {
+        let block = BlockId(b as u32);
+        push_block(text, design.name(block), placement.site_of(block), b as u64)?;
+    }
+    Ok(())
+}
+
+/// The text of a placement.
+fn text_of(
+    alloc: Global,
+    labels: &Labels,
+    design: &Design,
+    grid: &Grid,
+    placement: &Placement,
+) -> Result<Vec<u8>, AllocError>
+    requires { length placement.now.sites ≡ length design.now.kinds }
+    ensures { IfOk result (λ v. v.items ≡ place_text labels.now.net.now labels.now.arch.now design.now grid.now placement.now.sites) }
+{
+    let mut text = head_of(alloc, labels, grid)?;
+    push_blocks(&mut text, design, placement)?;
+    Ok(text)
+}
+
+/// Writes the text of a placement of a design on an array: its header shows the labels. Blocks stand in order of
+/// number. The placement is legal by condition. A bad label, and want of memory, write nothing; where the writer fails,
+/// a beginning of the text has gone out.
+pub fn write_place<W: Sink>(
+    alloc: Global,
+    out: &mut W,
+    labels: &Labels,
+    design: &Design,
+    grid: &Grid,
+    placement: &Placement,
+) -> Result<(), PlaceFault>
+    requires { IsLegal design.now grid.now [] placement.now.sites }
+    // What is written is the text.
+    ensures whole { OnOk result (Appends (W.contents out.old) (W.contents out.new) (place_text labels.now.net.now labels.now.arch.now design.now grid.now placement.now.sites)) }
+    // A label is refused where it cannot stand in a header, and there alone.
+    ensures label { (result ≡ Err BadLabel) ↔ (are_labels labels.now.net.now labels.now.arch.now ≡ false) }
+    ensures only { IfErr result IsWriteFault }
+    // Another fault than the writer's writes nothing, and a writer that fails has taken a beginning.
+    ensures silent { IfErr result (λ e. e ≢ Write → W.contents out.new ≡ W.contents out.old) }
+    ensures cut { IfErr result (λ e. e ≡ Write → IsCut (place_text labels.now.net.now labels.now.arch.now design.now grid.now placement.now.sites) (W.contents out.old) (W.contents out.new)) }
+    // The writer failed only where the answer says so.
+    ensures sound { OnOk result (W.failed out.new ≡ W.failed out.old) }
+    ensures failed { IfErr result (λ e. W.failed out.new ≡ failed_with e (W.failed out.old)) }
+{
+    if !are_labels(labels) {
+        return Err(PlaceFault::BadLabel);
+    }
+    let text = text_of(alloc, labels, design, grid, placement)?;
+    write_whole(out, &text)?;
+    Ok(())
+}
+
+/// The law that the text of a legal placement stands for it, so that `read_place` gives it back: whatever the labels
+/// that can stand in a header, of each design whose names can each be one word of a line.
+pub fn written_texts_read_back()
+    ensures { ReadBack }
+{}
