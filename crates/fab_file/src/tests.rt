@@ -1,7 +1,7 @@
 use crate::{Labels, PlaceFault, PlaceLines, place_size, read_pins, read_place, write_place};
 use fab_arch::{Grid, Site, read_arch};
 use fab_net::{BlockId, Design, read_net};
-use fab_site::{Pins, Placement};
+use fab_site::{ListWords, Pins, Placement, start};
 use fab_text::{Counted, Lines, Sink};
 use std::alloc::{AllocError, Global};
 use std::io;
@@ -431,5 +431,47 @@ fn what_is_written_reads_back(rt: HostRuntime) -> Result<(), Fail> {
         sites_in(rt.alloc(), outcome.text.as_slice())?,
         Some(wanted)
     );
+    Ok(())
+}
+
+// Two logic blocks, `b1` and `b2`.
+fn two_blocks(alloc: Global) -> Result<Design, Fail> {
+    let arch = read_arch(alloc, b"io_rat 1\noutpin class: 0 top\n")?;
+    Ok(read_net(alloc, b".clb b1\npinlist: x\n.clb b2\npinlist: y\n", &arch)?)
+}
+
+fn two_sites(placement: &Placement) -> Option<[Site; 2]> {
+    if placement.blocks() == 2 {
+        Some([placement.site_of(BlockId(0)), placement.site_of(BlockId(1))])
+    } else {
+        None
+    }
+}
+
+// Where two blocks start on an array of 2 by 2 with this location text, where all start words are 0.
+fn started(alloc: Global, text: &[u8]) -> Result<Option<[Site; 2]>, Fail> {
+    let grid = Grid::new(2, 2, 1)?;
+    let design = two_blocks(alloc)?;
+    if grid.holds(design.logic_blocks(), design.pads()).is_err() {
+        return Ok(None);
+    }
+    let words = ListWords {
+        starts: Vec::new(alloc),
+        moves: Vec::new(alloc),
+    };
+    match read_pins(alloc, text, &design, &grid) {
+        Ok(pins) => Ok(two_sites(&start(alloc, &design, &grid, &pins, &words)?)),
+        Err(_) => Ok(None),
+    }
+}
+
+#[test]
+fn given_blocks_start_at_their_sites(rt: HostRuntime) -> Result<(), Fail> {
+    let alloc = rt.alloc();
+    let given = [site(2, 1, 0), site(1, 1, 0)];
+    assert_eq!(rt; started(alloc, b"b2 1 1 0")?, Some(given));
+    assert_eq!(rt; started(alloc, b"b2 1 1 0 free")?, Some(given));
+    assert_eq!(rt; started(alloc, b"")?, Some([site(1, 1, 0), site(2, 2, 0)]));
+    assert_eq!(rt; started(alloc, b"b1 1 1 0 free\nb2 1 1 0")?, None);
     Ok(())
 }
