@@ -1,5 +1,5 @@
--- What a location text stands for (fixing after the VPR manual's pad file; that it may name any block, and the last word
--- `free`, are our own): a header, which may be left out, and lines that give blocks their sites, in any order.
+-- What a location text stands for (fixing after the VPR manual's pad file; that it may name any block, that its header
+-- may be left out, and the last word `free` are our own): a header, which may be left out, and lines that give blocks their sites, in any order.
 use Rattle.std.specs.Prelude.{ℕ, ◌≡◌, Bool, true, false, ◌&&◌, ◌==◌, if◌then◌else◌, List, [], ◌∷◌, length, map, take, drop, codes, Option, Some, None}
 use Rattle.std.specs.List.{AllByRecursion}
 use Rattle.fab_text.specs.Lines.{TextLine}
@@ -62,7 +62,7 @@ abbrev pub first_given : (TextLine → Option Site) → List TextLine → Option
 first_given by_line [] = None
 first_given by_line (l ∷ ls) = either_site (by_line l) (first_given by_line ls)
 
--- the text stands for these sites: a header gives the array's size, each line locates a block, no block has two lines,
+-- the text stands for these sites: a header, where there is one, gives the array's size, each line locates a block, no block has two lines,
 -- blocks are fixed and begun where their lines say and no others are, and no site is given twice
 pub record IsLocated (d : Netlist) (g : GridShape) (ls : List TextLine) (fixed begun : List (Option Site)) : Type 0 where
   pub header : has_header ls ≡ true → place_size_of ls ≡ Some (g.nx, g.ny)

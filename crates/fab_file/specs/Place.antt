@@ -78,7 +78,7 @@ pub record Places (d : Netlist) (sites : List Site) (l : TextLine) : Type 0 wher
 abbrev pub names_block : List ℕ → TextLine → Bool
 names_block name l = bytes_eq name (word_at l 0)
 
--- the text stands for this placement: behind its header each line places a block, no block has two lines, each has
+-- the text stands for this placement: its header gives the size of the array, behind it each line places a block, no block has two lines, each has
 -- one, and the placement is legal
 pub record StandsFor (d : Netlist) (g : GridShape) (ls : List TextLine) (sites : List Site) : Type 0 where
   pub files : TextLine

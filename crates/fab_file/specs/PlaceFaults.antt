@@ -1,4 +1,4 @@
--- The first fault of a .place text.
+-- The first fault of a .place text (its order is our own).
 use Rattle.std.specs.Prelude.{ℕ, ◌≡◌, ◌==◌, Bool, true, false, not, ◌&&◌, is_some, List, [], ◌∷◌, ◌++◌, if◌then◌else◌, length, map, position, Option, Some, None}
 use Rattle.std.specs.List.{list_any, filter_map}
 use Rattle.std.specs.Str.{bytes_eq}

@@ -1,4 +1,4 @@
--- What is written reads back.
+-- What is written reads back (our own).
 use Rattle.std.specs.Prelude.{ℕ, ◌≡◌, true, List, []}
 use Rattle.std.specs.List.{AllByRecursion}
 use Rattle.fab_text.specs.Lines.{lines}

@@ -1,4 +1,4 @@
--- A netlist, as contracts see a design (VPR manual; Betz, Rose and Marquardt): blocks by number, and nets by
+-- A netlist, as contracts see a design (VPR manual): blocks by number, and nets by
 -- number with a terminal for each pin on them.
 use Rattle.std.specs.Prelude.{ℕ, ◌≡◌, ◌≤◌, ◌<◌, ◌+◌, Bool, true, false, not, ◌==◌, List, [], ◌∷◌, map, filter, count_by, length, slice_index_or, codes, refl}
 use Rattle.std.specs.List.{range_with_len, list_any, sum_by}
@@ -55,7 +55,7 @@ pad_count d = count_by (λ k. not (is_logic k)) d.kinds
 abbrev pub terminal_count : Netlist → ℕ
 terminal_count d = sum_by length d.terminals
 
--- the limits of a design, that its blocks have distinct names, and that its nets have terminals, on its blocks alone
+-- the limits of a design, that each block has a name and each net is global or not, that its blocks have distinct names, and that its nets have terminals, on its blocks alone
 pub record IsLawful (d : Netlist) : Type 0 where
   pub few_blocks : length d.kinds ≤ 65535
   pub few_nets : length d.terminals ≤ 65535

@@ -22,7 +22,7 @@ use Rattle.fab_run.specs.RunFaults.{of_arch, of_net, of_place}
 use Rattle.fab_run.specs.Check.{MeanDesign, FitsOn, AreChecked, FaultOf, IsTextFault, failed_with}
 use Rattle.fab_net.specs.Netlist.{Netlist, is_logic, logic_count, pad_count}
 
--- a fault of a text is not one of the report's writer
+-- the fault of a reader is not that of the report's writer
 
 pub arch_text : (e : ArchFault) → IsTextFault (of_arch e)
 arch_text arch_fault.NoIoRat = tt

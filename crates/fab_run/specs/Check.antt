@@ -21,13 +21,13 @@ use Rattle.fab_run.specs.declared.fault.RunFault.{RunFault}
 use Rattle.fab_run.specs.declared.fault.RunFault.TheVariants.{Arch, Net, Place, Size, Report, NoMemory}
 use Rattle.fab_run.specs.CheckReport.{check_report}
 
--- the texts mean this design, and so many pads at a position of the array
+-- the two texts mean this design, and that a position of the array takes so many pads (the io_rat)
 pub record MeanDesign (arch net : List ℕ) (io_rat : ℕ) (d : Netlist) : Type 0 where
   pub pins : List PinKind
   pub architecture : IsArch (lines arch) io_rat pins
   pub netlist : IsNetlist pins (lines net) d
 
--- and the header of the placement text gives the size of the array
+-- the first two texts mean this design and this io_rat, and the header of the third gives the size of this array
 pub record GiveArray (arch net place : List ℕ) (d : Netlist) (g : GridShape) : Type 0 where
   pub design : MeanDesign arch net g.io_rat d
   pub size : place_size_of (lines place) ≡ Some (g.nx, g.ny)
@@ -83,7 +83,7 @@ IsReported arch net place cost old new = (report : List ℕ) × IsReport arch ne
 abbrev pub IsCut : List ℕ → List ℕ → List ℕ → Option (List ℕ) → Option (List ℕ) → Type 0
 IsCut arch net place old new = (cost : ℕ) × (report : List ℕ) × IsReport arch net place cost report × (n : ℕ) × (n < length report) × Appends old new (take n report)
 
--- the fault is one of the texts, or want of memory, and not one of the report's writer
+-- the fault is not that of the report's writer
 abbrev pub IsTextFault : RunFault → Type 0
 IsTextFault (Arch e) = Unit {0}
 IsTextFault (Net e) = Unit {0}

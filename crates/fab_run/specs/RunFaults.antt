@@ -1,4 +1,4 @@
--- What a run answers for a fault of one of its texts: the fault with its role, or want of memory.
+-- What a run answers for a fault of one of its readers or writers (our own): the fault with its role, or want of memory.
 use Rattle.fab_arch.specs.declared.fault.ArchFault.{ArchFault}
 use Rattle.fab_arch.specs.declared.fault.ArchFault.TheVariants.{NoMemory as ArchNoMemory}
 use Rattle.fab_net.specs.declared.fault.NetFault.{NetFault}

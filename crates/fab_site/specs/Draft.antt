@@ -30,7 +30,8 @@ is_missing s = not (is_some s)
 abbrev pub NoneShared : List (Option Site) → Type 0
 NoneShared sites = (a b : ℕ) (s : Site) → slice_get sites a ≡ Some (Some s) → slice_get sites b ≡ Some (Some s) → a ≡ b
 
--- the table holds, for every site, the block that stands there
+-- the table has a place for each site, and holds, for every site, the block that stands there; the blocks are few, and
+-- no two are on one site
 pub record IsTabled (g : GridShape) (sites : List (Option Site)) (holders : List ℕ) : Type 0 where
   pub size : length holders ≡ site_count g
   pub few : length sites ≤ 65535

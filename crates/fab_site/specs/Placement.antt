@@ -1,5 +1,4 @@
--- A placement is the list of sites by block number (Betz, Rose and Marquardt: each block on a site of its kind, no
--- two on one).
+-- A placement is the list of sites by block number (our own): each block on a site of its kind, no two on one.
 use Rattle.std.specs.Prelude.{ℕ, ◌≡◌, ◌+◌, ◌<◌, Bool, ◌&&◌, ◌==◌, if◌then◌else◌, List, [], ◌∷◌, length, Option, Some, None, slice_get, slice_index_or, slice_set, refl}
 use Rattle.fab_arch.specs.declared.array.Site.{Site}
 use Rattle.fab_arch.specs.declared.array.SiteKind.{SiteKind}
@@ -42,7 +41,8 @@ abbrev pub swapped : List Site → Swap → List Site
 swapped sites s = with_other (slice_set sites s.block.0 s.to) s.other s.from
 
 -- the swap is one of these sites (our own): its block stands at `from` and goes to another site of the same kind,
--- and `other` is the block that stands there, if any
+-- and `other` is the block that stands there, if any. Blocks of a placement stand on sites of its array, so `to` is
+-- one of them too
 pub record IsSwapOf (g : GridShape) (sites : List Site) (s : Swap) : Type 0 where
   pub stands : slice_get sites s.block.0 ≡ Some s.from
   pub away : ¬ (s.to ≡ s.from)

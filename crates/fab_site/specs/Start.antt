@@ -28,7 +28,7 @@ given_sites d fixed begun = map (given_at fixed begun) (range_with_len 0 (length
 abbrev pub sites_left : List (Option Site) → List Site → List Site
 sites_left given sites = filter (λ s. not (is_some (holder_of given s))) sites
 
--- the entry of a list that a word picks
+-- the number of the entry of a list that a word picks
 abbrev pub entry_of : ℕ → List Site → ℕ
 entry_of w left = pick_of w (length left)
 

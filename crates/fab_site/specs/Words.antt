@@ -1,4 +1,5 @@
--- Random words: what a start placement and moves draw from (our own).
+-- Random words: what a start placement and moves draw from (our own). A word is below 2^32, which is the type of what
+-- gives it.
 use Rattle.std.specs.Prelude.{ℕ, ◌≡◌, ◌-◌, ◌*◌, ◌/◌, ◌^◌, List, [], ◌∷◌, slice_index_or, refl}
 
 -- a choice among so many, by a word of 32 bits

@@ -1,4 +1,5 @@
--- How a run of the program ends: the number that the shell is told, and the end that each fault leads to.
+-- How a run of the program ends (our own): the number that the shell is told, and the end that each fault of a run
+-- leads to.
 use Rattle.std.specs.Prelude.{ℕ}
 use Rattle.fab_arch.specs.declared.fault.ArchFault.TheVariants.{NoMemory as ArchNoMemory}
 use Rattle.fab_net.specs.declared.fault.NetFault.TheVariants.{NoMemory as NetNoMemory}
