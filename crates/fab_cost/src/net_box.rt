@@ -33,7 +33,7 @@ pub(crate) const NO_BOX: NetBox = NetBox {
 
 #[tactic(auto, unfolding(crate::specs::Cost::clip))]
 /// The coordinate brought into 1 to `side`.
-fn clipped(side: u16, at: u16) -> u16
+pub(crate) fn clipped(side: u16, at: u16) -> u16
     ensures { result ≡ clip side at }
 {
     at.min(side).max(1)
