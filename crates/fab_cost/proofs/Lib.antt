@@ -6,6 +6,8 @@ pub mod BoxMoves
 pub mod Numbers
 pub mod Split
 pub mod Nets
+pub mod Renewals
 pub mod Bounds
 pub mod Making
+pub mod CountedMaking
 pub mod Tested

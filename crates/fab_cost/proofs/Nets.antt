@@ -162,3 +162,9 @@ sum_more d g sites but b i n sum more h en es em =
 
 pub sum_all : (d : Netlist) (g : GridShape) (sites : List Site) (but : Option BlockId) (b i sum : ℕ) → length (nets_of d b) ≤ i → sum ≡ sum_by (cost_unless d g sites but) (take i (nets_of d b)) → sum ≡ sum_by (cost_unless d g sites but) (nets_of d b)
 sum_all d g sites but b i sum h es = es ∙ ap (sum_by (cost_unless d g sites but)) (take_all i (nets_of d b) h)
+
+pub sum_low : (d : Netlist) (g : GridShape) (sites : List Site) (but : Option BlockId) (b r : ℕ) → IsLawful d → (1 ≤ g.nx) × (g.nx ≤ 1000) → (1 ≤ g.ny) × (g.ny ≤ 1000) → r ≡ sum_by (cost_unless d g sites but) (nets_of d b) → r < 2 ^ 42
+sum_low d g sites but b r is x y e = omega (arith, e, sum_below d g sites but b is (record { columns = x; rows = y }))
+
+pub cost_low : (d : Netlist) (g : GridShape) (sites : List Site) → IsLawful d → (1 ≤ g.nx) × (g.nx ≤ 1000) → (1 ≤ g.ny) × (g.ny ≤ 1000) → cost_of d g sites < 2 ^ 42
+cost_low d g sites is x y = cost_few d g sites is (record { columns = x; rows = y })

@@ -4,6 +4,7 @@
 pub mod counting;
 pub mod crossings;
 pub mod edge_counts;
+pub mod edge_boxes;
 pub mod net_box;
 pub mod net_boxes;
 #[cfg(test)]
@@ -11,6 +12,7 @@ mod tests;
 pub mod wire;
 
 pub use crossings::cross;
+pub use edge_boxes::EdgeBoxes;
 pub use edge_counts::EdgeCounts;
 pub use net_box::NetBox;
 pub use net_boxes::Boxes;
