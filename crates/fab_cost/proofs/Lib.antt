@@ -7,6 +7,7 @@ pub mod Numbers
 pub mod Split
 pub mod Nets
 pub mod Renewals
+pub mod PlainRenewals
 pub mod Bounds
 pub mod Making
 pub mod CountedMaking

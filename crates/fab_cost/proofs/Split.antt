@@ -114,6 +114,10 @@ pub box_kept : (d : Netlist) (g : GridShape) (sites : List Site) (s : Swap) (n :
 unfolding counted_box
 box_kept d g sites s n f h = ap (counted_on g) (same_sites d sites s n f h)
 
+pub plain_kept : (d : Netlist) (g : GridShape) (sites : List Site) (s : Swap) (n : ℕ) → has_number s.block.0 (blocks_of d n) ≡ false → has_block s.other (blocks_of d n) ≡ false → net_box d g (swapped sites s) n ≡ net_box d g sites n
+unfolding net_box
+plain_kept d g sites s n f h = ap (box_on g) (same_sites d sites s n f h)
+
 cost_kept : (d : Netlist) (g : GridShape) (sites : List Site) (s : Swap) (n : ℕ) → has_number s.block.0 (blocks_of d n) ≡ false → has_block s.other (blocks_of d n) ≡ false → net_cost d g (swapped sites s) n ≡ net_cost d g sites n
 unfolding net_cost net_box
 cost_kept d g sites s n f h = ap (λ v. cross_of (length (blocks_of d n)) * half_perimeter (box_on g v)) (same_sites d sites s n f h)

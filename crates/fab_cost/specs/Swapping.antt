@@ -10,8 +10,8 @@ use Rattle.fab_site.specs.Placement.{PlacementOf, site_of, site, swapped, IsSwap
 use Rattle.fab_cost.specs.declared.edge_counts.Edge.{Edge}
 use Rattle.fab_cost.specs.declared.edge_counts.Edges.{Edges}
 use Rattle.fab_cost.specs.declared.edge_counts.CountedBox.{CountedBox}
-use Rattle.fab_cost.specs.Cost.{xs_of, ys_of, clip, cost_of, net_cost, net_box, box_on, half_perimeter, cross_of}
-use Rattle.fab_cost.specs.Boxes.{Counts}
+use Rattle.fab_cost.specs.Cost.{Box, xs_of, ys_of, clip, cost_of, net_cost, net_box, box_on, half_perimeter, cross_of}
+use Rattle.fab_cost.specs.Boxes.{Counts, box_at}
 use Rattle.fab_cost.specs.Edges.{Moved, times, counted_on, counted_box, edge_counts, edges_of}
 
 -- the cost after the swap less the cost before, two whole sums
@@ -101,6 +101,16 @@ sites_by done before after = if done then after else before
 pub record AreRenewed (boxes : List CountedBox) (d : Netlist) (g : GridShape) (before after : List Site) (done : ℕ → Bool) : Type 0 where
   pub long : length boxes ≡ length d.terminals
   pub each : (n : ℕ) → Counts d n → counted_at boxes n ≡ counted_box d g (sites_by (done n) before after) n
+
+-- each net that counts has its box
+pub record HavePlain (boxes : List Box) (d : Netlist) (g : GridShape) (sites : List Site) : Type 0 where
+  pub long : length boxes ≡ length d.terminals
+  pub each : (n : ℕ) → Counts d n → box_at boxes n ≡ net_box d g sites n
+
+-- the boxes of these nets are those after the swap, and all others those before it
+pub record PlainRenewed (boxes : List Box) (d : Netlist) (g : GridShape) (before after : List Site) (done : ℕ → Bool) : Type 0 where
+  pub long : length boxes ≡ length d.terminals
+  pub each : (n : ℕ) → Counts d n → box_at boxes n ≡ net_box d g (sites_by (done n) before after) n
 
 -- block 1 has two terminals on the net
 abbrev two_pins : Netlist

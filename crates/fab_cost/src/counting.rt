@@ -50,7 +50,7 @@ pub(crate) fn times_on_other(terminals: &[Terminal], other: Option<BlockId>) -> 
 
 #[tactic(auto, using(crate::proofs::Sited::site_of_moved, crate::proofs::Sited::site_of_other, crate::proofs::Sited::site_of_rest))]
 /// Where the block stands after the swap, if there is one.
-fn site_after(placement: &Placement, swap: Option<Swap>, block: BlockId) -> Site
+pub(crate) fn site_after(placement: &Placement, swap: Option<Swap>, block: BlockId) -> Site
     requires within { block.0 < length placement.now.sites }
     requires lawful { IsSwapIfAny placement.now swap }
     ensures { result ≡ site_of (swapped_by placement.now.sites swap) block.0 }

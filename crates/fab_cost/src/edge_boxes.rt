@@ -22,14 +22,14 @@ use std::marker::Model;
 
 /// What some nets cost after a swap, and before it.
 #[derive(Clone, Copy)]
-struct Tally {
-    gained: u64,
-    lost: u64,
+pub(crate) struct Tally {
+    pub(crate) gained: u64,
+    pub(crate) lost: u64,
 }
 
 #[tactic(auto, using(crate::proofs::Nets::net_number, crate::proofs::Nets::net_counts, crate::proofs::Nets::net_within))]
 /// One of a block's nets.
-fn net_of(design: &Design, block: BlockId, i: usize) -> NetId
+pub(crate) fn net_of(design: &Design, block: BlockId, i: usize) -> NetId
     requires block { block.0 < length design.now.kinds }
     requires within { i < length (nets_of design.now block.0) }
     ensures number { result.0 ≡ slice_index (nets_of design.now block.0) i }
@@ -40,7 +40,7 @@ fn net_of(design: &Design, block: BlockId, i: usize) -> NetId
 
 #[tactic(auto, using(crate::proofs::Nets::net_count))]
 /// How many nets a block has.
-fn count_of_nets(design: &Design, block: BlockId) -> usize
+pub(crate) fn count_of_nets(design: &Design, block: BlockId) -> usize
     requires { block.0 < length design.now.kinds }
     ensures { result ≡ length (nets_of design.now block.0) }
 {
@@ -49,7 +49,7 @@ fn count_of_nets(design: &Design, block: BlockId) -> usize
 
 #[tactic(auto, using(crate::proofs::Making::terminals_some, crate::proofs::Bounds::terminals_few, crate::proofs::Nets::is_on, crate::proofs::Nets::is_off))]
 /// Whether the block, if there is one, has a terminal on the net.
-fn is_on(design: &Design, block: Option<BlockId>, net: NetId) -> bool
+pub(crate) fn is_on(design: &Design, block: Option<BlockId>, net: NetId) -> bool
     requires { Counts design.now net.0 }
     ensures { result ≡ has_block block (blocks_of design.now net.0) }
 {

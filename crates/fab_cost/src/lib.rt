@@ -9,6 +9,7 @@ pub mod net_box;
 pub mod net_boxes;
 #[cfg(test)]
 mod tests;
+mod whole_boxes;
 pub mod wire;
 
 pub use crossings::cross;
