@@ -102,7 +102,7 @@ impl NetBox {
     {
         let swap = Some(*swap);
         let mut found = NetBox::one(grid, site_after(placement, swap, terminals[0].block));
-        'terminals: for i in 1..terminals.len() {
+        'moved: for i in 1..terminals.len() {
             found = found.with(grid, site_after(placement, swap, terminals[i].block));
         }
         found
