@@ -285,7 +285,15 @@ fn renew(
     renew_nets(boxes, design, grid, placement, swap, swap.block, None);
     match swap.other {
         None => {}
-        Some(other) => renew_nets(boxes, design, grid, placement, swap, other, Some(swap.block)),
+        Some(other) => renew_nets(
+            boxes,
+            design,
+            grid,
+            placement,
+            swap,
+            other,
+            Some(swap.block),
+        ),
     }
 }
 

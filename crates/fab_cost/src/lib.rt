@@ -3,8 +3,8 @@
 
 pub mod counting;
 pub mod crossings;
-pub mod edge_counts;
 pub mod edge_boxes;
+pub mod edge_counts;
 pub mod net_box;
 pub mod net_boxes;
 #[cfg(test)]

@@ -207,6 +207,14 @@ pub(crate) fn renew(
     renew_nets(boxes, design, grid, placement, swap, swap.block, None);
     match swap.other {
         None => {}
-        Some(other) => renew_nets(boxes, design, grid, placement, swap, other, Some(swap.block)),
+        Some(other) => renew_nets(
+            boxes,
+            design,
+            grid,
+            placement,
+            swap,
+            other,
+            Some(swap.block),
+        ),
     }
 }
