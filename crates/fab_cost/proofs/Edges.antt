@@ -49,7 +49,7 @@ box_with g b s x y xmin xmax ymin ymax ex ey e1 e2 e3 e4 = λ sites some is.
 abbrev pub sites_to : List Site → List Terminal → ℕ → List Site
 sites_to sites ts i = map (site_of sites) (map block_on (take i ts))
 
-sites_more : (sites : List Site) (ts : List Terminal) (i : ℕ) (d : Terminal) → i < length ts → sites_to sites ts (i + 1) ≡ sites_to sites ts i ++ site_of sites (block_on (get_or ts i d)) ∷ []
+pub sites_more : (sites : List Site) (ts : List Terminal) (i : ℕ) (d : Terminal) → i < length ts → sites_to sites ts (i + 1) ≡ sites_to sites ts i ++ site_of sites (block_on (get_or ts i d)) ∷ []
 sites_more sites ts i d h =
     ap (map (site_of sites)) (map_more block_on ts i d h) ∙ map_push (site_of sites) (map block_on (take i ts)) (block_on (get_or ts i d))
 

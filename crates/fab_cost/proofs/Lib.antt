@@ -1,4 +1,14 @@
 pub mod Edges
+pub mod Times
+pub mod Moves
+pub mod Sited
+pub mod BoxMoves
+pub mod Numbers
+pub mod Split
+pub mod Nets
+pub mod Renewals
+pub mod PlainRenewals
 pub mod Bounds
 pub mod Making
+pub mod CountedMaking
 pub mod Tested

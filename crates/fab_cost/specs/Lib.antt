@@ -1,2 +1,4 @@
 pub mod Cost
 pub mod Boxes
+pub mod Edges
+pub mod Swapping

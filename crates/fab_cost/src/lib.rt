@@ -1,12 +1,20 @@
 //! The wire cost of placements.
 #![tactic(auto)]
 
+pub mod counting;
 pub mod crossings;
+pub mod edge_boxes;
+pub mod edge_counts;
 pub mod net_box;
 pub mod net_boxes;
 #[cfg(test)]
 mod tests;
+mod whole_boxes;
+pub mod wire;
 
 pub use crossings::cross;
+pub use edge_boxes::EdgeBoxes;
+pub use edge_counts::EdgeCounts;
 pub use net_box::NetBox;
 pub use net_boxes::Boxes;
+pub use wire::WireCost;

@@ -3,13 +3,14 @@
 ghost use Rattle.std.specs.Prelude.{◌≡◌, ◌<◌, ◌≤◌, ◌*◌, [], ◌∷◌, map, length};
 ghost use Rattle.std.specs.List.{All};
 ghost use Rattle.fab_net.specs.Netlist.{block_on};
-ghost use Rattle.fab_site.specs.Placement.{site_of};
+ghost use Rattle.fab_site.specs.Placement.{site_of, swapped, IsSwapOf};
 ghost use Rattle.fab_cost.specs.Cost.{clip, box_on, cross_of, half_perimeter};
 
+use crate::counting::site_after;
 use crate::crossings::cross;
 use fab_arch::{Grid, Site};
 use fab_net::Terminal;
-use fab_site::Placement;
+use fab_site::{Placement, Swap};
 
 /// A bounding box: the first and last columns and rows that a net covers. A pad counts as if it stood in the
 /// column or row of logic sites beside it.
@@ -33,7 +34,7 @@ pub(crate) const NO_BOX: NetBox = NetBox {
 
 #[tactic(auto, unfolding(crate::specs::Cost::clip))]
 /// The coordinate brought into 1 to `side`.
-fn clipped(side: u16, at: u16) -> u16
+pub(crate) fn clipped(side: u16, at: u16) -> u16
     ensures { result ≡ clip side at }
 {
     at.min(side).max(1)
@@ -82,6 +83,27 @@ impl NetBox {
         let mut found = NetBox::one(grid, placement.site_of(terminals[0].block));
         'terminals: for i in 1..terminals.len() {
             found = found.with(grid, placement.site_of(terminals[i].block));
+        }
+        found
+    }
+
+    #[tactic(auto, using(crate::proofs::Edges::box_first, crate::proofs::Edges::box_more, crate::proofs::Edges::box_whole))]
+    /// The box of a net with these terminals, once a swap is made.
+    pub(crate) fn around_after(
+        placement: &Placement,
+        swap: &Swap,
+        grid: &Grid,
+        terminals: &[Terminal],
+    ) -> NetBox
+        requires some { 0 < length terminals.now }
+        requires within { All (λ t. t.block.0 < length placement.now.sites) terminals.now }
+        requires lawful { IsSwapOf placement.now.grid placement.now.sites swap.now }
+        ensures { box_of result ≡ box_on grid.now (map (site_of (swapped placement.now.sites swap.now)) (map block_on terminals.now)) }
+    {
+        let swap = Some(*swap);
+        let mut found = NetBox::one(grid, site_after(placement, swap, terminals[0].block));
+        'moved: for i in 1..terminals.len() {
+            found = found.with(grid, site_after(placement, swap, terminals[i].block));
         }
         found
     }

@@ -7,9 +7,11 @@ ghost use Rattle.fab_cost.specs.Boxes.{box_of, StandsFor, Counts};
 ghost use Rattle.fab_cost.specs.Cost.{cost_of, net_box, net_cost};
 
 use crate::net_box::{NO_BOX, NetBox};
+use crate::whole_boxes::{renew, whole_tally};
+use crate::wire::WireCost;
 use fab_arch::Grid;
 use fab_net::{Design, NetId};
-use fab_site::Placement;
+use fab_site::{Placement, Swap};
 use std::alloc::{AllocError, Global};
 use std::marker::Model;
 
@@ -27,7 +29,7 @@ fn box_of_net(design: &Design, grid: &Grid, placement: &Placement, net: NetId) -
 
 #[tactic(auto, using(crate::proofs::Making::net_cost_from, crate::proofs::Making::terminals_some, crate::proofs::Bounds::terminals_few))]
 /// What a net costs, in ten-thousandths, on the sites of which this is its box.
-fn cost_of_net(design: &Design, net: NetId, kept: NetBox) -> u64
+pub(crate) fn cost_of_net(design: &Design, net: NetId, kept: NetBox) -> u64
     requires { Counts design.now net.0 }
     ensures { (g : GridShape) (sites : List Site) → box_of kept ≡ net_box design.now g sites net.0 → result ≡ net_cost design.now g sites net.0 }
 {
@@ -94,5 +96,25 @@ impl Boxes {
         ensures below { result < 2 ^ 43 }
     {
         self.total
+    }
+}
+
+#[tactic(auto, using(crate::proofs::PlainRenewals::have, crate::proofs::PlainRenewals::sum_is, crate::proofs::PlainRenewals::total_is, crate::proofs::PlainRenewals::stands))]
+impl WireCost for Boxes {
+    ghost StandsFor = { λ b d g sites. StandsFor b d g sites };
+
+    fn cost(&self) -> u64 {
+        self.total
+    }
+
+    fn delta(&self, design: &Design, grid: &Grid, placement: &Placement, swap: &Swap) -> i64 {
+        let tally = whole_tally(&self.boxes, design, grid, placement, swap);
+        tally.gained as i64 - tally.lost as i64
+    }
+
+    fn apply(&mut self, design: &Design, grid: &Grid, placement: &Placement, swap: &Swap) {
+        let tally = whole_tally(&self.boxes, design, grid, placement, swap);
+        renew(&mut self.boxes, design, grid, placement, swap);
+        self.total = self.total + tally.gained - tally.lost;
     }
 }
