@@ -8,6 +8,7 @@ use Rattle.std.proofs.lemmas.Bool.Decides.{nat_tests}
 use Rattle.std.proofs.lemmas.Grind.{flat_map-append}
 use Rattle.std.proofs.lemmas.List.FromFn.{fill_by_all}
 use Rattle.fab_text.specs.Lines.{TextLine, lines, is_continued}
+use Rattle.fab_text.specs.LineWords.{can_be_word, AreWords}
 use Rattle.fab_arch.specs.declared.array.Site.{Site}
 use Rattle.fab_arch.specs.declared.array.SiteKind.{SiteKind}
 use Rattle.fab_arch.specs.Grid.{GridShape, AreLimits, kind_at, is_logic_site, is_pad_site}
@@ -16,8 +17,8 @@ use Rattle.fab_net.specs.Names.{number_of, AllDistinct}
 use Rattle.fab_net.specs.Netlist.{Netlist, IsLawful}
 use Rattle.fab_site.specs.Placement.{site_of, kind_wanted, IsLegal}
 use Rattle.fab_file.specs.Place.{word_at, small_number, is_files_line, size_in, site_in, Places, names_block}
-use Rattle.fab_file.specs.Written.{can_be_word, is_label, are_labels, head_lines, block_line, block_lines, ended, place_text}
-use Rattle.fab_file.specs.ReadsBack.{AreWords, ReadBack}
+use Rattle.fab_file.specs.Written.{is_label, are_labels, head_lines, block_line, block_lines, ended, place_text}
+use Rattle.fab_file.specs.ReadsBack.{ReadBack}
 use Rattle.fab_file.proofs.Seats.{none_some, first_word}
 use Rattle.fab_file.proofs.Legal.{any_at, number_at}
 use Rattle.fab_file.proofs.Split.{Says}
@@ -91,9 +92,9 @@ all_have_words d sites (b ∷ bs) = ap (λ ws. words_at_block d sites b ∷ ws) 
 site_small : (d : Netlist) (g : GridShape) (sites : List Site) (b : ℕ) → AreLimits g.nx g.ny g.io_rat → IsLegal d g [] sites → b < length d.kinds → Small (site_of sites b)
 site_small d g sites b limits legal lt = small_site g (site_of sites b) (kind_wanted d b) limits (legal.fit b (omega (arith, legal.all)))
 
-told : (net arch : List ℕ) (d : Netlist) (g : GridShape) (sites : List Site) → are_labels net arch ≡ true → IsLawful d → AreWords d.names → AreLimits g.nx g.ny g.io_rat → IsLegal d g [] sites
+told : (net arch : List ℕ) (d : Netlist) (g : GridShape) (sites : List Site) → are_labels net arch ≡ true → IsLawful d → AreLimits g.nx g.ny g.io_rat → IsLegal d g [] sites
     → map words_in (lines (place_text net arch d g sites)) ≡ files_words net arch ∷ size_words g ∷ map (words_at_block d sites) (range_with_len 0 (length d.kinds))
-told net arch d g sites labels law words limits legal =
+told net arch d g sites labels law limits legal =
     let both : (is_label net ≡ true) × (is_label arch ≡ true) = and_parts (is_label net) (is_label arch) labels in
     let first : (can_be_word net ≡ true) × (not (is_continued net) ≡ true) = and_parts (can_be_word net) (not (is_continued net)) both.0 in
     let second : (can_be_word arch ≡ true) × (not (is_continued arch) ≡ true) = and_parts (can_be_word arch) (not (is_continued arch)) both.1 in
@@ -101,7 +102,7 @@ told net arch d g sites labels law words limits legal =
     let block : (b : ℕ) → 0 ≤ b → b < 0 + length d.kinds → Says (block_line d sites b) (words_at_block d sites b) =
     λ b ge lt.
     let small = site_small d g sites b limits legal (omega arith) in
-    block_says (name_at d b) (site_of sites b) b (name_word d.names b (omega (arith, law.named)) words) (wide _ small.x) (wide _ small.y) (wide _ small.sub) (omega (arith, law.few_blocks)) in
+    block_says (name_at d b) (site_of sites b) b (name_word d.names b (omega (arith, law.named)) law.words) (wide _ small.x) (wide _ small.y) (wide _ small.sub) (omega (arith, law.few_blocks)) in
     let blocks = blocks_say d sites bs (in_range (λ b. Says (block_line d sites b) (words_at_block d sites b)) 0 (length d.kinds) block) in
     let say : AllSay (head_lines net arch g ++ block_lines d sites) (files_words net arch ∷ size_words g ∷ [] ∷ [] ∷ [] ∷ map (words_at_block d sites) bs) = (
       files_says net arch (word_of net first.0) (word_of arch second.0) (not_true (is_continued arch) second.1),
@@ -194,9 +195,9 @@ all_by_place P [] f = tt
 all_by_place P (x ∷ xs) f = (f 0 (omega arith), all_by_place P xs (λ i lt. f (suc i) (omega arith)))
 
 pub reads_back : ReadBack
-reads_back net arch d g sites labels law words limits legal =
+reads_back net arch d g sites labels law limits legal =
     let bs = range_with_len 0 (length d.kinds) in
-    let t = begun (lines (place_text net arch d g sites)) (files_words net arch) (size_words g) (map (words_at_block d sites) bs) (told net arch d g sites labels law words limits legal) in
+    let t = begun (lines (place_text net arch d g sites)) (files_words net arch) (size_words g) (map (words_at_block d sites) bs) (told net arch d g sites labels law limits legal) in
     let names : map first_word t.rest ≡ d.names = first_words d sites t.rest bs t.others ∙ sym (fill_by_all (name_at d) d.names (length d.kinds) [] law.named (λ i lt. refl)) in
     let placed = in_range (IsPlaced d sites) 0 (length d.kinds)
     (λ b ge lt. record { named = number_at d.names b law.distinct (omega (arith, law.named)); small = site_small d g sites b limits legal (omega arith) }) in

@@ -11,7 +11,7 @@ use Rattle.std.proofs.lemmas.List.{append-nil}
 use Rattle.std.proofs.lemmas.List.Folds.{list_any-append, list_all-append, list_any_at}
 use Rattle.fab_text.specs.Decimal.{decimal_of}
 use Rattle.fab_text.specs.Lines.{is_separator, is_hash, is_line_feed}
-use Rattle.fab_file.specs.Written.{is_mark, can_be_word}
+use Rattle.fab_text.specs.LineWords.{is_mark, can_be_word}
 use Rattle.fab_file.proofs.Seats.{or_neither}
 use Rattle.fab_file.proofs.Split.{last_byte, last-append}
 

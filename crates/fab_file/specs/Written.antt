@@ -5,7 +5,8 @@ use Rattle.std.specs.Fmt.{digits}
 use Rattle.std.specs.Io.KnownBytes.{Appends}
 use Rattle.std.specs.List.{flat_map, list_any, list_all, range_with_len}
 use Rattle.fab_text.specs.Failures.{grown}
-use Rattle.fab_text.specs.Lines.{is_separator, is_line_feed, is_hash, is_continued}
+use Rattle.fab_text.specs.Lines.{is_continued}
+use Rattle.fab_text.specs.LineWords.{can_be_word}
 use Rattle.fab_arch.specs.declared.array.Site.{Site}
 use Rattle.fab_arch.specs.Grid.{GridShape, shape}
 use Rattle.fab_net.specs.declared.pieces.BlockKind.TheVariants.{InputPad, OutputPad, Logic}
@@ -13,14 +14,6 @@ use Rattle.fab_net.specs.Netlist.{Netlist}
 use Rattle.fab_site.specs.Placement.{site_of, site}
 use Rattle.fab_file.specs.declared.fault.PlaceFault.{PlaceFault}
 use Rattle.fab_file.specs.declared.fault.PlaceFault.TheVariants.{BadLabel, Write, NoMemory}
-
--- a space, a tab, a carriage return, a line feed or a `#`, which no word of a line has
-abbrev pub is_mark : ℕ → Bool
-is_mark c = is_separator c || is_line_feed c || is_hash c
-
--- bytes that can be one word of a line: at least one, and no marks
-abbrev pub can_be_word : List ℕ → Bool
-can_be_word word = not (length word == 0) && not (list_any is_mark word)
 
 -- bytes that can stand in a header: one word, whose last byte is no backslash
 abbrev pub is_label : List ℕ → Bool

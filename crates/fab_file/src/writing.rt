@@ -3,11 +3,13 @@
 ghost use Rattle.std.specs.Prelude.{◌≡◌, ◌≢◌, ◌↔◌, ◌<◌, ◌++◌, [], not, length, codes, false, Err, IfErr, IfOk, OnOk, slice_index_or};
 ghost use Rattle.std.specs.List.{flat_map, list_any};
 ghost use Rattle.std.specs.Io.KnownBytes.{Appends};
-ghost use Rattle.fab_text.specs.Lines.{is_continued};
+ghost use Rattle.fab_text.specs.Lines.{is_continued, lines};
+ghost use Rattle.fab_text.specs.LineWords.{is_mark};
 ghost use Rattle.fab_site.specs.Placement.{IsLegal};
 ghost use Rattle.fab_file.specs.declared.fault.PlaceFault.TheVariants.{BadLabel, Write};
+ghost use Rattle.fab_file.specs.Place.{StandsFor};
 ghost use Rattle.fab_file.specs.ReadsBack.{ReadBack};
-ghost use Rattle.fab_file.specs.Written.{is_mark, can_be_word, is_label, are_labels, files_text, size_text, column, block_text, head_lines, block_lines, ended, place_text, IsCut, IsWriteFault, failed_with};
+ghost use Rattle.fab_file.specs.Written.{is_label, are_labels, files_text, size_text, column, block_text, head_lines, block_lines, ended, place_text, IsCut, IsWriteFault, failed_with};
 
 use crate::fault::PlaceFault;
 use fab_arch::{Grid, Site};
@@ -168,6 +170,8 @@ pub fn write_place<W: Sink>(
     requires { IsLegal design.now grid.now [] placement.now.sites }
     // What is written is the text.
     ensures whole { OnOk result (Appends (W.contents out.old) (W.contents out.new) (place_text labels.now.net.now labels.now.arch.now design.now grid.now placement.now.sites)) }
+    // What is written reads back: it stands for the placement.
+    ensures back { OnOk result (StandsFor design.now grid.now (lines (place_text labels.now.net.now labels.now.arch.now design.now grid.now placement.now.sites)) placement.now.sites) }
     // A label is refused where it cannot stand in a header, and there alone.
     ensures label { (result ≡ Err BadLabel) ↔ (are_labels labels.now.net.now labels.now.arch.now ≡ false) }
     ensures only { IfErr result IsWriteFault }
@@ -187,7 +191,7 @@ pub fn write_place<W: Sink>(
 }
 
 /// The law that the text of a legal placement stands for it, so that `read_place` gives it back: whatever the labels
-/// that can stand in a header, of each design whose names can each be one word of a line.
+/// that can stand in a header, of each design.
 pub fn written_texts_read_back()
     ensures { ReadBack }
 {}

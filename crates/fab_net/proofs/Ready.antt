@@ -5,21 +5,24 @@ use Rattle.std.proofs.lemmas.List.Elements.{All-get_or, All-map, All-nil}
 use Rattle.std.proofs.lemmas.Bool.{cases_Bool, ltb-true}
 use Rattle.std.proofs.lemmas.Bool.Decides.{nat_tests}
 use Rattle.std.specs.Prelude.{is_some, slice_index_or}
-use Rattle.std.specs.List.{All, sum_by}
+use Rattle.std.specs.List.{All, AllByRecursion, sum_by}
 use denote.Ref.{Bor}
 use Rattle.fab_text.specs.Lines.{TextLine}
+use Rattle.fab_text.specs.LineWords.{can_be_word, AreWords}
 use Rattle.fab_arch.specs.declared.architecture.PinKind.{PinKind}
+use Rattle.fab_net.specs.declared.pieces.Head.{Head}
+use Rattle.fab_net.specs.declared.pieces.Head.TheVariants as head
 use Rattle.fab_net.specs.declared.pieces.Terminal.{Terminal}
 use Rattle.fab_net.specs.declared.fault.NetFault.{NetFault}
 use Rattle.fab_net.specs.declared.fault.NetFault.TheVariants.{DuplicateBlock, TooLarge}
 use Rattle.fab_net.specs.Names.{number_of}
 use Rattle.fab_net.specs.Netlist.{Netlist, IsLawful, net_at, block_on, terminal_count}
-use Rattle.fab_net.specs.Text.{PinOf, net_names, terminals_of, is_global_in, kind_in, name_in, name_at, sections, IsNetlist}
+use Rattle.fab_net.specs.Text.{Section, PinOf, net_names, terminals_of, is_global_in, kind_in, name_in, name_at, head_of, ahead, sections, sections_by, IsNetlist}
 use Rattle.fab_net.specs.Faults.{driver_fault, text_fault, first_fault}
 use Rattle.fab_net.specs.Said.{Said, said, netlist_said, opens_fault, end_fault, IsReady}
 use Rattle.fab_net.proofs.Naming.{terminals_blocks}
 use Rattle.fab_net.proofs.Texts.{said_blocks}
-use Rattle.fab_net.proofs.Underway.{Underway}
+use Rattle.fab_net.proofs.Underway.{Underway, AreFine}
 use Rattle.fab_net.proofs.Accepted.{none_is_driven, some_terminal, meaning, underway_when}
 
 -- the second word of a line
@@ -29,12 +32,42 @@ name_is ws w lt h = ap (λ x. x.now) h ∙ sym (get_or-map (λ (x : Bor (List �
 pub duplicate : (s : Said) (l : TextLine) → s.awaiting ≡ None → ltb 1 (length l.words) ≡ true → is_some (number_of (name_at l) s.names) ≡ true → opens_fault s l ≡ Some (DuplicateBlock l.number)
 duplicate s l a b c = rw (a, b, c) refl
 
-pub ready_of : (arch : List PinKind) (ls : List TextLine) (s : Said) → s ≡ said arch ls → Underway arch ls → IsReady s
-ready_of arch ls s h u =
+-- a section's block bears a word of the line that opens it
+
+abbrev HasWords : TextLine → Type 0
+HasWords l = AreWords l.words
+
+abbrev IsOpened : Section → Type 0
+IsOpened s = HasWords s.opening
+
+opened_by : (h : Head) (l : TextLine) (body : List TextLine) (later : List Section) → HasWords l → AllByRecursion IsOpened later → AllByRecursion IsOpened (sections_by h l body later)
+opened_by (head.Opens kind) l body later w h = (w, h)
+opened_by head.Pinlist l body later w h = h
+opened_by head.Subblock l body later w h = h
+opened_by head.Global l body later w h = h
+opened_by head.Unknown l body later w h = h
+
+all_opened : (ls : List TextLine) → AllByRecursion HasWords ls → AllByRecursion IsOpened (sections ls)
+all_opened [] h = tt
+all_opened (l ∷ ls) h = opened_by (head_of l) l (ahead ls) (sections ls) h.0 (all_opened ls h.1)
+
+second_word : (ws : List (List ℕ)) → 1 < length ws → AreWords ws → can_be_word (slice_index_or ws 1 []) ≡ true
+second_word [] lt h = absurd (omega arith)
+second_word (w ∷ []) lt h = absurd (omega arith)
+second_word (w ∷ v ∷ ws) lt h = h.1.0
+
+names_are_words : (arch : List PinKind) (ss : List Section) → AreFine arch ss → AllByRecursion IsOpened ss → AreWords (map name_in ss)
+names_are_words arch [] f h = tt
+names_are_words arch (s ∷ []) f h = (second_word s.opening.words f.named h.0, tt)
+names_are_words arch (s ∷ t ∷ ts) f h = (second_word s.opening.words f.0.named h.0, names_are_words arch (t ∷ ts) f.1 h.1)
+
+pub ready_of : (arch : List PinKind) (ls : List TextLine) (s : Said) → s ≡ said arch ls → Underway arch ls → AllByRecursion HasWords ls → IsReady s
+ready_of arch ls s h u w =
     let k = length-map (sections ls) kind_in in
     let n = length-map (sections ls) name_in in
     record {
       distinct = rw h u.distinct;
+      words = rw h (names_are_words arch (sections ls) u.fine (all_opened ls w));
       named = rw h (n ∙ sym k);
       few_blocks = rw h (omega (arith, k, u.few_blocks));
       few_terminals = rw h u.few_terminals;
@@ -64,6 +97,7 @@ lawful_of s r d few =
       few_terminals = omega (arith, few, r.few_terminals);
       named = r.named;
       distinct = r.distinct;
+      words = r.words;
       told = g ∙ sym t;
       some_terminal = λ n lt.
           let at : get_or (map (terminals_of s.pins) names) n [] ≡ terminals_of s.pins (get_or names n []) = get_or-map (terminals_of s.pins) names n [] [] (omega (arith, t, lt)) in

@@ -2,6 +2,7 @@
 -- number with a terminal for each pin on them.
 use Rattle.std.specs.Prelude.{ℕ, ◌≡◌, ◌≤◌, ◌<◌, ◌+◌, Bool, true, false, not, ◌==◌, List, [], ◌∷◌, map, filter, count_by, length, slice_index_or, codes, refl}
 use Rattle.std.specs.List.{range_with_len, list_any, sum_by}
+use Rattle.fab_text.specs.LineWords.{AreWords}
 use Rattle.fab_net.specs.declared.pieces.BlockKind.{BlockKind}
 use Rattle.fab_net.specs.declared.pieces.BlockKind.TheVariants.{InputPad, OutputPad, Logic}
 use Rattle.fab_net.specs.declared.pieces.Terminal.{Terminal}
@@ -55,13 +56,15 @@ pad_count d = count_by (λ k. not (is_logic k)) d.kinds
 abbrev pub terminal_count : Netlist → ℕ
 terminal_count d = sum_by length d.terminals
 
--- the limits of a design, that each block has a name and each net is global or not, that its blocks have distinct names, and that its nets have terminals, on its blocks alone
+-- the limits of a design, that each block has a name and each net is global or not, that the names of its blocks are distinct and can be words of a
+-- line, and that its nets have terminals, on its blocks alone
 pub record IsLawful (d : Netlist) : Type 0 where
   pub few_blocks : length d.kinds ≤ 65535
   pub few_nets : length d.terminals ≤ 65535
   pub few_terminals : terminal_count d ≤ 1048576
   pub named : length d.names ≡ length d.kinds
   pub distinct : AllDistinct d.names
+  pub words : AreWords d.names
   pub told : length d.globals ≡ length d.terminals
   pub some_terminal : (n : ℕ) → n < length d.terminals → 0 < length (net_at d n).blocks
   pub within : (n i : ℕ) → i < length (net_at d n).blocks → slice_index_or (net_at d n).blocks i 0 < length d.kinds

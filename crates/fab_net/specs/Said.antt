@@ -2,6 +2,7 @@
 use Rattle.std.specs.List.{All}
 use Rattle.std.specs.Prelude.{ℕ, ◌≡◌, ◌≤◌, ◌<◌, ◌-◌, ◌==◌, not, nat_lt, List, [], ◌∷◌, ◌++◌, is_some, length, map, drop, slice_get, Option, Some, None, Bool, false}
 use Rattle.fab_text.specs.Lines.{TextLine}
+use Rattle.fab_text.specs.LineWords.{AreWords}
 use Rattle.fab_text.specs.FirstFault.{or_else, unless}
 use Rattle.fab_text.specs.declared.pieces.Span.{Span}
 use Rattle.fab_arch.specs.declared.architecture.PinKind.{PinKind}
@@ -94,6 +95,7 @@ netlist_said s = record { kinds = s.kinds; names = s.names; terminals = map (ter
 -- what all lines of a text have said, before the last checks
 pub record IsReady (s : Said) : Type 0 where
   pub distinct : AllDistinct s.names
+  pub words : AreWords s.names
   pub named : length s.names ≡ length s.kinds
   pub few_blocks : length s.kinds ≤ 65535
   pub few_terminals : length s.pins ≤ 1048576

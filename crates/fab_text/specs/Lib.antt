@@ -4,6 +4,7 @@ pub mod Failures
 pub mod FirstFault
 pub mod Fixed
 pub mod Lines
+pub mod LineWords
 pub mod Runs
 pub mod Shown
 pub mod Steps

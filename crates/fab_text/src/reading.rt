@@ -5,6 +5,7 @@ ghost use Rattle.std.specs.Prelude.{◌≡◌, ℕ, ◌+◌, ◌-◌, ◌++◌, 
 ghost use Rattle.std.specs.List.{before_first};
 ghost use Rattle.fab_text.specs.Steps.{IsNextLine};
 ghost use Rattle.fab_text.specs.Runs.{SeparatorsPassed, RunsAreWords};
+ghost use Rattle.fab_text.specs.LineWords.{LinesHaveWords};
 ghost use Rattle.fab_text.specs.Shown.{shown};
 ghost use Rattle.fab_text.specs.Lines.{is_separator, is_hash, is_line_feed, trimmed, content, is_continued, words_at, bytes_at, physical, without_backslash, joined, lines, lines_from};
 
@@ -280,4 +281,9 @@ impl<'a> Lines<'a> {
 pub fn words_are_greatest_runs()
     ensures separators { SeparatorsPassed }
     ensures runs { RunsAreWords }
+{}
+
+/// The law that each word of each line of a text has a byte and no separator, no line feed and no `#`.
+pub fn lines_have_words()
+    ensures { LinesHaveWords }
 {}

@@ -2,6 +2,7 @@ use Rattle.std.proofs.Common.{◌≡◌, ◌∷◌, [], sym, ap, ◌∙◌}
 use Rattle.std.proofs.lemmas.Result.{err_from_is_err_and}
 use Rattle.fab_text.specs.Lines.{lines}
 use Rattle.fab_text.specs.Shown.{shown}
+use Rattle.fab_text.proofs.Clean.{lines_have_words}
 use Rattle.fab_net.specs.Said.{end_fault}
 use Rattle.fab_net.proofs.Standing.{Standing, step, fails, all_said, all_underway, all_fault}
 use Rattle.fab_net.proofs.Ready.{ready_of}
@@ -27,7 +28,7 @@ returns-clause-ready c =
     let here = rw end.0 at c.loop-seen.invariant in
     let arch = c.args.arch.now.pins.items in
     let all = lines c.args.bytes.now in
-    ready_of arch all c.loop-seen.seen (all_said arch all c.loop-seen.seen here) (all_underway arch all c.loop-seen.seen here)
+    ready_of arch all c.loop-seen.seen (all_said arch all c.loop-seen.seen here) (all_underway arch all c.loop-seen.seen here) (lines_have_words c.args.bytes.now)
 
 pub returns-clause-clean : goal.returns-clause-clean
 returns-clause-clean c =
