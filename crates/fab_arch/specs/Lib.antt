@@ -1,3 +1,4 @@
 pub mod Arch
 pub mod Examples
+pub mod FaultTexts
 pub mod Grid

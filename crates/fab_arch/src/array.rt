@@ -104,6 +104,7 @@ impl Grid {
     pub fn nx(&self) -> u16
         ensures value { result ≡ self.now.nx }
         ensures limits { (1 ≤ result) × (result ≤ 1000) }
+        ensures lawful { AreLimits self.now.nx self.now.ny self.now.io_rat }
     {
         self.nx
     }

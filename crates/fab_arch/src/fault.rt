@@ -1,36 +1,49 @@
 //! Why a text is no architecture, and why an array is none or is too small.
 
-ghost use Rattle.std.specs.Prelude.{◌≡◌};
+ghost use Rattle.std.specs.Prelude.{◌≡◌, Some};
+ghost use Rattle.fab_arch.specs.FaultTexts.{arch_fault_text, grid_fault_text};
 ghost use Rattle.fab_arch.specs.declared.fault.ArchFault.TheVariants.{NoMemory};
 
 use std::alloc::{AllocError, AllocFailed};
-use thiserror::Error;
+use std::error::Error;
+use std::fmt;
 
 /// Why a text is no architecture: its first fault. A number is that of the faulty line.
-#[derive(Clone, Copy, Debug, PartialEq, Eq, Error)]
+#[derive(Clone, Copy, Debug, PartialEq, Eq)]
 pub enum ArchFault {
     /// No line gives the pads for each position.
-    #[error("A1 NoIoRat")]
     NoIoRat,
     /// A second line gives them.
-    #[error("A2 RepeatedIoRat line {0}")]
     RepeatedIoRat(u64),
     /// A number is missing, is 0 where it may not be, or has a bad digit.
-    #[error("A3 BadNumber line {0}")]
     BadNumber(u64),
     /// A pin's line has another form.
-    #[error("A4 BadPinLine line {0}")]
     BadPinLine(u64),
     /// No line gives a pin.
-    #[error("A5 NoPins")]
     NoPins,
     /// More than 64 pads for each position, a class above 65,535, or a pin above the 1,024th.
-    #[error("A6 TooLarge line {0}")]
     TooLarge(u64),
     /// There was no memory to read on.
-    #[error("no memory")]
     NoMemory,
 }
+
+impl fmt::Display for ArchFault {
+    ghost output = { λ fault. Some (arch_fault_text fault) };
+
+    fn fmt<W: fmt::Write>(&self, f: &mut fmt::Formatter<W>) -> fmt::Result {
+        match self {
+            ArchFault::NoIoRat => f.write_str("A1 NoIoRat"),
+            ArchFault::RepeatedIoRat(line) => write!(f, "A2 RepeatedIoRat line {line}"),
+            ArchFault::BadNumber(line) => write!(f, "A3 BadNumber line {line}"),
+            ArchFault::BadPinLine(line) => write!(f, "A4 BadPinLine line {line}"),
+            ArchFault::NoPins => f.write_str("A5 NoPins"),
+            ArchFault::TooLarge(line) => write!(f, "A6 TooLarge line {line}"),
+            ArchFault::NoMemory => f.write_str("no memory"),
+        }
+    }
+}
+
+impl Error for ArchFault {}
 
 impl From<AllocError> for ArchFault {
     ghost from_gives = { λ _ e. e ≡ NoMemory };
@@ -49,15 +62,26 @@ impl<T: Drop> From<AllocFailed<T>> for ArchFault {
 }
 
 /// Why there is no such array, or why blocks do not fit on one.
-#[derive(Clone, Copy, Debug, PartialEq, Eq, Error)]
+#[derive(Clone, Copy, Debug, PartialEq, Eq)]
 pub enum GridFault {
     /// There are more logic blocks than logic sites.
-    #[error("G1 TooFewLogicSites")]
     TooFewLogicSites,
     /// There are more pads than pad sites.
-    #[error("G2 TooFewPadSites")]
     TooFewPadSites,
     /// A side outside 1 to 1,000, or pads for each position outside 1 to 64.
-    #[error("G3 SizeOutOfRange")]
     SizeOutOfRange,
 }
+
+impl fmt::Display for GridFault {
+    ghost output = { λ fault. Some (grid_fault_text fault) };
+
+    fn fmt<W: fmt::Write>(&self, f: &mut fmt::Formatter<W>) -> fmt::Result {
+        f.write_str(match self {
+            GridFault::TooFewLogicSites => "G1 TooFewLogicSites",
+            GridFault::TooFewPadSites => "G2 TooFewPadSites",
+            GridFault::SizeOutOfRange => "G3 SizeOutOfRange",
+        })
+    }
+}
+
+impl Error for GridFault {}

@@ -6,3 +6,4 @@ pub mod PinnedExamples
 pub mod Written
 pub mod ReadsBack
 pub mod Examples
+pub mod FaultTexts

@@ -1,54 +1,67 @@
 //! Why a text stands for no placement.
 
-ghost use Rattle.std.specs.Prelude.{◌≡◌};
+ghost use Rattle.std.specs.Prelude.{◌≡◌, Some};
+ghost use Rattle.fab_file.specs.FaultTexts.{place_fault_text};
 ghost use Rattle.fab_file.specs.declared.fault.PlaceFault.TheVariants.{NoMemory};
 
 use std::alloc::{AllocError, AllocFailed};
-use thiserror::Error;
+use std::error::Error;
+use std::fmt;
 
 /// Why a text stands for no placement, or why none was written: its first fault. A number is that of the faulty line.
-#[derive(Clone, Copy, Debug, PartialEq, Eq, Error)]
+#[derive(Clone, Copy, Debug, PartialEq, Eq)]
 pub enum PlaceFault {
     /// One of the first two lines is not the header, or is missing.
-    #[error("P1 BadHeader")]
     BadHeader,
     /// The header gives another array.
-    #[error("P2 WrongSize")]
     WrongSize,
     /// A line names no block of the design.
-    #[error("P3 UnknownBlock line {0}")]
     UnknownBlock(u64),
     /// A line names a block that an earlier line names.
-    #[error("P4 Repeated line {0}")]
     Repeated(u64),
     /// The array has no such site.
-    #[error("P5 NoSuchSite line {0}")]
     NoSuchSite(u64),
     /// The site is not of the block's kind.
-    #[error("P6 WrongKind line {0}")]
     WrongKind(u64),
     /// An earlier line gives the site to another block.
-    #[error("P7 Taken line {0}")]
     Taken(u64),
     /// No line names this block, the first such.
-    #[error("P8 Missing block {0}")]
     Missing(u64),
     /// A line of a checkpoint of the first version fixes a block that is no pad.
-    #[error("P9 NotAPad line {0}")]
     NotAPad(u64),
     /// A line has another form than a name with three numbers of at most 65,535 (or than its format asks for).
-    #[error("P10 BadLine line {0}")]
     BadLine(u64),
     /// A label that cannot stand in a header.
-    #[error("P11 BadLabel")]
     BadLabel,
     /// The writer failed.
-    #[error("the writer failed")]
     Write,
     /// There was no memory to go on.
-    #[error("no memory")]
     NoMemory,
 }
+
+impl fmt::Display for PlaceFault {
+    ghost output = { λ fault. Some (place_fault_text fault) };
+
+    fn fmt<W: fmt::Write>(&self, f: &mut fmt::Formatter<W>) -> fmt::Result {
+        match self {
+            PlaceFault::BadHeader => f.write_str("P1 BadHeader"),
+            PlaceFault::WrongSize => f.write_str("P2 WrongSize"),
+            PlaceFault::UnknownBlock(line) => write!(f, "P3 UnknownBlock line {line}"),
+            PlaceFault::Repeated(line) => write!(f, "P4 Repeated line {line}"),
+            PlaceFault::NoSuchSite(line) => write!(f, "P5 NoSuchSite line {line}"),
+            PlaceFault::WrongKind(line) => write!(f, "P6 WrongKind line {line}"),
+            PlaceFault::Taken(line) => write!(f, "P7 Taken line {line}"),
+            PlaceFault::Missing(block) => write!(f, "P8 Missing block {block}"),
+            PlaceFault::NotAPad(line) => write!(f, "P9 NotAPad line {line}"),
+            PlaceFault::BadLine(line) => write!(f, "P10 BadLine line {line}"),
+            PlaceFault::BadLabel => f.write_str("P11 BadLabel"),
+            PlaceFault::Write => f.write_str("the writer failed"),
+            PlaceFault::NoMemory => f.write_str("no memory"),
+        }
+    }
+}
+
+impl Error for PlaceFault {}
 
 impl From<AllocError> for PlaceFault {
     ghost from_gives = { λ _ e. e ≡ NoMemory };

@@ -5,6 +5,8 @@ ghost use Rattle.std.specs.List.{flat_map, list_any};
 ghost use Rattle.std.specs.Io.KnownBytes.{Appends};
 ghost use Rattle.fab_text.specs.Lines.{is_continued, lines};
 ghost use Rattle.fab_text.specs.LineWords.{is_mark};
+ghost use Rattle.fab_arch.specs.Grid.{AreLimits};
+ghost use Rattle.fab_net.specs.Netlist.{IsLawful};
 ghost use Rattle.fab_site.specs.Placement.{IsLegal};
 ghost use Rattle.fab_file.specs.declared.fault.PlaceFault.TheVariants.{BadLabel, Write};
 ghost use Rattle.fab_file.specs.Place.{StandsFor};
@@ -81,7 +83,8 @@ fn push_files(text: &mut Vec<u8>, labels: &Labels) -> Result<(), AllocError>
 
 /// Puts the second line of the header at the end.
 fn push_size(text: &mut Vec<u8>, grid: &Grid) -> Result<(), AllocError>
-    ensures { OnOk result (text.new.items ≡ text.old.items ++ ended (size_text grid.now)) }
+    ensures text { OnOk result (text.new.items ≡ text.old.items ++ ended (size_text grid.now)) }
+    ensures limits { OnOk result (AreLimits grid.now.nx grid.now.ny grid.now.io_rat) }
 {
     text.extend_from_slice(b"Array size: ")?;
     push_number(text, u64::from(grid.nx()))?;
@@ -117,7 +120,8 @@ fn push_block(text: &mut Vec<u8>, name: &[u8], site: Site, number: u64) -> Resul
 
 /// The header of a text, with the comments behind it.
 fn head_of(alloc: Global, labels: &Labels, grid: &Grid) -> Result<Vec<u8>, AllocError>
-    ensures { IfOk result (λ v. v.items ≡ flat_map ended (head_lines labels.now.net.now labels.now.arch.now grid.now)) }
+    ensures text { IfOk result (λ v. v.items ≡ flat_map ended (head_lines labels.now.net.now labels.now.arch.now grid.now)) }
+    ensures limits { OnOk result (AreLimits grid.now.nx grid.now.ny grid.now.io_rat) }
 {
     let mut text = Vec::new(alloc);
     push_files(&mut text, labels)?;
@@ -131,7 +135,8 @@ fn head_of(alloc: Global, labels: &Labels, grid: &Grid) -> Result<Vec<u8>, Alloc
 /// Puts the lines of all blocks at the end.
 fn push_blocks(text: &mut Vec<u8>, design: &Design, placement: &Placement) -> Result<(), AllocError>
     requires { length placement.now.sites ≡ length design.now.kinds }
-    ensures { OnOk result (text.new.items ≡ text.old.items ++ flat_map ended (block_lines design.now placement.now.sites)) }
+    ensures text { OnOk result (text.new.items ≡ text.old.items ++ flat_map ended (block_lines design.now placement.now.sites)) }
+    ensures lawful { OnOk result (IsLawful design.now) }
 {
     for b in 0..design.blocks() {
         let block = BlockId(b as u32);
@@ -149,7 +154,9 @@ fn text_of(
     placement: &Placement,
 ) -> Result<Vec<u8>, AllocError>
     requires { length placement.now.sites ≡ length design.now.kinds }
-    ensures { IfOk result (λ v. v.items ≡ place_text labels.now.net.now labels.now.arch.now design.now grid.now placement.now.sites) }
+    ensures text { IfOk result (λ v. v.items ≡ place_text labels.now.net.now labels.now.arch.now design.now grid.now placement.now.sites) }
+    ensures lawful { OnOk result (IsLawful design.now) }
+    ensures limits { OnOk result (AreLimits grid.now.nx grid.now.ny grid.now.io_rat) }
 {
     let mut text = head_of(alloc, labels, grid)?;
     push_blocks(&mut text, design, placement)?;

@@ -8,3 +8,4 @@ pub mod ByNumber
 pub mod BlockNets
 pub mod Said
 pub mod Shown
+pub mod FaultTexts

@@ -1,50 +1,66 @@
 //! Why a text is no netlist.
 
-ghost use Rattle.std.specs.Prelude.{◌≡◌};
+ghost use Rattle.std.specs.Prelude.{◌≡◌, Some};
+ghost use Rattle.fab_net.specs.FaultTexts.{net_fault_text};
 ghost use Rattle.fab_net.specs.declared.fault.NetFault.TheVariants.{NoMemory};
 
 use fab_text::Span;
 use std::alloc::{AllocError, AllocFailed};
-use thiserror::Error;
+use std::error::Error;
+use std::fmt;
 
 /// Why a text is no netlist: its first fault. A number is that of the faulty line, a span the place of a name in
 /// the text.
-#[derive(Clone, Copy, Debug, PartialEq, Eq, Error)]
+#[derive(Clone, Copy, Debug, PartialEq, Eq)]
 pub enum NetFault {
     /// A line begins with none of the words of a netlist.
-    #[error("N1 UnknownWord line {0}")]
     UnknownWord(u64),
     /// A line opens a block without a name.
-    #[error("N2 NoName line {0}")]
     NoName(u64),
     /// A pinlist where no block is open, or where the open block has its pinlist.
-    #[error("N3 PinlistWithoutBlock line {0}")]
     PinlistWithoutBlock(u64),
     /// A block ends without a pinlist; the span is its name.
-    #[error("N4 MissingPinlist")]
     MissingPinlist(Span),
     /// A pinlist with more or fewer entries than its block has pins.
-    #[error("N5 PinCount line {0}")]
     PinCount(u64),
     /// A subblock where no logic block is open.
-    #[error("N6 SubblockWithoutLogic line {0}")]
     SubblockWithoutLogic(u64),
     /// A block with the name of an earlier one.
-    #[error("N7 DuplicateBlock line {0}")]
     DuplicateBlock(u64),
     /// A net that nothing drives; the span is its first appearance in a pinlist.
-    #[error("N8 NoDriver")]
     NoDriver(Span),
     /// A net with two drivers or more; the span is its first appearance in a pinlist.
-    #[error("N9 TwoDrivers")]
     TwoDrivers(Span),
     /// A block or net above the 65,535th, or a terminal above the 1,048,576th.
-    #[error("N10 TooLarge line {0}")]
     TooLarge(u64),
     /// There was no memory to read on.
-    #[error("no memory")]
     NoMemory,
 }
+
+impl fmt::Display for NetFault {
+    ghost output = { λ fault. Some (net_fault_text fault) };
+
+    fn fmt<W: fmt::Write>(&self, f: &mut fmt::Formatter<W>) -> fmt::Result {
+        match self {
+            NetFault::UnknownWord(line) => write!(f, "N1 UnknownWord line {line}"),
+            NetFault::NoName(line) => write!(f, "N2 NoName line {line}"),
+            NetFault::PinlistWithoutBlock(line) => write!(f, "N3 PinlistWithoutBlock line {line}"),
+            NetFault::MissingPinlist(_) => f.write_str("N4 MissingPinlist"),
+            NetFault::PinCount(line) => write!(f, "N5 PinCount line {line}"),
+            NetFault::SubblockWithoutLogic(line) => write!(
+                f,
+                "N6 SubblockWithoutLogic line {line}"
+            ),
+            NetFault::DuplicateBlock(line) => write!(f, "N7 DuplicateBlock line {line}"),
+            NetFault::NoDriver(_) => f.write_str("N8 NoDriver"),
+            NetFault::TwoDrivers(_) => f.write_str("N9 TwoDrivers"),
+            NetFault::TooLarge(line) => write!(f, "N10 TooLarge line {line}"),
+            NetFault::NoMemory => f.write_str("no memory"),
+        }
+    }
+}
+
+impl Error for NetFault {}
 
 impl From<AllocError> for NetFault {
     ghost from_gives = { λ _ e. e ≡ NoMemory };

@@ -3,8 +3,8 @@ use Rattle.std.specs.Prelude.{decimal}
 use Rattle.fab_file.proofs.Pushed.{six_pieces}
 use Rattle.fab_file.proofs.writing.push_size.Goals as goal
 
-pub returns : goal.returns
-returns c =
+pub returns-clause-text : goal.returns-clause-text
+returns-clause-text c =
     let nx = c.from.ensures ∙ c.nx.ensures.value in
     let ny = c.from-2.ensures ∙ c.ny.ensures.value in
     let x = c.in_ok-push_number.ensures.ok ∙ ap (λ n. c.extend_from_slice.new.self.items ++ decimal n) nx in
