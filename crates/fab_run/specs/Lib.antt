@@ -1,3 +1,4 @@
 pub mod CheckReport
 pub mod RunFaults
+pub mod FaultLines
 pub mod Check

@@ -1,6 +1,7 @@
 //! Why a run over texts gave no answer, and the line that says so.
 
-ghost use Rattle.std.specs.Prelude.{◌≡◌};
+ghost use Rattle.std.specs.Prelude.{◌≡◌, ◌++◌, Some, IfOk, OnOk};
+ghost use Rattle.fab_run.specs.FaultLines.{run_fault_text, named_place, named_bytes, name_text, fault_line as line_of_fault};
 ghost use Rattle.fab_run.specs.RunFaults.{of_arch, of_net, of_place};
 ghost use Rattle.fab_run.specs.declared.fault.RunFault.TheVariants.{Size, Report, NoMemory};
 
@@ -30,6 +31,8 @@ pub enum RunFault {
 }
 
 impl fmt::Display for RunFault {
+    ghost output = { λ fault. Some (run_fault_text fault) };
+
     fn fmt<W: fmt::Write>(&self, f: &mut fmt::Formatter<W>) -> fmt::Result {
         match self {
             RunFault::NoMemory
@@ -114,7 +117,9 @@ impl From<WriteFault> for RunFault {
 }
 
 /// The place in the netlist of the name that a fault is told with, where it is told with one.
-fn named_place(fault: &RunFault) -> Option<Span> {
+fn named_place(fault: &RunFault) -> Option<Span>
+    ensures { result ≡ named_place fault.now }
+{
     match fault {
         RunFault::Net(
             NetFault::MissingPinlist(span) | NetFault::NoDriver(span) | NetFault::TwoDrivers(span),
@@ -123,13 +128,30 @@ fn named_place(fault: &RunFault) -> Option<Span> {
     }
 }
 
-/// The line that tells of a fault, without a line feed at its end: `vplace: ROLE: CODE NAME` and its detail. `net`
-/// is the netlist text in which the span of a fault lies; a span that does not lie in it names nothing.
-pub fn fault_line(alloc: Global, fault: &RunFault, net: &[u8]) -> Result<Vec<u8>, AllocError> {
-    let mut line = format!(in alloc; "vplace: {fault}")?.into_bytes();
+/// What a text has at a place, and nothing where the place does not lie in it.
+fn named_bytes<'a>(net: &'a [u8], span: &Span) -> &'a [u8]
+    ensures { result.now ≡ named_bytes net.now span.now }
+{
+    net.get(span.start..span.stop).unwrap_or(b"")
+}
+
+/// Puts the name that a fault is told with at the end, where it is told with one.
+fn push_name(line: &mut Vec<u8>, fault: &RunFault, net: &[u8]) -> Result<(), AllocError>
+    ensures { OnOk result (line.new.items ≡ line.old.items ++ name_text (named_place fault.now) net.now) }
+{
     if let Some(span) = named_place(fault) {
         line.extend_from_slice(b" name ")?;
-        line.extend_from_slice(net.get(span.start..span.stop).unwrap_or(b""))?;
+        line.extend_from_slice(named_bytes(net, &span))?;
     }
+    Ok(())
+}
+
+/// The line that tells of a fault, without a line feed at its end: `vplace: ROLE: CODE NAME` and its detail. `net`
+/// is the netlist text in which the span of a fault lies; a span that does not lie in it names nothing.
+pub fn fault_line(alloc: Global, fault: &RunFault, net: &[u8]) -> Result<Vec<u8>, AllocError>
+    ensures { IfOk result (λ line. line.items ≡ line_of_fault fault.now net.now) }
+{
+    let mut line = format!(in alloc; "vplace: {fault}")?.into_bytes();
+    push_name(&mut line, fault, net)?;
     Ok(line)
 }
