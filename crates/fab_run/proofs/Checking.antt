@@ -22,7 +22,7 @@ use Rattle.fab_run.specs.RunFaults.{of_arch, of_net, of_place}
 use Rattle.fab_run.specs.Check.{MeanDesign, FitsOn, AreChecked, FaultOf, IsTextFault, failed_with}
 use Rattle.fab_net.specs.Netlist.{Netlist, is_logic, logic_count, pad_count}
 
--- the fault of a reader is not that of the report's writer
+-- the fault of a reader is not that of a writer
 
 pub arch_text : (e : ArchFault) → IsTextFault (of_arch e)
 arch_text arch_fault.NoIoRat = tt
@@ -45,21 +45,6 @@ net_text (net_fault.NoDriver n) = tt
 net_text (net_fault.TwoDrivers n) = tt
 net_text (net_fault.TooLarge n) = tt
 net_text net_fault.NoMemory = tt
-
-pub place_text : (e : PlaceFault) → IsTextFault (of_place e)
-place_text place_fault.BadHeader = tt
-place_text place_fault.WrongSize = tt
-place_text (place_fault.UnknownBlock n) = tt
-place_text (place_fault.Repeated n) = tt
-place_text (place_fault.NoSuchSite n) = tt
-place_text (place_fault.WrongKind n) = tt
-place_text (place_fault.Taken n) = tt
-place_text (place_fault.Missing n) = tt
-place_text (place_fault.NotAPad n) = tt
-place_text (place_fault.BadLine n) = tt
-place_text place_fault.BadLabel = tt
-place_text place_fault.Write = tt
-place_text place_fault.NoMemory = tt
 
 pub never_report : (e : RunFault) → IsTextFault e → e ≡ run_fault.Report → ⊥
 never_report e h k = rw k at h

@@ -14,6 +14,7 @@ use Rattle.fab_net.specs.Netlist.{Netlist, logic_count, pad_count}
 use Rattle.fab_net.specs.Text.{IsNetlist}
 use Rattle.fab_net.specs.Faults.{first_fault as first_net_fault}
 use Rattle.fab_file.specs.declared.fault.PlaceFault.{PlaceFault}
+use Rattle.fab_file.specs.declared.fault.PlaceFault.TheVariants.{Write as PlaceWrite}
 use Rattle.fab_file.specs.Place.{place_size_of, StandsFor}
 use Rattle.fab_file.specs.PlaceFaults.{size_fault, first_fault as first_place_fault}
 use Rattle.fab_cost.specs.Cost.{cost_of}
@@ -83,10 +84,11 @@ IsReported arch net place cost old new = (report : List ℕ) × IsReport arch ne
 abbrev pub IsCut : List ℕ → List ℕ → List ℕ → Option (List ℕ) → Option (List ℕ) → Type 0
 IsCut arch net place old new = (cost : ℕ) × (report : List ℕ) × IsReport arch net place cost report × (n : ℕ) × (n < length report) × Appends old new (take n report)
 
--- the fault is not that of the report's writer
+-- the fault is not that of a writer
 abbrev pub IsTextFault : RunFault → Type 0
 IsTextFault (Arch e) = Unit {0}
 IsTextFault (Net e) = Unit {0}
+IsTextFault (Place PlaceWrite) = ⊥
 IsTextFault (Place e) = Unit {0}
 IsTextFault (Size e) = Unit {0}
 IsTextFault Report = ⊥

@@ -5,7 +5,13 @@ use Rattle.fab_file.specs.Place.{StandsFor}
 use Rattle.fab_run.specs.Check.{FitsOn}
 use Rattle.fab_run.specs.RunFaults.{of_place}
 use Rattle.fab_run.proofs.Checking.{placed}
+use Rattle.fab_run.proofs.Readers.{place_text, text_reads}
 use Rattle.fab_run.proofs.check.read_checked.Goals as goal
+
+pub returns-in_err-placement-clause-text : goal.returns-in_err-placement-clause-text
+returns-in_err-placement-clause-text c =
+    let p = err_from_is_err_and c.from_residual-in_err-placement.result c.from_residual-in_err-placement.ensures.1 in
+    rw (p.1, p.2) (place_text _ _ (text_reads c.in_ok-io_rat.design c.in_ok-grid.grid (lines c.args.place.now)) c.in_err-placement.ensures.fault)
 
 pub returns-in_err-io_rat-clause-only : goal.returns-in_err-io_rat-clause-only
 returns-in_err-io_rat-clause-only c d g sites k =
