@@ -1,9 +1,8 @@
-use Rattle.std.proofs.Common.{◌≡◌, ◌∷◌, [], sym, ap, ◌∙◌}
+use Rattle.std.proofs.Common.{◌≡◌, ◌∷◌}
 use Rattle.std.proofs.lemmas.Result.{err_from_is_err_and}
 use Rattle.fab_text.specs.Lines.{lines}
 use Rattle.fab_text.specs.Shown.{shown}
-use Rattle.fab_net.specs.Said.{end_fault}
-use Rattle.fab_net.proofs.Standing.{Standing, step, fails, all_said, all_underway, all_fault}
+use Rattle.fab_net.proofs.Standing.{step, fails, all_said, all_underway, all_fault}
 use Rattle.fab_net.proofs.Ready.{ready_of}
 use Rattle.fab_net.proofs.reading.read.Goals as goal
 
