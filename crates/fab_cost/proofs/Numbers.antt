@@ -123,7 +123,7 @@ rising_absent a v (x ∷ xs) r h =
     let k = r.0 in
     has_apart v x xs (omega arith) ∙ rising_absent (x + 1) v xs r.1 (omega arith)
 
-rising_ge : (a : ℕ) (xs : List ℕ) (i : ℕ) → Rising a xs → i < length xs → a ≤ get_or xs i 0
+pub rising_ge : (a : ℕ) (xs : List ℕ) (i : ℕ) → Rising a xs → i < length xs → a ≤ get_or xs i 0
 rising_ge a [] i r h = absurd (omega arith)
 rising_ge a (x ∷ xs) zero r h = r.0
 rising_ge a (x ∷ xs) (suc i) r h =

@@ -14,6 +14,12 @@ some_is c b e = cc
 none_is : (b : BlockId) → None ≡ Some b → ⊥
 none_is b e = cc
 
+pub none_within : (k : ℕ) (b : BlockId) → None ≡ Some b → b.0 < k
+none_within k b e = absurd (none_is b e)
+
+pub some_within : (c : BlockId) (k : ℕ) → c.0 < k → (b : BlockId) → Some c ≡ Some b → b.0 < k
+some_within c k h b e = let q : c.0 ≡ b.0 = ap (λ (v : BlockId). v.0) (some_is c b e) in rw (← q) h
+
 other_within_at : (sites : List Site) (to : Site) (other : Option BlockId) (b : BlockId) → IsHeldBy sites to other → other ≡ Some b → (b.0 < length sites) × (site_of sites b.0 ≡ to)
 other_within_at sites to None b holds e = absurd (none_is b e)
 other_within_at sites to (Some c) b holds e =

@@ -23,26 +23,3 @@ times_le v xs = count_by-le-length (λ x. eqb x v) xs
 pub times_none : (v : ℕ) → times v [] ≡ 0
 unfolding times
 times_none v = refl
-
--- how often a block stands among the first terminals
-abbrev pub times_to : ℕ → List Terminal → ℕ → ℕ
-times_to v ts i = times v (map block_on (take i ts))
-
-pub times_begin : (v : ℕ) (ts : List Terminal) → 0 ≡ times_to v ts 0
-unfolding times
-times_begin v ts = refl
-
-times_more : (v : ℕ) (ts : List Terminal) (i : ℕ) (d : Terminal) → i < length ts → times_to v ts (i + 1) ≡ times_to v ts i + cond (eqb (block_on (get_or ts i d)) v) 1 0
-times_more v ts i d h = ap (times v) (map_more block_on ts i d h) ∙ times_push v (block_on (get_or ts i d)) (map block_on (take i ts))
-
-pub times_here : (v : ℕ) (ts : List Terminal) (i c : ℕ) (d : Terminal) → i < length ts → block_on (get_or ts i d) ≡ v → c ≡ times_to v ts i → c + 1 ≡ times_to v ts (i + 1)
-times_here v ts i c d h e ec = let k = times_more v ts i d h in grind (arith, nat_tests, k, e, ec)
-
-pub times_elsewhere : (v : ℕ) (ts : List Terminal) (i c : ℕ) (d : Terminal) → i < length ts → block_on (get_or ts i d) ≢ v → c ≡ times_to v ts i → c ≡ times_to v ts (i + 1)
-times_elsewhere v ts i c d h ne ec = let k = times_more v ts i d h in grind (arith, nat_tests, k, ne, ec)
-
-pub times_room : (v : ℕ) (ts : List Terminal) (i c : ℕ) → i < length ts → length ts ≤ 1048576 → c ≡ times_to v ts i → c < 1048576
-times_room v ts i c h few ec = omega (arith, times_le v (map block_on (take i ts)), length-map (take i ts) block_on, length-take-le i ts (omega arith), ec)
-
-pub times_all : (v : ℕ) (ts : List Terminal) (i c : ℕ) → length ts ≤ i → c ≡ times_to v ts i → c ≡ times v (map block_on ts)
-times_all v ts i c h ec = ec ∙ ap (λ w. times v (map block_on w)) (take_all i ts h)
