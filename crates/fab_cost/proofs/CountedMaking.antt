@@ -48,12 +48,13 @@ made_global boxes b d g sites k made t = made_more boxes b d g sites k made (λ 
 pub made_counted : (boxes : List CountedBox) (b : CountedBox) (d : Netlist) (g : GridShape) (sites : List Site) (k : ℕ) → AreMade boxes d g sites k → b ≡ counted_box d g sites k → AreMade (boxes ++ b ∷ []) d g sites (k + 1)
 made_counted boxes b d g sites k made e = made_more boxes b d g sites k made (λ c. e)
 
-pub stands : (boxes : List CountedBox) (total : ℕ) (d : Netlist) (g : GridShape) (sites : List Site) (k : ℕ) → AreMade boxes d g sites k → k ≡ length d.terminals → total ≡ cost_to d g sites k → CountedStandsFor (record { boxes = boxes; total = total }) d g sites
-stands boxes total d g sites k made e es =
+pub stands : (boxes : List CountedBox) (total : ℕ) (d : Netlist) (g : GridShape) (sites : List Site) (k : ℕ) → AreMade boxes d g sites k → k ≡ length d.terminals → total ≡ cost_to d g sites k → length d.kinds ≡ length sites → CountedStandsFor (record { boxes = boxes; total = total }) d g sites
+stands boxes total d g sites k made e es w =
     record {
       have = record {
         long = made.long ∙ e;
         each = λ n c. made.each n (let w = c.within in omega arith) c;
       };
       sum = es ∙ cost_all d g sites k e;
+      whole = w;
     }

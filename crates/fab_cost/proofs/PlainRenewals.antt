@@ -14,6 +14,7 @@ use Rattle.fab_cost.specs.Cost.{Box, cost_of, net_box}
 use Rattle.fab_cost.specs.Swapping.{blocks_of, has_block, sites_by, HavePlain, PlainRenewed}
 use Rattle.fab_cost.proofs.Numbers.{has_last, has_before}
 use Rattle.fab_cost.proofs.Nets.{same_nets, new_net}
+use Rattle.fab_cost.proofs.Sited.{as_many}
 use Rattle.fab_cost.proofs.Split.{plain_kept}
 
 set_here : (boxes : List Box) (n : ℕ) (r : Box) → n < length boxes → box_at (set boxes n r) n ≡ r
@@ -119,8 +120,11 @@ sum_is boxes total d g sites is = is.sum
 pub total_is : (d : Netlist) (g : GridShape) (sites : List Site) (s : Swap) (total gained lost : ℕ) → total ≡ cost_of d g sites → cost_of d g (swapped sites s) + lost ≡ cost_of d g sites + gained → total + gained - lost ≡ cost_of d g (swapped sites s)
 total_is d g sites s total gained lost e h = omega arith
 
-pub stands : (boxes : List Box) (total : ℕ) (d : Netlist) (g : GridShape) (sites : List Site) → HavePlain boxes d g sites → total ≡ cost_of d g sites → StandsFor (record { boxes = boxes; total = total }) d g sites
-stands boxes total d g sites h e = record { long = h.long; each = h.each; sum = e }
+pub whole_is : (boxes : List Box) (total : ℕ) (d : Netlist) (g : GridShape) (sites : List Site) → StandsFor (record { boxes = boxes; total = total }) d g sites → length d.kinds ≡ length sites
+whole_is boxes total d g sites is = is.whole
+
+pub stands : (boxes : List Box) (total : ℕ) (d : Netlist) (g : GridShape) (sites : List Site) (s : Swap) → HavePlain boxes d g (swapped sites s) → total ≡ cost_of d g (swapped sites s) → length d.kinds ≡ length sites → StandsFor (record { boxes = boxes; total = total }) d g (swapped sites s)
+stands boxes total d g sites s h e k = let w : length d.kinds ≡ length (swapped sites s) = k ∙ sym (as_many sites s) in record { long = h.long; each = h.each; sum = e; whole = w }
 
 -- boxes as contracts see them
 

@@ -16,6 +16,7 @@ use Rattle.fab_cost.specs.Edges.{counted_box, counts_of, edge_counts}
 use Rattle.fab_cost.specs.Swapping.{blocks_of, has_block, nothing_counted, counted_at, sites_by, HaveBoxes, AreRenewed, CountedStandsFor}
 use Rattle.fab_cost.proofs.Numbers.{has_last, has_before}
 use Rattle.fab_cost.proofs.Nets.{same_nets, new_net}
+use Rattle.fab_cost.proofs.Sited.{as_many}
 use Rattle.fab_cost.proofs.Split.{box_kept}
 
 set_here : (boxes : List CountedBox) (n : ℕ) (r : CountedBox) → n < length boxes → counted_at (set boxes n r) n ≡ r
@@ -128,8 +129,11 @@ sum_is boxes total d g sites is = is.sum
 pub total_is : (d : Netlist) (g : GridShape) (sites : List Site) (s : Swap) (total gained lost : ℕ) → total ≡ cost_of d g sites → cost_of d g (swapped sites s) + lost ≡ cost_of d g sites + gained → total + gained - lost ≡ cost_of d g (swapped sites s)
 total_is d g sites s total gained lost e h = omega arith
 
-pub stands : (boxes : List CountedBox) (total : ℕ) (d : Netlist) (g : GridShape) (sites : List Site) → HaveBoxes boxes d g sites → total ≡ cost_of d g sites → CountedStandsFor (record { boxes = boxes; total = total }) d g sites
-stands boxes total d g sites h e = record { have = h; sum = e }
+pub whole_is : (boxes : List CountedBox) (total : ℕ) (d : Netlist) (g : GridShape) (sites : List Site) → CountedStandsFor (record { boxes = boxes; total = total }) d g sites → length d.kinds ≡ length sites
+whole_is boxes total d g sites is = is.whole
+
+pub stands : (boxes : List CountedBox) (total : ℕ) (d : Netlist) (g : GridShape) (sites : List Site) (s : Swap) → HaveBoxes boxes d g (swapped sites s) → total ≡ cost_of d g (swapped sites s) → length d.kinds ≡ length sites → CountedStandsFor (record { boxes = boxes; total = total }) d g (swapped sites s)
+stands boxes total d g sites s h e k = let w : length d.kinds ≡ length (swapped sites s) = k ∙ sym (as_many sites s) in record { have = h; sum = e; whole = w }
 
 pub counts_kept : (boxes : List CountedBox) (total : ℕ) (d : Netlist) (g : GridShape) (sites : List Site) (n : ℕ) (kept : CountedBox) → kept ≡ counted_at boxes n → CountedStandsFor (record { boxes = boxes; total = total }) d g sites → Counts d n → counts_of kept ≡ edge_counts d g sites n
 unfolding edge_counts

@@ -80,10 +80,11 @@ pub record HaveBoxes (boxes : List CountedBox) (d : Netlist) (g : GridShape) (si
   pub long : length boxes ≡ length d.terminals
   pub each : (n : ℕ) → Counts d n → counted_at boxes n ≡ counted_box d g sites n
 
--- the boxes with their edge counts, and the cost, are those of the placement
+-- the boxes with their edge counts, and the cost, are those of the placement, which has a site for each block
 pub record CountedStandsFor (b : CountedBoxesOf) (d : Netlist) (g : GridShape) (sites : List Site) : Type 0 where
   pub have : HaveBoxes b.boxes d g sites
   pub sum : b.total ≡ cost_of d g sites
+  pub whole : length d.kinds ≡ length sites
 
 -- the block, if there is one, has one of these terminals
 abbrev pub has_block : Option BlockId → List ℕ → Bool

@@ -399,7 +399,7 @@ impl EdgeBoxes {
     }
 }
 
-#[tactic(auto, using(crate::proofs::Renewals::have, crate::proofs::Renewals::sum_is, crate::proofs::Renewals::total_is, crate::proofs::Renewals::stands))]
+#[tactic(auto, using(crate::proofs::Renewals::have, crate::proofs::Renewals::whole_is, crate::proofs::Renewals::sum_is, crate::proofs::Renewals::total_is, crate::proofs::Renewals::stands))]
 impl WireCost for EdgeBoxes {
     ghost StandsFor = { λ b d g sites. CountedStandsFor b d g sites };
 

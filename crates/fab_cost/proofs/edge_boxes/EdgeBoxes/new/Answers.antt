@@ -57,4 +57,4 @@ invariant_of-result c =
 
 pub returns : goal.returns
 returns c =
-    stands c.nets.boxes.items c.nets.total c.args.design.now c.args.grid.now c.args.placement.now.sites c.nets.number c.nets.invariant.made (omega arith) c.nets.invariant.sum
+    stands c.nets.boxes.items c.nets.total c.args.design.now c.args.grid.now c.args.placement.now.sites c.nets.number c.nets.invariant.made (omega arith) c.nets.invariant.sum c.requires
