@@ -8,13 +8,13 @@ use Rattle.fab_net.specs.declared.pieces.BlockId.{BlockId}
 use Rattle.fab_net.specs.Netlist.{Netlist, nets_of, has_number}
 use Rattle.fab_site.specs.declared.pieces.Swap.{Swap}
 use Rattle.fab_site.specs.Placement.{swapped}
+use Rattle.fab_site.proofs.Swaps.{length-swapped}
 use Rattle.fab_cost.specs.declared.net_box.NetBox.{NetBox}
 use Rattle.fab_cost.specs.Boxes.{Counts, StandsFor, box_at, box_of, no_box}
 use Rattle.fab_cost.specs.Cost.{Box, cost_of, net_box}
 use Rattle.fab_cost.specs.Swapping.{blocks_of, has_block, sites_by, HavePlain, PlainRenewed}
 use Rattle.fab_cost.proofs.Numbers.{has_last, has_before}
 use Rattle.fab_cost.proofs.Nets.{same_nets, new_net}
-use Rattle.fab_cost.proofs.Sited.{as_many}
 use Rattle.fab_cost.proofs.Split.{plain_kept}
 
 set_here : (boxes : List Box) (n : ℕ) (r : Box) → n < length boxes → box_at (set boxes n r) n ≡ r
@@ -124,7 +124,7 @@ pub whole_is : (boxes : List Box) (total : ℕ) (d : Netlist) (g : GridShape) (s
 whole_is boxes total d g sites is = is.whole
 
 pub stands : (boxes : List Box) (total : ℕ) (d : Netlist) (g : GridShape) (sites : List Site) (s : Swap) → HavePlain boxes d g (swapped sites s) → total ≡ cost_of d g (swapped sites s) → length d.kinds ≡ length sites → StandsFor (record { boxes = boxes; total = total }) d g (swapped sites s)
-stands boxes total d g sites s h e k = let w : length d.kinds ≡ length (swapped sites s) = k ∙ sym (as_many sites s) in record { long = h.long; each = h.each; sum = e; whole = w }
+stands boxes total d g sites s h e k = let w : length d.kinds ≡ length (swapped sites s) = k ∙ sym (length-swapped sites s) in record { long = h.long; each = h.each; sum = e; whole = w }
 
 -- boxes as contracts see them
 

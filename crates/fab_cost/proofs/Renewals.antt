@@ -8,6 +8,7 @@ use Rattle.fab_net.specs.declared.pieces.BlockId.{BlockId}
 use Rattle.fab_net.specs.Netlist.{Netlist, nets_of, has_number}
 use Rattle.fab_site.specs.declared.pieces.Swap.{Swap}
 use Rattle.fab_site.specs.Placement.{swapped}
+use Rattle.fab_site.proofs.Swaps.{length-swapped}
 use Rattle.fab_cost.specs.declared.edge_counts.CountedBox.{CountedBox}
 use Rattle.fab_cost.specs.declared.edge_counts.EdgeCounts.{EdgeCounts}
 use Rattle.fab_cost.specs.Boxes.{Counts}
@@ -16,7 +17,6 @@ use Rattle.fab_cost.specs.Edges.{counted_box, counts_of, edge_counts}
 use Rattle.fab_cost.specs.Swapping.{blocks_of, has_block, nothing_counted, counted_at, sites_by, HaveBoxes, AreRenewed, CountedStandsFor}
 use Rattle.fab_cost.proofs.Numbers.{has_last, has_before}
 use Rattle.fab_cost.proofs.Nets.{same_nets, new_net}
-use Rattle.fab_cost.proofs.Sited.{as_many}
 use Rattle.fab_cost.proofs.Split.{box_kept}
 
 set_here : (boxes : List CountedBox) (n : ℕ) (r : CountedBox) → n < length boxes → counted_at (set boxes n r) n ≡ r
@@ -133,7 +133,7 @@ pub whole_is : (boxes : List CountedBox) (total : ℕ) (d : Netlist) (g : GridSh
 whole_is boxes total d g sites is = is.whole
 
 pub stands : (boxes : List CountedBox) (total : ℕ) (d : Netlist) (g : GridShape) (sites : List Site) (s : Swap) → HaveBoxes boxes d g (swapped sites s) → total ≡ cost_of d g (swapped sites s) → length d.kinds ≡ length sites → CountedStandsFor (record { boxes = boxes; total = total }) d g (swapped sites s)
-stands boxes total d g sites s h e k = let w : length d.kinds ≡ length (swapped sites s) = k ∙ sym (as_many sites s) in record { have = h; sum = e; whole = w }
+stands boxes total d g sites s h e k = let w : length d.kinds ≡ length (swapped sites s) = k ∙ sym (length-swapped sites s) in record { have = h; sum = e; whole = w }
 
 pub counts_kept : (boxes : List CountedBox) (total : ℕ) (d : Netlist) (g : GridShape) (sites : List Site) (n : ℕ) (kept : CountedBox) → kept ≡ counted_at boxes n → CountedStandsFor (record { boxes = boxes; total = total }) d g sites → Counts d n → counts_of kept ≡ edge_counts d g sites n
 unfolding edge_counts

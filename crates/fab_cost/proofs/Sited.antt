@@ -74,11 +74,3 @@ site_of_rest sites s b one two = rest_kept sites s b.0 (λ e. one (same_block b 
 
 pub site_of_moved : (g : GridShape) (sites : List Site) (s : Swap) (b : BlockId) → IsSwapOf g sites s → b ≡ s.block → s.to ≡ site_of (swapped sites s) b.0
 site_of_moved g sites s b is e = sym (site_of_block g sites s is) ∙ ap (λ (v : BlockId). site_of (swapped sites s) v.0) (sym e)
-
-others_as_many : (sites : List Site) (o : Option BlockId) (x : Site) → length (with_other sites o x) ≡ length sites
-others_as_many sites None x = refl
-others_as_many sites (Some b) x = length-set sites b.0 x
-
--- a swap gives as many sites as there were
-pub as_many : (sites : List Site) (s : Swap) → length (swapped sites s) ≡ length sites
-as_many sites s = others_as_many (slice_set sites s.block.0 s.to) s.other s.from ∙ length-set sites s.block.0 s.to
