@@ -403,7 +403,7 @@ fn agree_at_each(
 {
     let mut left = wanted;
     let mut state = 1;
-    for _ in 0..u64::MAX {
+    'draws: for _ in 0..u64::MAX {
         if left == 0 {
             return Ok(true);
         }
