@@ -1,9 +1,9 @@
 -- The nets of a block, and what a sum over them comes to.
-use Rattle.std.proofs.Common.{◌≡◌, ◌≢◌, ℕ, zero, suc, ◌+◌, ◌-◌, ◌*◌, ◌<◌, ◌≤◌, ◌^◌, Bool, true, false, not, cond, eqb, List, [], ◌∷◌, length, take, get_or, map, Option, Some, None, refl, sym, ap, ◌∙◌, subst, arith, inl, inr}
-use Rattle.std.specs.List.{filter, range_with_len, sum_by}
-use Rattle.std.proofs.lemmas.Bool.{cases_Bool, cases_eq, not-true, false≢true, eq-eqb, ne_eqb}
+use Rattle.std.proofs.Common.{◌≡◌, ℕ, ◌+◌, ◌*◌, ◌<◌, ◌≤◌, ◌^◌, Bool, true, false, not, cond, List, [], ◌∷◌, length, take, get_or, map, Option, refl, sym, ap, ◌∙◌, arith, inl, inr}
+use Rattle.std.specs.List.{range_with_len, sum_by}
+use Rattle.std.proofs.lemmas.Bool.{cases_Bool, cases_eq, not-true, false≢true}
 use Rattle.std.proofs.lemmas.Bool.Decides.{nat_tests}
-use Rattle.std.proofs.lemmas.List.{take_all, length-map, get_or-map, map_more}
+use Rattle.std.proofs.lemmas.List.{take_all, length-map, get_or-map}
 use Rattle.std.proofs.lemmas.List.Sums.{sum_by-cons, sum_by_more, sum_by_more_le}
 use Rattle.fab_arch.specs.declared.array.Site.{Site}
 use Rattle.fab_arch.specs.Grid.{GridShape}
@@ -20,7 +20,7 @@ use Rattle.fab_cost.specs.Edges.{times, plain, edges_of, counted_on, counted_box
 use Rattle.fab_cost.specs.Swapping.{blocks_of, has_block, cost_unless, times_other}
 use Rattle.fab_cost.proofs.Bounds.{AreSides, cost_few, filter_le}
 use Rattle.fab_cost.proofs.Times.{times_cons, times_none}
-use Rattle.fab_cost.proofs.Numbers.{has_none, has_apart, has_at, has_filter, in_filter, has_range, in_range, present_times, Rising, rising_range, rising_filter, rising_new}
+use Rattle.fab_cost.proofs.Numbers.{has_apart, has_at, has_filter, in_filter, has_range, in_range, Rising, rising_range, rising_filter, rising_new}
 
 -- which nets a block has
 

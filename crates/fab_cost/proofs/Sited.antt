@@ -1,11 +1,11 @@
 -- Where the blocks stand after a swap.
-use Rattle.std.proofs.Common.{◌≡◌, ◌≢◌, ℕ, ◌<◌, List, length, Option, Some, None, slice_set, refl, sym, ap, ◌∙◌, ◌⊎◌, inl, inr, get_or, get_or-set_other, get_or-set_same, length-set, arith}
+use Rattle.std.proofs.Common.{◌≡◌, ◌≢◌, ℕ, ◌<◌, List, length, Option, Some, None, slice_set, refl, sym, ap, ◌∙◌, get_or-set_other, get_or-set_same, length-set, arith}
 use Rattle.fab_arch.specs.declared.array.Site.{Site}
 use Rattle.fab_arch.specs.Grid.{GridShape}
 use Rattle.fab_net.specs.declared.pieces.BlockId.{BlockId}
 use Rattle.fab_site.specs.declared.pieces.Swap.{Swap}
 use Rattle.fab_site.specs.Placement.{nowhere, site_of, with_other, swapped, IsSwapOf}
-use Rattle.fab_site.proofs.Swaps.{IsHeldBy, IsReady}
+use Rattle.fab_site.proofs.Swaps.{IsHeldBy}
 use Rattle.fab_site.proofs.Swapping.{ready}
 
 some_is : (c b : BlockId) → Some c ≡ Some b → c ≡ b

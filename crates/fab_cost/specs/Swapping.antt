@@ -1,5 +1,5 @@
 -- What a swap makes of the cost and of boxes (our own).
-use Rattle.std.specs.Prelude.{ℕ, ℤ, pos, negsuc, ◌≡◌, ◌+◌, ◌-ℤ◌, ◌<◌, ◌≤◌, Bool, true, false, ◌||◌, if◌then◌else◌, List, [], ◌∷◌, map, length, Option, Some, None, slice_index, slice_index_or, codes, refl}
+use Rattle.std.specs.Prelude.{ℕ, ℤ, pos, negsuc, ◌≡◌, ◌-ℤ◌, ◌<◌, ◌≤◌, Bool, false, if◌then◌else◌, List, [], ◌∷◌, map, length, Option, Some, None, slice_index, slice_index_or, codes, refl}
 use Rattle.fab_arch.specs.declared.array.Site.{Site}
 use Rattle.fab_arch.specs.Grid.{GridShape, shape}
 use Rattle.fab_net.specs.declared.pieces.BlockId.{BlockId}
@@ -8,7 +8,6 @@ use Rattle.fab_net.specs.Netlist.{Netlist, net_at, nets_of, has_number, terminal
 use Rattle.fab_site.specs.declared.pieces.Swap.{Swap}
 use Rattle.fab_site.specs.Placement.{PlacementOf, site_of, site, swapped, IsSwapOf}
 use Rattle.fab_cost.specs.declared.edge_counts.Edge.{Edge}
-use Rattle.fab_cost.specs.declared.edge_counts.Edges.{Edges}
 use Rattle.fab_cost.specs.declared.edge_counts.CountedBox.{CountedBox}
 use Rattle.fab_cost.specs.Cost.{Box, xs_of, ys_of, clip, cost_of, net_cost, net_box, box_on, half_perimeter, cross_of}
 use Rattle.fab_cost.specs.Boxes.{Counts, box_at}
