@@ -1,9 +1,9 @@
 -- The nets of a block, and what a sum over them comes to.
-use Rattle.std.proofs.Common.{◌≡◌, ◌≢◌, ℕ, zero, suc, ◌+◌, ◌-◌, ◌*◌, ◌<◌, ◌≤◌, ◌^◌, Bool, true, false, not, cond, eqb, List, [], ◌∷◌, length, take, get_or, map, Option, Some, None, refl, sym, ap, ◌∙◌, subst, arith, inl, inr}
-use Rattle.std.specs.List.{filter, range_with_len, sum_by}
-use Rattle.std.proofs.lemmas.Bool.{cases_Bool, cases_eq, not-true, false≢true, eq-eqb, ne_eqb}
+use Rattle.std.proofs.Common.{◌≡◌, ℕ, ◌+◌, ◌*◌, ◌<◌, ◌≤◌, ◌^◌, Bool, true, false, not, cond, List, [], ◌∷◌, length, take, get_or, map, Option, refl, sym, ap, ◌∙◌, arith, inl, inr}
+use Rattle.std.specs.List.{range_with_len, sum_by}
+use Rattle.std.proofs.lemmas.Bool.{cases_Bool, cases_eq, not-true, false≢true}
 use Rattle.std.proofs.lemmas.Bool.Decides.{nat_tests}
-use Rattle.std.proofs.lemmas.List.{take_all, length-map, get_or-map, map_more}
+use Rattle.std.proofs.lemmas.List.{take_all, length-map, get_or-map}
 use Rattle.std.proofs.lemmas.List.Sums.{sum_by-cons, sum_by_more, sum_by_more_le}
 use Rattle.fab_arch.specs.declared.array.Site.{Site}
 use Rattle.fab_arch.specs.Grid.{GridShape}
@@ -17,10 +17,10 @@ use Rattle.fab_cost.specs.declared.edge_counts.CountedBox.{CountedBox}
 use Rattle.fab_cost.specs.Boxes.{Counts}
 use Rattle.fab_cost.specs.Cost.{cross_of, half_perimeter, box_on, net_box, net_cost, cost_of}
 use Rattle.fab_cost.specs.Edges.{times, plain, edges_of, counted_on, counted_box}
-use Rattle.fab_cost.specs.Swapping.{blocks_of, has_block, cost_unless}
+use Rattle.fab_cost.specs.Swapping.{blocks_of, has_block, cost_unless, times_other}
 use Rattle.fab_cost.proofs.Bounds.{AreSides, cost_few, filter_le}
 use Rattle.fab_cost.proofs.Times.{times_cons, times_none}
-use Rattle.fab_cost.proofs.Numbers.{has_none, has_apart, has_at, has_filter, in_filter, has_range, in_range, present_times, Rising, rising_range, rising_filter, rising_new}
+use Rattle.fab_cost.proofs.Numbers.{has_apart, has_at, has_filter, in_filter, has_range, in_range, Rising, rising_range, rising_filter, rising_new}
 
 -- which nets a block has
 
@@ -53,10 +53,11 @@ same_nets d b n c = elim (cases_Bool (has_number b (blocks_of d n))) [
   ]
 ]
 
+pub rising_nets : (d : Netlist) (b : ℕ) → Rising 0 (nets_of d b)
+rising_nets d b = rising_filter (λ n. has_number b (blocks_of d n)) 0 (counted d) (rising_filter (λ n. not (net_at d n).global) 0 (range_with_len 0 (length d.terminals)) (rising_range 0 (length d.terminals)))
+
 pub new_net : (d : Netlist) (b i : ℕ) → i < length (nets_of d b) → has_number (get_or (nets_of d b) i 0) (take i (nets_of d b)) ≡ false
-new_net d b i h =
-    let r : Rising 0 (nets_of d b) = rising_filter (λ n. has_number b (blocks_of d n)) 0 (counted d) (rising_filter (λ n. not (net_at d n).global) 0 (range_with_len 0 (length d.terminals)) (rising_range 0 (length d.terminals))) in
-    rising_new 0 (nets_of d b) i r h
+new_net d b i h = rising_new 0 (nets_of d b) i (rising_nets d b) h
 
 pub net_count : (d : Netlist) (b k : ℕ) (ns : List NetId) → ns ≡ map net_id (nets_of d b) → k ≡ length ns → k ≡ length (nets_of d b)
 net_count d b k ns e ek = ek ∙ ap length e ∙ length-map (nets_of d b) net_id
@@ -75,7 +76,7 @@ net_counts d b i ns n z e h en = (entry_counts d b i n.0 h (net_number d b i ns 
 
 -- how often a block stands on a net
 
-times_if_absent : (v : ℕ) (xs : List ℕ) → has_number v xs ≡ false → times v xs ≡ 0
+pub times_if_absent : (v : ℕ) (xs : List ℕ) → has_number v xs ≡ false → times v xs ≡ 0
 times_if_absent v [] h = times_none v
 times_if_absent v (x ∷ xs) h = elim (cases_eq x v) [
   | inl e ↦ absurd (false≢true (sym h ∙ (let k = present_first v x xs e in k)))
@@ -86,21 +87,6 @@ times_if_absent v (x ∷ xs) h = elim (cases_eq x v) [
   where
     present_first : (v x : ℕ) (xs : List ℕ) → x ≡ v → has_number v (x ∷ xs) ≡ true
     present_first v x xs e = ap (λ y. has_number v (y ∷ xs)) e ∙ has_at (v ∷ xs) 0 (omega arith)
-
-pub is_on : (d : Netlist) (b : BlockId) (n m : ℕ) (ts : List Terminal) → ts ≡ get_or d.terminals n [] → m ≡ times b.0 (map block_on ts) → m ≢ 0 → true ≡ has_number b.0 (blocks_of d n)
-is_on d b n m ts e em ne = elim (cases_Bool (has_number b.0 (blocks_of d n))) [
-  | inl t ↦ sym t
-  | inr f ↦ absurd (ne (em ∙ ap (λ v. times b.0 (map block_on v)) e ∙ times_if_absent b.0 (blocks_of d n) f))
-]
-
-pub is_off : (d : Netlist) (b : BlockId) (n m : ℕ) (ts : List Terminal) → ts ≡ get_or d.terminals n [] → m ≡ times b.0 (map block_on ts) → m ≡ 0 → false ≡ has_number b.0 (blocks_of d n)
-is_off d b n m ts e em z = elim (cases_Bool (has_number b.0 (blocks_of d n))) [
-  | inl t ↦
-      let p = present_times b.0 (blocks_of d n) t in
-      let q : m ≡ times b.0 (blocks_of d n) = em ∙ ap (λ v. times b.0 (map block_on v)) e in
-      absurd (omega (arith, p, q, z))
-  | inr f ↦ sym f
-]
 
 -- the counted box and the cost of a net from its terminals
 
@@ -122,6 +108,12 @@ counted_cost_from d g sites n ts b r e eb er =
     let l : length ts ≡ length (net_at d n).blocks = ap length e ∙ sym (length-map (get_or d.terminals n []) block_on) in
     let p : plain b ≡ net_box d g sites n = ap plain eb ∙ plain_is d g sites n in
     er ∙ (λ i. cross_of (l i) * half_perimeter (p i))
+
+pub times_to : (d : Netlist) (b n m : ℕ) (ts : List Terminal) → ts ≡ get_or d.terminals n [] → m ≡ times b (blocks_of d n) → m ≡ times b (map block_on ts)
+times_to d b n m ts e em = em ∙ ap (λ v. times b (map block_on v)) (sym e)
+
+pub times_other_to : (d : Netlist) (o : Option BlockId) (n m : ℕ) (ts : List Terminal) → ts ≡ get_or d.terminals n [] → m ≡ times_other o (blocks_of d n) → m ≡ times_other o (map block_on ts)
+times_other_to d o n m ts e em = em ∙ ap (λ v. times_other o (map block_on v)) (sym e)
 
 -- sums over a block's nets
 

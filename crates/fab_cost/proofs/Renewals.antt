@@ -1,5 +1,5 @@
 -- The boxes while those of the swap's nets are renewed, one after another.
-use Rattle.std.proofs.Common.{◌≡◌, ◌≢◌, ℕ, suc, ◌+◌, ◌-◌, ◌<◌, ◌≤◌, Bool, true, false, not, cond, ◌||◌, List, [], ◌∷◌, ◌++◌, length, take, get_or, set, Option, Some, None, refl, sym, ap, ◌∙◌, arith, ◌⊎◌, inl, inr, subst, get_or-set_other, get_or-set_same, length-set}
+use Rattle.std.proofs.Common.{◌≡◌, ◌≢◌, ℕ, ◌+◌, ◌-◌, ◌<◌, ◌≤◌, Bool, true, false, ◌||◌, List, [], ◌∷◌, ◌++◌, length, take, get_or, set, Option, Some, None, refl, sym, ap, ◌∙◌, arith, inl, inr, subst, get_or-set_other, get_or-set_same, length-set}
 use Rattle.std.proofs.lemmas.Bool.{cases_Bool, cases_eq, false≢true, or_left, or_right}
 use Rattle.std.proofs.lemmas.List.{take_all, take_more}
 use Rattle.fab_arch.specs.declared.array.Site.{Site}
@@ -8,8 +8,8 @@ use Rattle.fab_net.specs.declared.pieces.BlockId.{BlockId}
 use Rattle.fab_net.specs.Netlist.{Netlist, nets_of, has_number}
 use Rattle.fab_site.specs.declared.pieces.Swap.{Swap}
 use Rattle.fab_site.specs.Placement.{swapped}
+use Rattle.fab_site.proofs.Swaps.{length-swapped}
 use Rattle.fab_cost.specs.declared.edge_counts.CountedBox.{CountedBox}
-use Rattle.fab_cost.specs.declared.edge_counts.EdgeCounts.{EdgeCounts}
 use Rattle.fab_cost.specs.Boxes.{Counts}
 use Rattle.fab_cost.specs.Cost.{cost_of}
 use Rattle.fab_cost.specs.Edges.{counted_box, counts_of, edge_counts}
@@ -128,8 +128,11 @@ sum_is boxes total d g sites is = is.sum
 pub total_is : (d : Netlist) (g : GridShape) (sites : List Site) (s : Swap) (total gained lost : ℕ) → total ≡ cost_of d g sites → cost_of d g (swapped sites s) + lost ≡ cost_of d g sites + gained → total + gained - lost ≡ cost_of d g (swapped sites s)
 total_is d g sites s total gained lost e h = omega arith
 
-pub stands : (boxes : List CountedBox) (total : ℕ) (d : Netlist) (g : GridShape) (sites : List Site) → HaveBoxes boxes d g sites → total ≡ cost_of d g sites → CountedStandsFor (record { boxes = boxes; total = total }) d g sites
-stands boxes total d g sites h e = record { have = h; sum = e }
+pub whole_is : (boxes : List CountedBox) (total : ℕ) (d : Netlist) (g : GridShape) (sites : List Site) → CountedStandsFor (record { boxes = boxes; total = total }) d g sites → length d.kinds ≡ length sites
+whole_is boxes total d g sites is = is.whole
+
+pub stands : (boxes : List CountedBox) (total : ℕ) (d : Netlist) (g : GridShape) (sites : List Site) (s : Swap) → HaveBoxes boxes d g (swapped sites s) → total ≡ cost_of d g (swapped sites s) → length d.kinds ≡ length sites → CountedStandsFor (record { boxes = boxes; total = total }) d g (swapped sites s)
+stands boxes total d g sites s h e k = let w : length d.kinds ≡ length (swapped sites s) = k ∙ sym (length-swapped sites s) in record { have = h; sum = e; whole = w }
 
 pub counts_kept : (boxes : List CountedBox) (total : ℕ) (d : Netlist) (g : GridShape) (sites : List Site) (n : ℕ) (kept : CountedBox) → kept ≡ counted_at boxes n → CountedStandsFor (record { boxes = boxes; total = total }) d g sites → Counts d n → counts_of kept ≡ edge_counts d g sites n
 unfolding edge_counts

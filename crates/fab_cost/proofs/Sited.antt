@@ -1,11 +1,11 @@
 -- Where the blocks stand after a swap.
-use Rattle.std.proofs.Common.{◌≡◌, ◌≢◌, ℕ, ◌<◌, List, length, Option, Some, None, slice_set, refl, sym, ap, ◌∙◌, ◌⊎◌, inl, inr, get_or, get_or-set_other, get_or-set_same, length-set, arith}
+use Rattle.std.proofs.Common.{◌≡◌, ◌≢◌, ℕ, ◌<◌, List, length, Option, Some, None, slice_set, refl, sym, ap, ◌∙◌, get_or-set_other, get_or-set_same, length-set, arith}
 use Rattle.fab_arch.specs.declared.array.Site.{Site}
 use Rattle.fab_arch.specs.Grid.{GridShape}
 use Rattle.fab_net.specs.declared.pieces.BlockId.{BlockId}
 use Rattle.fab_site.specs.declared.pieces.Swap.{Swap}
 use Rattle.fab_site.specs.Placement.{nowhere, site_of, with_other, swapped, IsSwapOf}
-use Rattle.fab_site.proofs.Swaps.{IsHeldBy, IsReady}
+use Rattle.fab_site.proofs.Swaps.{IsHeldBy}
 use Rattle.fab_site.proofs.Swapping.{ready}
 
 some_is : (c b : BlockId) → Some c ≡ Some b → c ≡ b
@@ -13,6 +13,12 @@ some_is c b e = cc
 
 none_is : (b : BlockId) → None ≡ Some b → ⊥
 none_is b e = cc
+
+pub none_within : (k : ℕ) (b : BlockId) → None ≡ Some b → b.0 < k
+none_within k b e = absurd (none_is b e)
+
+pub some_within : (c : BlockId) (k : ℕ) → c.0 < k → (b : BlockId) → Some c ≡ Some b → b.0 < k
+some_within c k h b e = let q : c.0 ≡ b.0 = ap (λ (v : BlockId). v.0) (some_is c b e) in rw (← q) h
 
 other_within_at : (sites : List Site) (to : Site) (other : Option BlockId) (b : BlockId) → IsHeldBy sites to other → other ≡ Some b → (b.0 < length sites) × (site_of sites b.0 ≡ to)
 other_within_at sites to None b holds e = absurd (none_is b e)

@@ -29,8 +29,9 @@ no_box = record { xmin = 0; xmax = 0; ymin = 0; ymax = 0 }
 unfoldable pub box_at : List Box → ℕ → Box
 box_at boxes n = slice_index_or boxes n no_box
 
--- the box kept for each net that counts, and the cost, are those of the placement
+-- the box kept for each net that counts, and the cost, are those of the placement, which has a site for each block
 pub record StandsFor (b : BoxesOf) (d : Netlist) (g : GridShape) (sites : List Site) : Type 0 where
   pub long : length b.boxes ≡ length d.terminals
   pub each : (n : ℕ) → Counts d n → box_at b.boxes n ≡ net_box d g sites n
   pub sum : b.total ≡ cost_of d g sites
+  pub whole : length d.kinds ≡ length sites

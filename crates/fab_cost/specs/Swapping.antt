@@ -1,14 +1,13 @@
 -- What a swap makes of the cost and of boxes (our own).
-use Rattle.std.specs.Prelude.{ℕ, ℤ, pos, negsuc, ◌≡◌, ◌+◌, ◌-ℤ◌, ◌<◌, ◌≤◌, Bool, true, false, ◌||◌, if◌then◌else◌, List, [], ◌∷◌, map, length, Option, Some, None, slice_index_or, codes, refl}
+use Rattle.std.specs.Prelude.{ℕ, ℤ, pos, negsuc, ◌≡◌, ◌-ℤ◌, ◌<◌, ◌≤◌, Bool, false, if◌then◌else◌, List, [], ◌∷◌, map, length, Option, Some, None, slice_index, slice_index_or, codes, refl}
 use Rattle.fab_arch.specs.declared.array.Site.{Site}
 use Rattle.fab_arch.specs.Grid.{GridShape, shape}
 use Rattle.fab_net.specs.declared.pieces.BlockId.{BlockId}
 use Rattle.fab_net.specs.declared.pieces.BlockKind.TheVariants.{InputPad, Logic}
-use Rattle.fab_net.specs.Netlist.{Netlist, net_at, has_number, terminal}
+use Rattle.fab_net.specs.Netlist.{Netlist, net_at, nets_of, has_number, terminal}
 use Rattle.fab_site.specs.declared.pieces.Swap.{Swap}
 use Rattle.fab_site.specs.Placement.{PlacementOf, site_of, site, swapped, IsSwapOf}
 use Rattle.fab_cost.specs.declared.edge_counts.Edge.{Edge}
-use Rattle.fab_cost.specs.declared.edge_counts.Edges.{Edges}
 use Rattle.fab_cost.specs.declared.edge_counts.CountedBox.{CountedBox}
 use Rattle.fab_cost.specs.Cost.{Box, xs_of, ys_of, clip, cost_of, net_cost, net_box, box_on, half_perimeter, cross_of}
 use Rattle.fab_cost.specs.Boxes.{Counts, box_at}
@@ -80,15 +79,36 @@ pub record HaveBoxes (boxes : List CountedBox) (d : Netlist) (g : GridShape) (si
   pub long : length boxes ≡ length d.terminals
   pub each : (n : ℕ) → Counts d n → counted_at boxes n ≡ counted_box d g sites n
 
--- the boxes with their edge counts, and the cost, are those of the placement
+-- the boxes with their edge counts, and the cost, are those of the placement, which has a site for each block
 pub record CountedStandsFor (b : CountedBoxesOf) (d : Netlist) (g : GridShape) (sites : List Site) : Type 0 where
   pub have : HaveBoxes b.boxes d g sites
   pub sum : b.total ≡ cost_of d g sites
+  pub whole : length d.kinds ≡ length sites
 
 -- the block, if there is one, has one of these terminals
 abbrev pub has_block : Option BlockId → List ℕ → Bool
 has_block None blocks = false
 has_block (Some b) blocks = has_number b.0 blocks
+
+-- the block is one of the swap's: its first where no block's nets are left out, or the other, where the first's are
+abbrev pub IsPart : Swap → BlockId → Option BlockId → Type 0
+IsPart s b None = b ≡ s.block
+IsPart s b (Some c) = (c ≡ s.block) × (s.other ≡ Some b)
+
+-- the swap's block beside such a one
+abbrev pub partner : Swap → Option BlockId → Option BlockId
+partner s None = s.other
+partner s (Some c) = Some c
+
+-- so many first nets of a block, if there is one, are below a net
+abbrev pub AreBelow : Netlist → Option BlockId → ℕ → ℕ → Type 0
+AreBelow d None at n = Unit {0}
+AreBelow d (Some b) at n = (k : ℕ) → k < at → k < length (nets_of d b.0) → slice_index (nets_of d b.0) k < n
+
+-- where a net stands among those of a block, if there is one, or would stand
+abbrev pub IsPlaceOf : Netlist → Option BlockId → ℕ → ℕ → Type 0
+IsPlaceOf d None at n = Unit {0}
+IsPlaceOf d (Some b) at n = AreBelow d (Some b) at n × (at < length (nets_of d b.0) → n ≤ slice_index (nets_of d b.0) at)
 
 -- what a net costs on the sites, or nothing where it is also one of this block's
 unfoldable pub cost_unless : Netlist → GridShape → List Site → Option BlockId → ℕ → ℕ

@@ -22,32 +22,6 @@ fn is_other(other: Option<BlockId>, block: BlockId) -> bool
     }
 }
 
-#[tactic(auto, using(crate::proofs::Times::times_here, crate::proofs::Times::times_elsewhere, crate::proofs::Times::times_room, crate::proofs::Times::times_all))]
-/// How many of the terminals are of the block.
-pub(crate) fn times_on(terminals: &[Terminal], block: BlockId) -> u32
-    requires { length terminals.now ≤ 1048576 }
-    ensures { result ≡ times block.0 (map block_on terminals.now) }
-{
-    let mut found: u32 = 0;
-    'terminals: for i in 0..terminals.len() {
-        if terminals[i].block.0 == block.0 {
-            found += 1;
-        }
-    }
-    found
-}
-
-/// The same for the other block of a swap, if there is one.
-pub(crate) fn times_on_other(terminals: &[Terminal], other: Option<BlockId>) -> u32
-    requires { length terminals.now ≤ 1048576 }
-    ensures { result ≡ times_other other (map block_on terminals.now) }
-{
-    match other {
-        None => 0,
-        Some(other) => times_on(terminals, other),
-    }
-}
-
 #[tactic(auto, using(crate::proofs::Sited::site_of_moved, crate::proofs::Sited::site_of_other, crate::proofs::Sited::site_of_rest))]
 /// Where the block stands after the swap, if there is one.
 pub(crate) fn site_after(placement: &Placement, swap: Option<Swap>, block: BlockId) -> Site

@@ -9,9 +9,10 @@ ghost use Rattle.fab_site.specs.Placement.{swapped, IsSwapOf};
 ghost use Rattle.fab_cost.specs.Boxes.{Counts};
 ghost use Rattle.fab_cost.specs.Cost.{cost_of, net_cost};
 ghost use Rattle.fab_cost.specs.Edges.{times, counted_box as box_counted, edge_counts};
-ghost use Rattle.fab_cost.specs.Swapping.{AreRenewed, CountedStandsFor, HaveBoxes, blocks_of, change, cost_unless, counted_at, has_block, times_other};
+ghost use Rattle.fab_cost.specs.Swapping.{AreRenewed, CountedStandsFor, HaveBoxes, IsPart, IsPlaceOf, blocks_of, change, cost_unless, counted_at, has_block, partner, times_other};
 
-use crate::counting::{counted_box, swapped_box, times_on, times_on_other};
+use crate::block_nets::{Shares, count_of_nets, is_left_out, net_of, place_beside, shares_of};
+use crate::counting::{counted_box, swapped_box};
 use crate::edge_counts::{CountedBox, EdgeCounts, NOTHING};
 use crate::wire::WireCost;
 use fab_arch::Grid;
@@ -27,36 +28,18 @@ pub(crate) struct Tally {
     pub(crate) lost: u64,
 }
 
-#[tactic(auto, using(crate::proofs::Nets::net_number, crate::proofs::Nets::net_counts, crate::proofs::Nets::net_within))]
-/// One of a block's nets.
-pub(crate) fn net_of(design: &Design, block: BlockId, i: usize) -> NetId
-    requires block { block.0 < length design.now.kinds }
-    requires within { i < length (nets_of design.now block.0) }
-    ensures number { result.0 ≡ slice_index (nets_of design.now block.0) i }
-    ensures counts { Counts design.now result.0 }
-{
-    design.nets_of(block)[i]
-}
+const NO_TALLY: Tally = Tally { gained: 0, lost: 0 };
 
-#[tactic(auto, using(crate::proofs::Nets::net_count))]
-/// How many nets a block has.
-pub(crate) fn count_of_nets(design: &Design, block: BlockId) -> usize
-    requires { block.0 < length design.now.kinds }
-    ensures { result ≡ length (nets_of design.now block.0) }
+/// Both tallies together.
+fn plus(one: Tally, other: Tally) -> Tally
+    requires gained { one.gained + other.gained < 2 ^ 64 }
+    requires lost { one.lost + other.lost < 2 ^ 64 }
+    ensures gained { result.gained ≡ one.gained + other.gained }
+    ensures lost { result.lost ≡ one.lost + other.lost }
 {
-    design.nets_of(block).len()
-}
-
-#[tactic(auto, using(crate::proofs::Making::terminals_some, crate::proofs::Bounds::terminals_few, crate::proofs::Nets::is_on, crate::proofs::Nets::is_off))]
-/// Whether the block, if there is one, has a terminal on the net.
-pub(crate) fn is_on(design: &Design, block: Option<BlockId>, net: NetId) -> bool
-    requires { Counts design.now net.0 }
-    ensures { result ≡ has_block block (blocks_of design.now net.0) }
-{
-    let _nets = design.nets();
-    match block {
-        None => false,
-        Some(block) => times_on(design.terminals(net), block) != 0,
+    Tally {
+        gained: one.gained + other.gained,
+        lost: one.lost + other.lost,
     }
 }
 
@@ -72,7 +55,7 @@ fn first_box(design: &Design, grid: &Grid, placement: &Placement, net: NetId) ->
     counted_box(grid, placement, None, terminals)
 }
 
-#[tactic(auto, using(crate::proofs::Nets::counted_from, crate::proofs::Nets::counted_to, crate::proofs::Making::terminals_some, crate::proofs::Making::terminals_within, crate::proofs::Bounds::terminals_few))]
+#[tactic(auto, using(crate::proofs::Nets::counted_from, crate::proofs::Nets::counted_to, crate::proofs::Nets::times_to, crate::proofs::Nets::times_other_to, crate::proofs::Making::terminals_some, crate::proofs::Making::terminals_within, crate::proofs::Bounds::terminals_few))]
 /// The box of the net after the swap.
 fn renewed(
     old: CountedBox,
@@ -81,18 +64,27 @@ fn renewed(
     placement: &Placement,
     swap: &Swap,
     net: NetId,
+    shares: Shares,
 ) -> CountedBox
     requires old { old ≡ box_counted design.now grid.now placement.now.sites net.0 }
     requires net { Counts design.now net.0 }
+    requires mine { shares.mine ≡ times swap.now.block.0 (blocks_of design.now net.0) }
+    requires others { shares.others ≡ times_other swap.now.other (blocks_of design.now net.0) }
     requires lawful { IsSwapOf placement.now.grid placement.now.sites swap.now }
     requires whole { length design.now.kinds ≡ length placement.now.sites }
     ensures { result ≡ box_counted design.now grid.now (swapped placement.now.sites swap.now) net.0 }
 {
     let _nets = design.nets();
     let terminals = design.terminals(net);
-    let mine = times_on(terminals, swap.block);
-    let others = times_on_other(terminals, swap.other);
-    swapped_box(old, terminals, grid, placement, swap, mine, others)
+    swapped_box(
+        old,
+        terminals,
+        grid,
+        placement,
+        swap,
+        shares.mine,
+        shares.others,
+    )
 }
 
 #[tactic(auto, using(crate::proofs::Nets::counted_cost_from, crate::proofs::Making::terminals_some, crate::proofs::Bounds::terminals_few))]
@@ -115,36 +107,52 @@ fn kept_box(boxes: &Vec<CountedBox>, net: NetId) -> CountedBox
     boxes[net.0 as usize]
 }
 
+/// What the net costs with the box after the swap, and with that before it.
+fn tally_between(design: &Design, net: NetId, old: CountedBox, new: CountedBox) -> Tally
+    requires { Counts design.now net.0 }
+    ensures gained { (g : GridShape) (sites : List Site) → new ≡ box_counted design.now g sites net.0 → result.gained ≡ net_cost design.now g sites net.0 }
+    ensures lost { (g : GridShape) (sites : List Site) → old ≡ box_counted design.now g sites net.0 → result.lost ≡ net_cost design.now g sites net.0 }
+{
+    Tally {
+        gained: cost_of_counted(design, net, new),
+        lost: cost_of_counted(design, net, old),
+    }
+}
+
 #[tactic(auto, using(crate::proofs::Nets::unless_on, crate::proofs::Nets::unless_off))]
-/// What the net costs after the swap and before it, or nothing where it is also one of the block `but`.
+/// What net `i` of a block costs after the swap and before it, or nothing where it is also one of the block `but`.
 fn tally_of_net(
     boxes: &Vec<CountedBox>,
     design: &Design,
     grid: &Grid,
     placement: &Placement,
     swap: &Swap,
+    block: BlockId,
     but: Option<BlockId>,
-    net: NetId,
+    i: usize,
+    at: usize,
 ) -> Tally
     requires have { HaveBoxes boxes.now.items design.now grid.now placement.now.sites }
-    requires net { Counts design.now net.0 }
+    requires part { IsPart swap.now block but }
+    requires block { block.0 < length design.now.kinds }
+    requires within { i < length (nets_of design.now block.0) }
+    requires place { IsPlaceOf design.now (partner swap.now but) at (slice_index (nets_of design.now block.0) i) }
     requires lawful { IsSwapOf placement.now.grid placement.now.sites swap.now }
     requires whole { length design.now.kinds ≡ length placement.now.sites }
-    ensures gained { result.gained ≡ cost_unless design.now grid.now (swapped placement.now.sites swap.now) but net.0 }
-    ensures lost { result.lost ≡ cost_unless design.now grid.now placement.now.sites but net.0 }
+    ensures gained { result.gained ≡ cost_unless design.now grid.now (swapped placement.now.sites swap.now) but (slice_index (nets_of design.now block.0) i) }
+    ensures lost { result.lost ≡ cost_unless design.now grid.now placement.now.sites but (slice_index (nets_of design.now block.0) i) }
 {
-    if is_on(design, but, net) {
-        Tally { gained: 0, lost: 0 }
-    } else {
-        let old = kept_box(boxes, net);
-        let new = renewed(old, design, grid, placement, swap, net);
-        let gained = cost_of_counted(design, net, new);
-        let lost = cost_of_counted(design, net, old);
-        Tally { gained, lost }
+    let net = net_of(design, block, i);
+    let shares = shares_of(design, placement, swap, block, but, i, at);
+    if is_left_out(but, shares) {
+        return NO_TALLY;
     }
+    let old = kept_box(boxes, net);
+    let new = renewed(old, design, grid, placement, swap, net, shares);
+    tally_between(design, net, old, new)
 }
 
-#[tactic(auto, using(crate::proofs::Nets::sum_more, crate::proofs::Nets::sum_all, crate::proofs::Nets::sum_fits))]
+#[tactic(auto, using(crate::proofs::Nets::sum_more, crate::proofs::Nets::sum_all, crate::proofs::Nets::sum_fits, crate::proofs::Shares::none_below, crate::proofs::Shares::below_rising))]
 /// What the nets of a block cost after the swap and before it, those of the block `but` left out.
 fn tally_of(
     boxes: &Vec<CountedBox>,
@@ -156,6 +164,7 @@ fn tally_of(
     but: Option<BlockId>,
 ) -> Tally
     requires have { HaveBoxes boxes.now.items design.now grid.now placement.now.sites }
+    requires part { IsPart swap.now block but }
     requires block { block.0 < length design.now.kinds }
     requires lawful { IsSwapOf placement.now.grid placement.now.sites swap.now }
     requires whole { length design.now.kinds ≡ length placement.now.sites }
@@ -168,9 +177,10 @@ fn tally_of(
     let nets = count_of_nets(design, block);
     let mut gained: u64 = 0;
     let mut lost: u64 = 0;
+    let mut at = 0;
     'nets: for i in 0..nets {
-        let net = net_of(design, block, i);
-        let one = tally_of_net(boxes, design, grid, placement, swap, but, net);
+        at = place_beside(design, placement, swap, block, but, i, at);
+        let one = tally_of_net(boxes, design, grid, placement, swap, block, but, i, at);
         gained += one.gained;
         lost += one.lost;
     }
@@ -201,25 +211,15 @@ fn whole_tally(
     match swap.other {
         None => first,
         Some(other) => {
-            let second = tally_of(
-                boxes,
-                design,
-                grid,
-                placement,
-                swap,
-                other,
-                Some(swap.block),
-            );
-            Tally {
-                gained: first.gained + second.gained,
-                lost: first.lost + second.lost,
-            }
+            let but = Some(swap.block);
+            let second = tally_of(boxes, design, grid, placement, swap, other, but);
+            plus(first, second)
         }
     }
 }
 
-#[tactic(auto, using(crate::proofs::Renewals::next_on))]
-/// Renews the box of net `i` of a block, unless it is also one of the block `but`.
+#[tactic(auto, using(crate::proofs::Renewals::next_on, crate::proofs::Nets::unless_on, crate::proofs::Nets::unless_off))]
+/// Renews the box of net `i` of a block, unless it is also one of the block `but`; what the net costs after and before.
 fn renew_net(
     boxes: &mut Vec<CountedBox>,
     design: &Design,
@@ -229,24 +229,33 @@ fn renew_net(
     block: BlockId,
     but: Option<BlockId>,
     i: usize,
-)
+    at: usize,
+) -> Tally
     requires left { AreRenewed boxes.old.items design.now grid.now placement.now.sites (swapped placement.now.sites swap.now) (λ n. has_block but (blocks_of design.now n) || has_number n (take i (nets_of design.now block.0))) }
+    requires part { IsPart swap.now block but }
     requires block { block.0 < length design.now.kinds }
     requires within { i < length (nets_of design.now block.0) }
+    requires place { IsPlaceOf design.now (partner swap.now but) at (slice_index (nets_of design.now block.0) i) }
     requires lawful { IsSwapOf placement.now.grid placement.now.sites swap.now }
     requires whole { length design.now.kinds ≡ length placement.now.sites }
-    ensures { AreRenewed boxes.new.items design.now grid.now placement.now.sites (swapped placement.now.sites swap.now) (λ n. has_block but (blocks_of design.now n) || has_number n (take (i + 1) (nets_of design.now block.0))) }
+    ensures boxes { AreRenewed boxes.new.items design.now grid.now placement.now.sites (swapped placement.now.sites swap.now) (λ n. has_block but (blocks_of design.now n) || has_number n (take (i + 1) (nets_of design.now block.0))) }
+    ensures gained { result.gained ≡ cost_unless design.now grid.now (swapped placement.now.sites swap.now) but (slice_index (nets_of design.now block.0) i) }
+    ensures lost { result.lost ≡ cost_unless design.now grid.now placement.now.sites but (slice_index (nets_of design.now block.0) i) }
 {
     let net = net_of(design, block, i);
-    if !is_on(design, but, net) {
-        let old = kept_box(&*boxes, net);
-        let new = renewed(old, design, grid, placement, swap, net);
-        boxes[net.0 as usize] = new;
+    let shares = shares_of(design, placement, swap, block, but, i, at);
+    if is_left_out(but, shares) {
+        return NO_TALLY;
     }
+    let old = kept_box(&*boxes, net);
+    let new = renewed(old, design, grid, placement, swap, net, shares);
+    boxes[net.0 as usize] = new;
+    tally_between(design, net, old, new)
 }
 
-#[tactic(auto, using(crate::proofs::Renewals::started))]
-/// Renews the boxes of a block's nets, but for those of the block `but`, which are renewed.
+#[tactic(auto, using(crate::proofs::Renewals::started, crate::proofs::Nets::sum_more, crate::proofs::Nets::sum_all, crate::proofs::Nets::sum_fits, crate::proofs::Shares::none_below, crate::proofs::Shares::below_rising))]
+/// Renews the boxes of a block's nets, but for those of the block `but`, which are renewed; what the nets cost after
+/// and before.
 fn renew_nets(
     boxes: &mut Vec<CountedBox>,
     design: &Design,
@@ -255,45 +264,61 @@ fn renew_nets(
     swap: &Swap,
     block: BlockId,
     but: Option<BlockId>,
-)
+) -> Tally
     requires left { AreRenewed boxes.old.items design.now grid.now placement.now.sites (swapped placement.now.sites swap.now) (λ n. has_block but (blocks_of design.now n)) }
+    requires part { IsPart swap.now block but }
     requires block { block.0 < length design.now.kinds }
     requires lawful { IsSwapOf placement.now.grid placement.now.sites swap.now }
     requires whole { length design.now.kinds ≡ length placement.now.sites }
-    ensures { AreRenewed boxes.new.items design.now grid.now placement.now.sites (swapped placement.now.sites swap.now) (λ n. has_block but (blocks_of design.now n) || has_number block.0 (blocks_of design.now n)) }
+    ensures boxes { AreRenewed boxes.new.items design.now grid.now placement.now.sites (swapped placement.now.sites swap.now) (λ n. has_block but (blocks_of design.now n) || has_number block.0 (blocks_of design.now n)) }
+    ensures gained { result.gained ≡ sum_by (cost_unless design.now grid.now (swapped placement.now.sites swap.now) but) (nets_of design.now block.0) }
+    ensures lost { result.lost ≡ sum_by (cost_unless design.now grid.now placement.now.sites but) (nets_of design.now block.0) }
 {
+    let _nx = grid.nx();
+    let _ny = grid.ny();
+    let _nets = design.nets();
     let nets = count_of_nets(design, block);
+    let mut gained: u64 = 0;
+    let mut lost: u64 = 0;
+    let mut at = 0;
     'nets: for i in 0..nets {
-        renew_net(boxes, design, grid, placement, swap, block, but, i);
+        at = place_beside(design, placement, swap, block, but, i, at);
+        let one = renew_net(boxes, design, grid, placement, swap, block, but, i, at);
+        gained += one.gained;
+        lost += one.lost;
     }
+    Tally { gained, lost }
 }
 
-#[tactic(auto, using(crate::proofs::Sited::block_below, crate::proofs::Renewals::untouched, crate::proofs::Renewals::first_done))]
-/// Renews the boxes of the nets of the swap's blocks.
+#[tactic(auto, using(crate::proofs::Sited::block_below, crate::proofs::Renewals::untouched, crate::proofs::Renewals::first_done, crate::proofs::Split::balance_none, crate::proofs::Split::balance_some, crate::proofs::Nets::sum_low, crate::proofs::Nets::cost_low))]
+/// Renews the boxes of the nets of the swap's blocks; what these nets cost after and before, each once.
 fn renew(
     boxes: &mut Vec<CountedBox>,
     design: &Design,
     grid: &Grid,
     placement: &Placement,
     swap: &Swap,
-)
+) -> Tally
     requires have { HaveBoxes boxes.old.items design.now grid.now placement.now.sites }
     requires lawful { IsSwapOf placement.now.grid placement.now.sites swap.now }
     requires whole { length design.now.kinds ≡ length placement.now.sites }
-    ensures { HaveBoxes boxes.new.items design.now grid.now (swapped placement.now.sites swap.now) }
+    ensures have { HaveBoxes boxes.new.items design.now grid.now (swapped placement.now.sites swap.now) }
+    ensures balance { cost_of design.now grid.now (swapped placement.now.sites swap.now) + result.lost ≡ cost_of design.now grid.now placement.now.sites + result.gained }
+    ensures gained { result.gained < 2 ^ 43 }
+    ensures lost { result.lost < 2 ^ 43 }
+    ensures below { (sites : List Site) → cost_of design.now grid.now sites < 2 ^ 42 }
 {
-    renew_nets(boxes, design, grid, placement, swap, swap.block, None);
+    let _nx = grid.nx();
+    let _ny = grid.ny();
+    let _nets = design.nets();
+    let first = renew_nets(boxes, design, grid, placement, swap, swap.block, None);
     match swap.other {
-        None => {}
-        Some(other) => renew_nets(
-            boxes,
-            design,
-            grid,
-            placement,
-            swap,
-            other,
-            Some(swap.block),
-        ),
+        None => first,
+        Some(other) => {
+            let but = Some(swap.block);
+            let more = renew_nets(boxes, design, grid, placement, swap, other, but);
+            plus(first, more)
+        }
     }
 }
 
@@ -374,7 +399,7 @@ impl EdgeBoxes {
     }
 }
 
-#[tactic(auto, using(crate::proofs::Renewals::have, crate::proofs::Renewals::sum_is, crate::proofs::Renewals::total_is, crate::proofs::Renewals::stands))]
+#[tactic(auto, using(crate::proofs::Renewals::have, crate::proofs::Renewals::whole_is, crate::proofs::Renewals::sum_is, crate::proofs::Renewals::total_is, crate::proofs::Renewals::stands))]
 impl WireCost for EdgeBoxes {
     ghost StandsFor = { λ b d g sites. CountedStandsFor b d g sites };
 
@@ -388,8 +413,7 @@ impl WireCost for EdgeBoxes {
     }
 
     fn apply(&mut self, design: &Design, grid: &Grid, placement: &Placement, swap: &Swap) {
-        let tally = whole_tally(&self.boxes, design, grid, placement, swap);
-        renew(&mut self.boxes, design, grid, placement, swap);
+        let tally = renew(&mut self.boxes, design, grid, placement, swap);
         self.total = self.total + tally.gained - tally.lost;
     }
 }

@@ -1,6 +1,7 @@
 //! The wire cost of placements.
 #![tactic(auto)]
 
+mod block_nets;
 pub mod counting;
 pub mod crossings;
 pub mod edge_boxes;

@@ -1,13 +1,17 @@
-ghost use Rattle.std.specs.Prelude.{◌≡◌, ℕ, ◌<◌, if◌then◌else◌, [], length, IsTrue};
+ghost use Rattle.std.specs.Prelude.{◌≡◌, ℕ, ◌<◌, ◌^◌, if◌then◌else◌, List, [], Some, length, slice_get, IsTrue, IfSome};
+ghost use Rattle.fab_arch.specs.declared.array.Site.{Site as ArraySite};
 ghost use Rattle.fab_arch.specs.declared.array.SiteKind.TheVariants.{Logic, Pad};
+ghost use Rattle.fab_arch.specs.Grid.{GridShape};
 ghost use Rattle.fab_net.specs.Netlist.{is_logic};
-ghost use Rattle.fab_site.specs.Placement.{Fits, IsLegal, site_of};
+ghost use Rattle.fab_site.specs.Placement.{Fits, IsLegal, IsSwapOf, site_of, swapped};
+ghost use Rattle.fab_cost.specs.Boxes.{StandsFor};
+ghost use Rattle.fab_cost.specs.Swapping.{CountedStandsFor};
 
-use crate::{Boxes, cross};
+use crate::{Boxes, EdgeBoxes, EdgeCounts, WireCost, cross};
 use fab_arch::{Grid, Site, SiteKind, read_arch};
-use fab_net::{BlockId, BlockKind, Design, read_net};
-use fab_site::Placement;
-use std::alloc::Global;
+use fab_net::{BlockId, BlockKind, Design, NetId, read_net};
+use fab_site::{Placement, Swap};
+use std::alloc::{AllocError, Global};
 use std::test::*;
 
 fn site(x: u16, y: u16, sub: u16) -> Site {
@@ -161,5 +165,321 @@ fn a_net_of_500_terminals(rt: HostRuntime) -> Result<(), Fail> {
     }
     let sites = [site(0, 2, 0), site(3, 1, 0)];
     assert_eq!(rt; cost_on(alloc, &arch, &net, 3, 2, &sites)?, Some(728265));
+    Ok(())
+}
+
+// Where a block stands, if there is one of this number.
+fn site_of_block(placement: &Placement, block: BlockId) -> Option<Site>
+    ensures { IfSome result (λ s. slice_get placement.now.sites block.0 ≡ Some s) }
+{
+    if (block.0 as usize) < placement.blocks() {
+        Some(placement.site_of(block))
+    } else {
+        None
+    }
+}
+
+// The swap of a block to another site of the kind where it stands.
+fn swap_to(placement: &Placement, grid: &Grid, block: BlockId, to: Site) -> Option<Swap>
+    requires { placement.now.grid ≡ grid.now }
+    ensures { IfSome result (λ s. IsSwapOf placement.now.grid placement.now.sites s) }
+{
+    let from = site_of_block(placement, block)?;
+    if from == to || grid.has_site(from) != grid.has_site(to) {
+        return None;
+    }
+    let other = placement.at(to);
+    Some(Swap {
+        block,
+        from,
+        to,
+        other,
+    })
+}
+
+// Makes the swap: what it changes, and the cost after it.
+fn made<W: WireCost>(
+    wire: &mut W,
+    design: &Design,
+    grid: &Grid,
+    placement: &Placement,
+    swap: &Swap,
+) -> (i64, u64)
+    requires stands { W.StandsFor wire.old design.now grid.now placement.now.sites }
+    requires lawful { IsSwapOf placement.now.grid placement.now.sites swap.now }
+    ensures stands { W.StandsFor wire.new design.now grid.now (swapped placement.now.sites swap.now) }
+    ensures below { result.1 < 2 ^ 43 }
+{
+    let delta = wire.delta(design, grid, placement, swap);
+    wire.apply(design, grid, placement, swap);
+    (delta, wire.cost())
+}
+
+// The edge counts of the first net, xmin, xmax, ymin and ymax, where there is one that is not global.
+fn first_counts(design: &Design, edges: &EdgeBoxes) -> Option<EdgeCounts>
+    requires { (g : GridShape) × (sites : List ArraySite) × CountedStandsFor edges.now design.now g sites }
+{
+    if design.nets() == 0 {
+        return None;
+    }
+    Some(edges.edge_counts(NetId(0)))
+}
+
+// A cost with the edge counts of the first net, a swap and what it changes.
+#[derive(Clone, Copy, PartialEq, Eq, Debug)]
+struct Row {
+    cost: u64,
+    counts: Option<EdgeCounts>,
+    delta: i64,
+    cost_after: u64,
+    counts_after: Option<EdgeCounts>,
+    cost_of_the_copy: u64,
+}
+
+// What the swap of a block to a site makes of edge counts, and of a copy that is left alone.
+fn swapped_row(
+    design: &Design,
+    grid: &Grid,
+    placement: &Placement,
+    mut edges: EdgeBoxes,
+    swap: &Swap,
+) -> Result<Row, AllocError>
+    requires stands { CountedStandsFor edges design.now grid.now placement.now.sites }
+    requires lawful { IsSwapOf placement.now.grid placement.now.sites swap.now }
+{
+    let copy = edges.copy()?;
+    let cost = WireCost::cost(&edges);
+    let counts = first_counts(design, &edges);
+    let (delta, cost_after) = made(&mut edges, design, grid, placement, swap);
+    Ok(Row {
+        cost,
+        counts,
+        delta,
+        cost_after,
+        counts_after: first_counts(design, &edges),
+        cost_of_the_copy: WireCost::cost(&copy),
+    })
+}
+
+fn row_on(
+    alloc: Global,
+    design: &Design,
+    grid: &Grid,
+    sites: &[Site],
+    block: BlockId,
+    to: Site,
+) -> Result<Option<Row>, AllocError>
+    requires { IsLegal design.now grid.now [] sites.now }
+{
+    let placement = Placement::of_sites(alloc, design, grid, sites)?;
+    let edges = EdgeBoxes::new(alloc, design, grid, &placement)?;
+    match swap_to(&placement, grid, block, to) {
+        None => Ok(None),
+        Some(swap) => Ok(Some(swapped_row(design, grid, &placement, edges, &swap)?)),
+    }
+}
+
+// The row of these blocks on an array of `side` by `side`, or `None` where there is no such placement or swap.
+fn row_of(
+    alloc: Global,
+    arch: &[u8],
+    net: &[u8],
+    side: u16,
+    sites: &[Site],
+    block: BlockId,
+    to: Site,
+) -> Result<Option<Row>, Fail> {
+    let arch = read_arch(alloc, arch)?;
+    let design = read_net(alloc, net, &arch)?;
+    let grid = Grid::new(side, side, arch.io_rat)?;
+    if !is_legal(&design, &grid, sites) {
+        return Ok(None);
+    }
+    Ok(row_on(alloc, &design, &grid, sites, block, to)?)
+}
+
+fn counts(xmin: u32, xmax: u32, ymin: u32, ymax: u32) -> Option<EdgeCounts> {
+    Some(EdgeCounts {
+        xmin,
+        xmax,
+        ymin,
+        ymax,
+    })
+}
+
+#[test]
+fn two_pins_of_a_block_count_twice(rt: HostRuntime) -> Result<(), Fail> {
+    let arch = b"io_rat 1\ninpin class: 0 left\ninpin class: 0 left\noutpin class: 1 right\n";
+    let net = b".clb b1\npinlist: open open n\n.clb b2\npinlist: n n open\n";
+    let sites = [site(1, 1, 0), site(2, 2, 0)];
+    let found = row_of(rt.alloc(), arch, net, 2, &sites, BlockId(0), site(2, 2, 0))?;
+    assert_eq!(rt;
+        found,
+        Some(Row {
+            cost: 40000,
+            counts: counts(1, 2, 1, 2),
+            delta: 0,
+            cost_after: 40000,
+            counts_after: counts(2, 1, 2, 1),
+            cost_of_the_copy: 40000,
+        })
+    );
+    Ok(())
+}
+
+#[test]
+fn a_box_shrinks_where_its_last_terminal_leaves(rt: HostRuntime) -> Result<(), Fail> {
+    let arch = b"io_rat 1\ninpin class: 0 left\noutpin class: 1 right\n";
+    let net = b".clb b1\npinlist: open n\n.clb b2\npinlist: n open\n.clb b3\npinlist: n open\n";
+    let sites = [site(1, 1, 0), site(2, 2, 0), site(3, 3, 0)];
+    let found = row_of(rt.alloc(), arch, net, 3, &sites, BlockId(0), site(2, 1, 0))?;
+    assert_eq!(rt;
+        found,
+        Some(Row {
+            cost: 60000,
+            counts: counts(1, 1, 1, 1),
+            delta: -10000,
+            cost_after: 50000,
+            counts_after: counts(2, 1, 1, 1),
+            cost_of_the_copy: 60000,
+        })
+    );
+    Ok(())
+}
+
+// Makes the swap with both kinds: whether both agree with the whole sums before and after it.
+fn agree(
+    alloc: Global,
+    boxes: &mut Boxes,
+    edges: &mut EdgeBoxes,
+    design: &Design,
+    grid: &Grid,
+    placement: &mut Placement,
+    swap: &Swap,
+) -> Result<bool, AllocError>
+    requires boxes { StandsFor boxes.old design.now grid.now placement.old.sites }
+    requires edges { CountedStandsFor edges.old design.now grid.now placement.old.sites }
+    requires grid { placement.old.grid ≡ grid.now }
+    requires lawful { IsSwapOf placement.old.grid placement.old.sites swap.now }
+    ensures boxes { StandsFor boxes.new design.now grid.now placement.new.sites }
+    ensures edges { CountedStandsFor edges.new design.now grid.now placement.new.sites }
+    ensures grid { placement.new.grid ≡ grid.now }
+{
+    let before = WireCost::cost(&*edges);
+    let first = made(boxes, design, grid, &*placement, swap);
+    let second = made(edges, design, grid, &*placement, swap);
+    placement.apply(swap);
+    let after = Boxes::new(alloc, design, grid, &*placement)?.cost();
+    Ok(first == second && second == (after as i64 - before as i64, after))
+}
+
+// The next numbers of a linear congruential generator (Knuth's constants).
+fn next(state: u64) -> u64 {
+    state
+        .wrapping_mul(6364136223846793005)
+        .wrapping_add(1442695040888963407)
+}
+
+// A number below `count` from the upper bits.
+fn drawn(state: u64, count: u16) -> u16
+    requires { 0 < count }
+{
+    ((state >> 33) % u64::from(count)) as u16
+}
+
+// Makes so many swaps of blocks and sites that are drawn: whether both kinds agree with the whole sums at each.
+fn agree_at_each(
+    alloc: Global,
+    boxes: &mut Boxes,
+    edges: &mut EdgeBoxes,
+    design: &Design,
+    grid: &Grid,
+    placement: &mut Placement,
+    wanted: u32,
+) -> Result<bool, AllocError>
+    requires boxes { StandsFor boxes.old design.now grid.now placement.old.sites }
+    requires edges { CountedStandsFor edges.old design.now grid.now placement.old.sites }
+    requires grid { placement.old.grid ≡ grid.now }
+{
+    let mut left = wanted;
+    let mut state = 1;
+    'draws: for _ in 0..u64::MAX {
+        if left == 0 {
+            return Ok(true);
+        }
+        let first = next(state);
+        let second = next(first);
+        let third = next(second);
+        state = next(third);
+        let block = BlockId(u32::from(drawn(first, 10)));
+        let to = site(drawn(second, 6), drawn(third, 6), drawn(state, 2));
+        if let Some(swap) = swap_to(&*placement, grid, block, to) {
+            if !agree(alloc, boxes, edges, design, grid, placement, &swap)? {
+                return Ok(false);
+            }
+            left -= 1;
+        }
+    }
+    Ok(false)
+}
+
+fn both_agree(
+    alloc: Global,
+    design: &Design,
+    grid: &Grid,
+    sites: &[Site],
+    wanted: u32,
+) -> Result<bool, AllocError>
+    requires { IsLegal design.now grid.now [] sites.now }
+{
+    let mut placement = Placement::of_sites(alloc, design, grid, sites)?;
+    let mut boxes = Boxes::new(alloc, design, grid, &placement)?;
+    let mut edges = EdgeBoxes::new(alloc, design, grid, &placement)?;
+    agree_at_each(
+        alloc,
+        &mut boxes,
+        &mut edges,
+        design,
+        grid,
+        &mut placement,
+        wanted,
+    )
+}
+
+// Nets of both blocks of a swap, of two and three pins of a block, of one terminal, of pads, and a global one.
+const TEN_BLOCKS: &[u8] = b".global clk\n.input ck\npinlist: clk\n.input a\npinlist: m\n\
+    .output z\npinlist: n\n.clb b1\npinlist: m clk m n\n.clb b2\npinlist: n n m p\n\
+    .clb b3\npinlist: p m open q\n.clb b4\npinlist: q p n r\n.clb b5\npinlist: m m m s\n\
+    .clb b6\npinlist: open open open t\n.clb b7\npinlist: r s q open\n";
+
+// Whether both kinds agree over so many swaps, or `None` where the blocks have no legal sites.
+fn agree_over(alloc: Global, wanted: u32) -> Result<Option<bool>, Fail> {
+    let arch = read_arch(
+        alloc,
+        b"io_rat 2\ninpin class: 0 left\ninpin class: 0 left\ninpin class: 0 top\noutpin class: 1 right\n",
+    )?;
+    let design = read_net(alloc, TEN_BLOCKS, &arch)?;
+    let grid = Grid::new(4, 4, arch.io_rat)?;
+    let sites = [
+        site(0, 1, 0),
+        site(0, 1, 1),
+        site(5, 4, 0),
+        site(1, 1, 0),
+        site(2, 2, 0),
+        site(3, 3, 0),
+        site(4, 4, 0),
+        site(1, 4, 0),
+        site(4, 1, 0),
+        site(2, 3, 0),
+    ];
+    if !is_legal(&design, &grid, &sites) {
+        return Ok(None);
+    }
+    Ok(Some(both_agree(alloc, &design, &grid, &sites, wanted)?))
+}
+
+#[test]
+fn both_kinds_agree_with_whole_sums(rt: HostRuntime) -> Result<(), Fail> {
+    assert_eq!(rt; agree_over(rt.alloc(), 10000)?, Some(true));
     Ok(())
 }

@@ -3,13 +3,15 @@
 ghost use Rattle.std.specs.Prelude.{◌≡◌, ℕ, ◌<◌, ◌≤◌, ◌+◌, ◌^◌, ◌||◌, List, length, map, take, Some};
 ghost use Rattle.std.specs.List.{sum_by, All};
 ghost use Rattle.fab_arch.specs.declared.array.Site.{Site};
+ghost use Rattle.fab_net.specs.declared.pieces.BlockId.{BlockId as Block};
 ghost use Rattle.fab_net.specs.Netlist.{block_on, nets_of, has_number};
 ghost use Rattle.fab_site.specs.Placement.{site_of, swapped, IsSwapOf};
 ghost use Rattle.fab_cost.specs.Boxes.{Counts, box_at, box_of};
 ghost use Rattle.fab_cost.specs.Cost.{cost_of, net_box};
 ghost use Rattle.fab_cost.specs.Swapping.{HavePlain, PlainRenewed, blocks_of, cost_unless, has_block};
 
-use crate::edge_boxes::{Tally, count_of_nets, is_on, net_of};
+use crate::block_nets::{count_of_nets, is_on, net_of};
+use crate::edge_boxes::Tally;
 use crate::net_box::NetBox;
 use crate::net_boxes::cost_of_net;
 use fab_arch::Grid;
@@ -51,6 +53,7 @@ fn tally_of_net(
 ) -> Tally
     requires have { HavePlain (map box_of boxes.now.items) design.now grid.now placement.now.sites }
     requires net { Counts design.now net.0 }
+    requires left_out { (b : Block) → but ≡ Some b → b.0 < length design.now.kinds }
     requires lawful { IsSwapOf placement.now.grid placement.now.sites swap.now }
     requires whole { length design.now.kinds ≡ length placement.now.sites }
     ensures gained { result.gained ≡ cost_unless design.now grid.now (swapped placement.now.sites swap.now) but net.0 }
@@ -80,6 +83,7 @@ fn tally_of(
 ) -> Tally
     requires have { HavePlain (map box_of boxes.now.items) design.now grid.now placement.now.sites }
     requires block { block.0 < length design.now.kinds }
+    requires left_out { (b : Block) → but ≡ Some b → b.0 < length design.now.kinds }
     requires lawful { IsSwapOf placement.now.grid placement.now.sites swap.now }
     requires whole { length design.now.kinds ≡ length placement.now.sites }
     ensures gained { result.gained ≡ sum_by (cost_unless design.now grid.now (swapped placement.now.sites swap.now) but) (nets_of design.now block.0) }
@@ -100,7 +104,7 @@ fn tally_of(
     Tally { gained, lost }
 }
 
-#[tactic(auto, using(crate::proofs::Sited::block_below, crate::proofs::Split::balance_none, crate::proofs::Split::balance_some, crate::proofs::Nets::sum_low, crate::proofs::Nets::cost_low))]
+#[tactic(auto, using(crate::proofs::Sited::block_below, crate::proofs::Split::balance_none, crate::proofs::Split::balance_some, crate::proofs::Nets::sum_low, crate::proofs::Nets::cost_low, crate::proofs::Sited::none_within, crate::proofs::Sited::some_within))]
 /// What the nets of the swap's blocks cost, each net once.
 pub(crate) fn whole_tally(
     boxes: &Vec<NetBox>,
@@ -156,6 +160,7 @@ fn renew_net(
     requires left { PlainRenewed (map box_of boxes.old.items) design.now grid.now placement.now.sites (swapped placement.now.sites swap.now) (λ n. has_block but (blocks_of design.now n) || has_number n (take i (nets_of design.now block.0))) }
     requires block { block.0 < length design.now.kinds }
     requires within { i < length (nets_of design.now block.0) }
+    requires left_out { (b : Block) → but ≡ Some b → b.0 < length design.now.kinds }
     requires lawful { IsSwapOf placement.now.grid placement.now.sites swap.now }
     requires whole { length design.now.kinds ≡ length placement.now.sites }
     ensures { PlainRenewed (map box_of boxes.new.items) design.now grid.now placement.now.sites (swapped placement.now.sites swap.now) (λ n. has_block but (blocks_of design.now n) || has_number n (take (i + 1) (nets_of design.now block.0))) }
@@ -180,6 +185,7 @@ fn renew_nets(
 )
     requires left { PlainRenewed (map box_of boxes.old.items) design.now grid.now placement.now.sites (swapped placement.now.sites swap.now) (λ n. has_block but (blocks_of design.now n)) }
     requires block { block.0 < length design.now.kinds }
+    requires left_out { (b : Block) → but ≡ Some b → b.0 < length design.now.kinds }
     requires lawful { IsSwapOf placement.now.grid placement.now.sites swap.now }
     requires whole { length design.now.kinds ≡ length placement.now.sites }
     ensures { PlainRenewed (map box_of boxes.new.items) design.now grid.now placement.now.sites (swapped placement.now.sites swap.now) (λ n. has_block but (blocks_of design.now n) || has_number block.0 (blocks_of design.now n)) }
@@ -190,7 +196,7 @@ fn renew_nets(
     }
 }
 
-#[tactic(auto, using(crate::proofs::Sited::block_below, crate::proofs::PlainRenewals::untouched, crate::proofs::PlainRenewals::first_done))]
+#[tactic(auto, using(crate::proofs::Sited::block_below, crate::proofs::PlainRenewals::untouched, crate::proofs::PlainRenewals::first_done, crate::proofs::Sited::none_within, crate::proofs::Sited::some_within))]
 /// Renews the boxes of the nets of the swap's blocks.
 pub(crate) fn renew(
     boxes: &mut Vec<NetBox>,

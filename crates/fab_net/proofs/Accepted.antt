@@ -1,22 +1,19 @@
 -- What has a meaning has no fault, and one meaning; and lines without a fault have one.
-use Rattle.std.proofs.Common.{◌≡◌, ℕ, ◌+◌, ◌<◌, ◌≤◌, Bool, true, false, cond, eqb, ◌&&◌, List, [], ◌∷◌, ◌++◌, Option, Some, None, Result, Ok, Err, length, map, get_or, drop, suc, zero, refl, sym, ap, ◌∙◌, append_assoc, inl, inr, arith}
-use Rattle.std.proofs.lemmas.List.{append-nil, drop_more, drop_all, length-map, get_or-map}
-use Rattle.std.proofs.lemmas.List.Elements.{All-get_or}
+use Rattle.std.proofs.Common.{◌≡◌, ℕ, ◌+◌, ◌<◌, ◌≤◌, Bool, true, false, cond, eqb, ◌&&◌, List, [], ◌∷◌, ◌++◌, Option, Some, None, length, get_or, drop, suc, zero, refl, sym, ap, ◌∙◌, append_assoc, inl, inr, arith}
+use Rattle.std.proofs.lemmas.List.{append-nil, drop_more, drop_all, length-map}
 use Rattle.std.proofs.lemmas.List.Sums.{sum_by-cons, length-filter}
 use Rattle.std.proofs.lemmas.Bool.{eqb-true, eq-eqb, cases_Bool}
-use Rattle.std.specs.Prelude.{count_by, filter, IfOk, OnOk}
-use Rattle.std.specs.List.{All, AllByRecursion}
+use Rattle.std.specs.Prelude.{count_by, filter}
+use Rattle.std.specs.List.{AllByRecursion}
 use Rattle.fab_text.specs.Lines.{TextLine}
 use Rattle.fab_text.specs.FirstFault.{or_else, fault_behind}
 use Rattle.fab_text.specs.declared.pieces.Span.{Span}
 use Rattle.fab_arch.specs.declared.architecture.PinKind.{PinKind}
-use Rattle.fab_net.specs.declared.pieces.Terminal.{Terminal}
 use Rattle.fab_net.specs.declared.fault.NetFault.{NetFault}
 use Rattle.fab_net.specs.declared.fault.NetFault.TheVariants.{UnknownWord, NoName, PinlistWithoutBlock, MissingPinlist, PinCount, SubblockWithoutLogic, DuplicateBlock, NoDriver, TwoDrivers, TooLarge, NoMemory}
-use Rattle.fab_net.specs.Netlist.{Netlist, IsLawful, net_at, block_on, terminal_count}
-use Rattle.fab_net.specs.Text.{PinOf, net_names, is_driver, is_on, terminal_of, terminals_of, is_global_in, sections, pins_in, name_in, kind_in, netlist_of, global_names, IsNetlist, HasOneDriver}
+use Rattle.fab_net.specs.Netlist.{Netlist}
+use Rattle.fab_net.specs.Text.{PinOf, net_names, is_driver, is_on, terminal_of, terminals_of, sections, pins_in, netlist_of, global_names, IsNetlist, HasOneDriver}
 use Rattle.fab_net.specs.Faults.{awaiting, missing_fault, driver_fault, net_fault, first_span, fault_of, text_fault, first_fault, FaultIs}
-use Rattle.fab_net.specs.Said.{Said, said, netlist_said, end_fault}
 use Rattle.fab_net.proofs.Underway.{Underway, at_start, on, back, all_whole, all_fine}
 
 pub one_is_none : (pins : List PinOf) (name : List ℕ) → count_by (is_driver name) pins ≡ 1 → net_fault pins name ≡ None

@@ -11,3 +11,4 @@ pub mod Accepted
 pub mod Entries
 pub mod Ready
 pub mod OnBlock
+pub mod PinCounts

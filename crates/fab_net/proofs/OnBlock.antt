@@ -1,13 +1,13 @@
 -- The nets of a block, as the rows give them and as the definition says.
-use Rattle.std.proofs.Common.{◌≡◌, ℕ, ◌+◌, ◌<◌, ◌≤◌, Bool, true, false, not, cond, eqb, ◌&&◌, ◌||◌, List, [], ◌∷◌, length, map, get_or, zero, suc, refl, sym, ap, ◌∙◌, arith, inl, inr}
+use Rattle.std.proofs.Common.{◌≡◌, ℕ, ◌+◌, ◌<◌, Bool, true, false, not, cond, eqb, ◌&&◌, ◌||◌, List, [], ◌∷◌, length, map, get_or, zero, suc, refl, sym, ap, ◌∙◌, arith, inl, inr}
 use Rattle.std.proofs.lemmas.Bool.{cases_Bool}
 use Rattle.std.proofs.lemmas.Bool.Decides.{nat_tests}
-use Rattle.std.specs.Prelude.{filter, slice_index_or}
+use Rattle.std.proofs.lemmas.List.Sums.{sum_by-cons}
+use Rattle.std.specs.Prelude.{filter, count_by, slice_index_or}
 use Rattle.std.specs.List.{list_any, range_with_len}
-use Rattle.fab_net.specs.declared.pieces.NetId.{NetId}
 use Rattle.fab_net.specs.declared.pieces.Terminal.{Terminal}
-use Rattle.fab_net.specs.BlockNets.{is_at, touches, net_id, nets_on}
-use Rattle.fab_net.specs.Netlist.{Netlist, block_on, net_at, counted, has_number, nets_of}
+use Rattle.fab_net.specs.BlockNets.{is_at, touches, net_id, nets_on, pins_at, pins_of, pins_on}
+use Rattle.fab_net.specs.Netlist.{Netlist, block_on, net_at, has_number, nets_of, pin_count}
 
 either_way : (a b : ℕ) → eqb a b ≡ eqb b a
 either_way a b = grind (arith, nat_tests)
@@ -41,8 +41,28 @@ alike d b told i lt =
     let g = within_default d.globals i (omega arith) in
     ap (λ x. not x && has_number b (net_at d i).blocks) g ∙ ap (λ x. not (get_or d.globals i false) && x) (on_block b (slice_index_or d.terminals i []))
 
+touched_is : (d : Netlist) (b : ℕ) → length d.globals ≡ length d.terminals → filter (touches d.terminals d.globals b) (range_with_len 0 (length d.terminals)) ≡ nets_of d b
+touched_is d b told =
+    sym (filter_twice (λ n. has_number b (net_at d n).blocks) (λ n. not (net_at d n).global) (range_with_len 0 (length d.terminals))
+    ∙ filter_alike (λ n. not (net_at d n).global && has_number b (net_at d n).blocks) (touches d.terminals d.globals b) 0 (length d.terminals) (alike d b told))
+
 -- the rows' nets of a block are the definition's
 pub nets_on_is : (d : Netlist) (b : ℕ) → length d.globals ≡ length d.terminals → nets_on d.terminals d.globals b ≡ map net_id (nets_of d b)
-nets_on_is d b told =
-    ap (map net_id) (sym (filter_twice (λ n. has_number b (net_at d n).blocks) (λ n. not (net_at d n).global) (range_with_len 0 (length d.terminals))
-    ∙ filter_alike (λ n. not (net_at d n).global && has_number b (net_at d n).blocks) (touches d.terminals d.globals b) 0 (length d.terminals) (alike d b told)))
+nets_on_is d b told = ap (map net_id) (touched_is d b told)
+
+pins_of_row : (b : ℕ) (row : List Terminal) → pins_at b row ≡ count_by (λ c. eqb c b) (map block_on row)
+pins_of_row b [] = refl
+pins_of_row b (t ∷ ts) =
+    sum_by-cons (λ (x : Terminal). cond (is_at b x) 1 0) t ts
+    ∙ ap (λ n. cond (is_at b t) 1 0 + n) (pins_of_row b ts)
+    ∙ sym (sum_by-cons (λ c. cond (eqb c b) 1 0) (block_on t) (map block_on ts))
+
+map_alike : (f g : ℕ → ℕ) → ((n : ℕ) → f n ≡ g n) → (ns : List ℕ) → map f ns ≡ map g ns
+map_alike f g same [] = refl
+map_alike f g same (n ∷ ns) = let e = same n in let rest = map_alike f g same ns in λ i. e i ∷ rest i
+
+-- the rows' counts of a block are the definition's
+pub pins_on_is : (d : Netlist) (b : ℕ) → length d.globals ≡ length d.terminals → pins_on d.terminals d.globals b ≡ map (pin_count d b) (nets_of d b)
+pins_on_is d b told =
+    ap (map (pins_of d.terminals b)) (touched_is d b told)
+    ∙ map_alike (pins_of d.terminals b) (pin_count d b) (λ n. pins_of_row b (slice_index_or d.terminals n [])) (nets_of d b)

@@ -1,19 +1,16 @@
 -- The sections of a text, one line on.
-use Rattle.std.proofs.Common.{◌≡◌, ℕ, ◌+◌, ◌-◌, ◌<◌, ◌≤◌, Bool, true, false, cond, eqb, List, [], ◌∷◌, ◌++◌, Option, Some, None, length, map, refl, sym, ap, ◌∙◌, arith, append_assoc, suc}
-use Rattle.std.proofs.lemmas.List.{append-nil, length-map, map_push, flat_map_more}
+use Rattle.std.proofs.Common.{◌≡◌, ℕ, ◌+◌, ◌-◌, ◌<◌, true, false, List, [], ◌∷◌, ◌++◌, Some, length, map, refl, sym, ap, ◌∙◌, arith, append_assoc, suc}
+use Rattle.std.proofs.lemmas.List.{append-nil, flat_map_more}
 use Rattle.std.proofs.lemmas.List.Elements.{filter-append}
-use Rattle.std.specs.Prelude.{filter, is_some, slice_get}
-use Rattle.std.specs.List.{flat_map}
+use Rattle.std.specs.Prelude.{filter}
 use Rattle.std.specs.Option.{option_map}
 use Rattle.fab_text.specs.Lines.{TextLine}
-use Rattle.fab_text.specs.FirstFault.{or_else, unless}
-use Rattle.fab_text.specs.declared.pieces.Span.{Span}
 use Rattle.fab_arch.specs.declared.architecture.PinKind.{PinKind}
 use Rattle.fab_net.specs.declared.pieces.BlockKind.{BlockKind}
 use Rattle.fab_net.specs.declared.pieces.Head.{Head}
 use Rattle.fab_net.specs.declared.pieces.Head.TheVariants as head
-use Rattle.fab_net.specs.Text.{Section, PinOf, head_of, ahead, ahead_by, sections, sections_by, is_pinlist, is_pinlist_head, entries_in, pins_at, pins_of_lines, pins_from, kind_in, name_in, globals_in, global_names}
-use Rattle.fab_net.specs.Faults.{open_section, without_pinlist, open_kind, is_logic_open}
+use Rattle.fab_net.specs.Text.{Section, head_of, ahead, ahead_by, sections, sections_by, is_pinlist, entries_in, pins_at, pins_of_lines, pins_from, kind_in, name_in, globals_in, global_names}
+use Rattle.fab_net.specs.Faults.{open_section, open_kind, is_logic_open}
 use Rattle.fab_net.specs.Said.{last_kind, kind_or_pad, is_logic_last}
 
 -- a line that opens no block

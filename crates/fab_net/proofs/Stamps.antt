@@ -33,7 +33,7 @@ any_push p (x ∷ xs) y = ap (λ b. p x || b) (any_push p xs y) ∙ or_assoc (p 
     or_assoc true b c = refl
     or_assoc false b c = refl
 
-one_more : (row : List Terminal) (j b : ℕ) (t : Terminal) → j < length row → t ≡ get_or row j t → list_any (is_at b) (take (j + 1) row) ≡ (list_any (is_at b) (take j row) || eqb t.block.0 b)
+pub one_more : (row : List Terminal) (j b : ℕ) (t : Terminal) → j < length row → t ≡ get_or row j t → list_any (is_at b) (take (j + 1) row) ≡ (list_any (is_at b) (take j row) || eqb t.block.0 b)
 one_more row j b t lt is = ap (list_any (is_at b)) (take_more row j t lt ∙ ap (λ x. take j row ++ x ∷ []) (sym is)) ∙ any_push (is_at b) (take j row) t
 
 pub started : (blocks net : ℕ) (on_net : List Terminal) (before : List (ℕ × NetId)) (stamps : List ℕ) → length stamps ≡ blocks → All (λ s. s ≤ net) stamps → All (λ e. e.0 < blocks) before → Stamping blocks net on_net 0 before before stamps
@@ -47,10 +47,10 @@ started blocks net on_net before stamps size old within =
       rows = λ b lt. sym (append-nil (row_of before b));
     }
 
-true_or : (a c : Bool) → a ≡ true → (a || c) ≡ true
+pub true_or : (a c : Bool) → a ≡ true → (a || c) ≡ true
 true_or a c h = rw h refl
 
-or_false : (a c : Bool) → c ≡ false → (a || c) ≡ a
+pub or_false : (a c : Bool) → c ≡ false → (a || c) ≡ a
 or_false true c h = refl
 or_false false c h = h
 
@@ -76,7 +76,7 @@ passed blocks net row j before entries stamps t lt is k met s =
       | inr h ↦ one_more row j b t lt is ∙ or_false (list_any (is_at b) (take j row)) (eqb t.block.0 b) h
     ]
 
-row_push : (entries : List (ℕ × NetId)) (k b : ℕ) (x : NetId) → row_of (entries ++ (k, x) ∷ []) b ≡ row_of entries b ++ cond (eqb k b) (x ∷ []) []
+pub row_push : {T : Type 0} (entries : List (ℕ × T)) (k b : ℕ) (x : T) → row_of (entries ++ (k, x) ∷ []) b ≡ row_of entries b ++ cond (eqb k b) (x ∷ []) []
 row_push entries k b x = ap (map item_of) (filter-append (of_row b) entries ((k, x) ∷ [])) ∙ map-append item_of (filter (of_row b) entries) (filter (of_row b) ((k, x) ∷ [])) ∙ ap (λ xs. row_of entries b ++ xs) (if_item (eqb k b))
   where
     if_item : (c : Bool) → map item_of (cond c ((k, x) ∷ []) []) ≡ cond c (x ∷ []) []
@@ -126,13 +126,13 @@ pub record Filled (blocks : ℕ) (terminals : List (List Terminal)) (globals : L
 pub upto_more : (n : ℕ) (stamps : List ℕ) → All (λ s. s ≤ n) stamps → All (λ s. s ≤ n + 1) stamps
 upto_more n stamps h = All-weaker (λ s. s ≤ n) (λ s. s ≤ n + 1) (λ s k. omega arith) stamps h
 
-range_more : (p : ℕ → Bool) (n : ℕ) → map net_id (filter p (range_with_len 0 (n + 1))) ≡ map net_id (filter p (range_with_len 0 n)) ++ cond (p n) (net_id n ∷ []) []
-range_more p n = ap (λ xs. map net_id (filter p xs)) (sym (map-id (range_with_len 0 (n + 1))) ∙ map-range_with_len_more (λ x. x) 0 n n (omega arith) ∙ ap (λ xs. xs ++ n ∷ []) (map-id (range_with_len 0 n)))
-    ∙ ap (map net_id) (filter-append p (range_with_len 0 n) (n ∷ [])) ∙ map-append net_id (filter p (range_with_len 0 n)) (filter p (n ∷ [])) ∙ ap (λ xs. map net_id (filter p (range_with_len 0 n)) ++ xs) (if_id (p n))
+pub range_more : {T : Type 0} (f : ℕ → T) (p : ℕ → Bool) (n : ℕ) → map f (filter p (range_with_len 0 (n + 1))) ≡ map f (filter p (range_with_len 0 n)) ++ cond (p n) (f n ∷ []) []
+range_more f p n = ap (λ xs. map f (filter p xs)) (sym (map-id (range_with_len 0 (n + 1))) ∙ map-range_with_len_more (λ x. x) 0 n n (omega arith) ∙ ap (λ xs. xs ++ n ∷ []) (map-id (range_with_len 0 n)))
+    ∙ ap (map f) (filter-append p (range_with_len 0 n) (n ∷ [])) ∙ map-append f (filter p (range_with_len 0 n)) (filter p (n ∷ [])) ∙ ap (λ xs. map f (filter p (range_with_len 0 n)) ++ xs) (if_one (p n))
   where
-    if_id : (c : Bool) → map net_id (cond c (n ∷ []) []) ≡ cond c (net_id n ∷ []) []
-    if_id true = refl
-    if_id false = refl
+    if_one : (c : Bool) → map f (cond c (n ∷ []) []) ≡ cond c (f n ∷ []) []
+    if_one true = refl
+    if_one false = refl
 
 -- a global net
 pub skipped : (blocks : ℕ) (terminals : List (List Terminal)) (globals : List Bool) (n : ℕ) (entries : List (ℕ × NetId)) (stamps : List ℕ) → n < length terminals → get_or globals n false ≡ true
@@ -144,7 +144,7 @@ skipped blocks terminals globals n entries stamps lt g f =
       within = f.within;
       few = omega (arith, f.few, sum_by_more length terminals n [] lt);
       rows = λ b bl. let no_touch : touches terminals globals b n ≡ false = rw g refl in
-          f.rows b bl ∙ sym (range_more (touches terminals globals b) n ∙ ap (λ c. map net_id (filter (touches terminals globals b) (range_with_len 0 n)) ++ cond c (net_id n ∷ []) []) no_touch ∙ append-nil _);
+          f.rows b bl ∙ sym (range_more net_id (touches terminals globals b) n ∙ ap (λ c. map net_id (filter (touches terminals globals b) (range_with_len 0 n)) ++ cond c (net_id n ∷ []) []) no_touch ∙ append-nil _);
     }
 
 -- another net
@@ -160,7 +160,7 @@ filled blocks terminals globals n entries new stamps after lt g size upto within
       few = omega (arith, f.few, few, sum_by_more length terminals n [] lt);
       rows = λ b bl. let touch : touches terminals globals b n ≡ list_any (is_at b) (get_or terminals n []) = rw g refl in
           rows b bl ∙ ap (λ xs. xs ++ net_where n (get_or terminals n []) b) (f.rows b bl)
-          ∙ sym (range_more (touches terminals globals b) n ∙ ap (λ c. map net_id (filter (touches terminals globals b) (range_with_len 0 n)) ++ cond c (net_id n ∷ []) []) touch);
+          ∙ sym (range_more net_id (touches terminals globals b) n ∙ ap (λ c. map net_id (filter (touches terminals globals b) (range_with_len 0 n)) ++ cond c (net_id n ∷ []) []) touch);
     }
 
 -- once all nets stand on their blocks

@@ -1,23 +1,22 @@
 -- What lines say, one line on.
-use Rattle.std.proofs.Common.{◌≡◌, ℕ, ◌+◌, ◌-◌, ◌<◌, ◌≤◌, Bool, true, false, cond, eqb, List, [], ◌∷◌, ◌++◌, Option, Some, None, length, map, refl, sym, ap, ◌∙◌, arith, inl, inr}
+use Rattle.std.proofs.Common.{◌≡◌, ℕ, ◌+◌, ◌-◌, ◌<◌, ◌≤◌, Bool, true, false, cond, eqb, List, [], ◌∷◌, ◌++◌, Option, None, length, map, refl, ap, ◌∙◌, arith}
 use Rattle.std.proofs.lemmas.List.{append-nil, length-map, map_push, length-append}
 use Rattle.std.proofs.lemmas.List.Elements.{All-nil, All-cons, All-append}
-use Rattle.std.proofs.lemmas.Bool.{cases_Bool, false≢true}
+use Rattle.std.proofs.lemmas.Bool.{false≢true}
 use Rattle.std.proofs.lemmas.Bool.Decides.{nat_tests}
 use Rattle.std.specs.Prelude.{filter, is_some}
 use Rattle.std.specs.List.{All}
 use Rattle.fab_text.specs.Lines.{TextLine}
 use Rattle.fab_text.specs.FirstFault.{or_else, unless}
-use Rattle.fab_text.specs.declared.pieces.Span.{Span}
 use Rattle.fab_arch.specs.declared.architecture.PinKind.{PinKind}
 use Rattle.fab_net.specs.declared.pieces.BlockKind.{BlockKind}
 use Rattle.fab_net.specs.declared.pieces.Head.{Head}
 use Rattle.fab_net.specs.declared.pieces.Head.TheVariants as head
 use Rattle.fab_net.specs.declared.fault.NetFault.{NetFault}
-use Rattle.fab_net.specs.Text.{Entry, Section, PinOf, head_of, sections, is_pinlist, is_open, drives_at, entries_in, pins_at, pins_of_lines, pins_from, kind_in, name_in, globals_by, global_names, span_of_name}
+use Rattle.fab_net.specs.Text.{Entry, Section, PinOf, head_of, sections, is_pinlist, is_open, drives_at, entries_in, pins_at, pins_of_lines, pins_from, kind_in, name_in, globals_by, global_names}
 use Rattle.fab_net.specs.Faults.{open_section, without_pinlist, awaiting, fault_by, fault_of}
 use Rattle.fab_net.specs.Said.{Said, said, said_fault, said_fault_by, opened, with_pins, after, after_by}
-use Rattle.fab_net.proofs.Sections.{IsInner, begun, grow, grown_by, sections_inner, sections_opens, grow_kinds, grow_names, open_grow, open_push, one_more_pinlist, no_more_pinlist, pins_keep, pins_grow, pins_push, globals_push, open_kind_is, is_logic_is}
+use Rattle.fab_net.proofs.Sections.{IsInner, begun, grow, sections_inner, sections_opens, grow_kinds, grow_names, open_push, one_more_pinlist, no_more_pinlist, pins_keep, pins_grow, pins_push, globals_push, open_kind_is, is_logic_is}
 
 -- a line's fault is told by what the lines before it said
 

@@ -1,8 +1,7 @@
 -- Lines that are lawful so far: one more line keeps them so exactly where it has no fault.
-use Rattle.std.proofs.Common.{◌≡◌, ℕ, ◌+◌, ◌-◌, ◌<◌, ◌≤◌, Bool, true, false, cond, eqb, ltb, leb, not, ◌||◌, ◌&&◌, List, [], ◌∷◌, ◌++◌, Option, Some, None, ◌⊎◌, length, map, refl, sym, ap, ◌∙◌, arith, append_assoc, inl, inr}
-use Rattle.std.proofs.lemmas.List.{append-nil, length-map, length-append, map_push, map-append}
+use Rattle.std.proofs.Common.{◌≡◌, ℕ, ◌+◌, ◌-◌, ◌<◌, ◌≤◌, Bool, true, false, cond, eqb, ltb, leb, not, ◌||◌, List, [], ◌∷◌, ◌++◌, Option, Some, None, ◌⊎◌, length, map, refl, sym, ap, ◌∙◌, arith, append_assoc, inl, inr}
+use Rattle.std.proofs.lemmas.List.{append-nil, length-append, map_push, map-append}
 use Rattle.std.proofs.lemmas.Bool.{cases_Bool, false≢true, and_parts, and_from, leb-true, le-leb, ltb-true, lt-ltb, eqb-true, eq-eqb}
-use Rattle.std.proofs.lemmas.Bool.Decides.{nat_tests}
 use Rattle.std.specs.Prelude.{filter, is_some}
 use Rattle.std.specs.List.{AllByRecursion, list_any}
 use Rattle.std.specs.Str.{bytes_eq}
@@ -15,14 +14,13 @@ use Rattle.fab_net.specs.declared.pieces.BlockKind.TheVariants.{InputPad, Output
 use Rattle.fab_net.specs.declared.pieces.Head.{Head}
 use Rattle.fab_net.specs.declared.pieces.Head.TheVariants as head
 use Rattle.fab_net.specs.declared.fault.NetFault.{NetFault}
-use Rattle.fab_net.specs.declared.fault.NetFault.TheVariants.{UnknownWord, NoName, PinlistWithoutBlock, PinCount, SubblockWithoutLogic, DuplicateBlock, TooLarge, MissingPinlist}
-use Rattle.fab_net.specs.Names.{AllDistinct, number_of, with_name, first_names}
+use Rattle.fab_net.specs.Names.{AllDistinct, number_of, first_names}
 use Rattle.fab_net.specs.Netlist.{is_logic}
 use Rattle.fab_net.specs.Text.{Section, PinOf, head_of, ahead, sections, is_pinlist, entries_in, pins_at, pins_from, pins_in, net_names, net_of_pin, name_at, name_in, span_of_name, pin_count, IsLineAhead, IsBodyLine, IsSection}
 use Rattle.fab_net.specs.Faults.{open_section, without_pinlist, awaiting, missing_fault, open_kind, is_logic_open, pins_added, are_few, fault_by, fault_of}
 use Rattle.fab_net.proofs.Naming.{has_number, other_way, first_names_push}
 use Rattle.fab_net.proofs.Sections.{IsInner, begun, grow, grown_by, late, ahead_inner, ahead_opens, sections_inner, sections_opens, grow_names, grow_len, one_more_pinlist, no_more_pinlist, pins_keep, pins_grow, pins_push}
-use Rattle.fab_net.proofs.Texts.{unless_true, one_more_is_some}
+use Rattle.fab_net.proofs.Texts.{unless_true}
 
 -- one more element, and one less
 

@@ -1,5 +1,5 @@
--- The nets of blocks.
-use Rattle.std.specs.Prelude.{ℕ, ◌==◌, Bool, false, not, ◌&&◌, List, [], ◌∷◌, if◌then◌else◌, map, filter, length, slice_index_or}
+-- The nets of blocks, and how many pins of a block are on each.
+use Rattle.std.specs.Prelude.{ℕ, ◌==◌, Bool, false, not, ◌&&◌, List, [], ◌∷◌, if◌then◌else◌, map, filter, count_by, length, slice_index_or}
 use Rattle.std.specs.List.{list_any, range_with_len}
 use Rattle.fab_net.specs.declared.pieces.NetId.{NetId}
 use Rattle.fab_net.specs.declared.pieces.Terminal.{Terminal}
@@ -24,3 +24,22 @@ block_nets blocks terminals globals = map (nets_on terminals globals) (range_wit
 -- a net, where one of these terminals is on a block
 abbrev pub net_where : ℕ → List Terminal → ℕ → List NetId
 net_where net row b = if list_any (is_at b) row then net_id net ∷ [] else []
+
+-- how many of some terminals are on a block
+abbrev pub pins_at : ℕ → List Terminal → ℕ
+pins_at b row = count_by (is_at b) row
+
+-- how many pins of a block a net has
+abbrev pub pins_of : List (List Terminal) → ℕ → ℕ → ℕ
+pins_of terminals b n = pins_at b (slice_index_or terminals n [])
+
+-- how many pins of a block each of its nets has, net by net
+abbrev pub pins_on : List (List Terminal) → List Bool → ℕ → List ℕ
+pins_on terminals globals b = map (pins_of terminals b) (filter (touches terminals globals b) (range_with_len 0 (length terminals)))
+
+abbrev pub block_pins : ℕ → List (List Terminal) → List Bool → List (List ℕ)
+block_pins blocks terminals globals = map (pins_on terminals globals) (range_with_len 0 blocks)
+
+-- how many of these terminals are on a block, where any is
+abbrev pub pins_where : List Terminal → ℕ → List ℕ
+pins_where row b = if list_any (is_at b) row then pins_at b row ∷ [] else []

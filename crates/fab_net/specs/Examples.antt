@@ -1,6 +1,6 @@
 -- Examples of what netlist texts mean.
-use Rattle.std.specs.Prelude.{ℕ, ◌≡◌, true, false, List, [], ◌∷◌, ◌++◌, Some, None, refl, codes}
-use Rattle.fab_text.specs.Lines.{TextLine, lines, lines_from, trimmed, content, is_continued, without_backslash, words_of}
+use Rattle.std.specs.Prelude.{ℕ, ◌≡◌, true, false, List, [], ◌∷◌, Some, None, refl, codes}
+use Rattle.fab_text.specs.Lines.{lines, lines_from, trimmed, content, is_continued, without_backslash, words_of}
 use Rattle.fab_arch.specs.declared.architecture.PinKind.{PinKind}
 use Rattle.fab_arch.specs.declared.architecture.PinKind.TheVariants.{Reads, Drives}
 use Rattle.fab_net.specs.declared.pieces.BlockKind.TheVariants.{InputPad, OutputPad, Logic}

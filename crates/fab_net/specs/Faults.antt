@@ -1,5 +1,5 @@
 -- The first fault of a netlist text.
-use Rattle.std.specs.Prelude.{ℕ, ◌-◌, ◌≡◌, ◌==◌, Bool, true, false, not, ◌&&◌, nat_lt, nat_le, List, [], ◌∷◌, ◌++◌, if◌then◌else◌, is_some, length, map, filter, count_by, slice_get, Option, Some, None}
+use Rattle.std.specs.Prelude.{ℕ, ◌-◌, ◌≡◌, ◌==◌, Bool, false, not, ◌&&◌, nat_lt, nat_le, List, [], ◌∷◌, ◌++◌, if◌then◌else◌, is_some, length, map, filter, count_by, Option, Some, None}
 use Rattle.std.specs.Str.{bytes_eq}
 use Rattle.fab_text.specs.Lines.{TextLine}
 use Rattle.fab_text.specs.FirstFault.{or_else, unless, fault_of_all}
@@ -13,7 +13,7 @@ use Rattle.fab_net.specs.declared.fault.NetFault.{NetFault}
 use Rattle.fab_net.specs.declared.fault.NetFault.TheVariants.{UnknownWord, NoName, PinlistWithoutBlock, MissingPinlist, PinCount, SubblockWithoutLogic, DuplicateBlock, NoDriver, TwoDrivers, TooLarge, NoMemory}
 use Rattle.fab_net.specs.Names.{number_of}
 use Rattle.fab_net.specs.Netlist.{Netlist, is_logic}
-use Rattle.fab_net.specs.Text.{Section, PinOf, head_of, sections, is_pinlist, entries_in, pins_at, pins_in, net_names, is_driver, name_at, name_in, kind_in, span_of_name, no_span, pin_count, IsNetlist}
+use Rattle.fab_net.specs.Text.{Section, PinOf, head_of, sections, is_pinlist, entries_in, pins_at, pins_in, net_names, is_driver, name_at, name_in, span_of_name, no_span, pin_count, IsNetlist}
 
 -- the last section, whose block is open for a pinlist or a subblock
 abbrev pub open_section : List Section → Option Section

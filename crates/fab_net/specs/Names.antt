@@ -1,5 +1,5 @@
 -- Names, and the numbers that their first appearance gives them (VPR manual).
-use Rattle.std.specs.Prelude.{ℕ, ◌≡◌, Bool, false, not, List, [], ◌∷◌, ◌++◌, if◌then◌else◌, is_some, Option, Some, None, filter, position, codes, refl}
+use Rattle.std.specs.Prelude.{ℕ, ◌≡◌, Bool, false, not, List, [], ◌∷◌, ◌++◌, if◌then◌else◌, is_some, Option, Some, filter, position, codes, refl}
 use Rattle.std.specs.List.{list_any}
 use Rattle.std.specs.Str.{bytes_eq}
 

@@ -1,6 +1,6 @@
 -- A netlist, as contracts see a design (VPR manual): blocks by number, and nets by
 -- number with a terminal for each pin on them.
-use Rattle.std.specs.Prelude.{ℕ, ◌≡◌, ◌≤◌, ◌<◌, ◌+◌, Bool, true, false, not, ◌==◌, List, [], ◌∷◌, map, filter, count_by, length, slice_index_or, codes, refl}
+use Rattle.std.specs.Prelude.{ℕ, ◌≡◌, ◌≤◌, ◌<◌, Bool, true, false, not, ◌==◌, List, [], ◌∷◌, map, filter, count_by, length, slice_index_or, codes, refl}
 use Rattle.std.specs.List.{range_with_len, list_any, sum_by}
 use Rattle.fab_text.specs.LineWords.{AreWords}
 use Rattle.fab_net.specs.declared.pieces.BlockKind.{BlockKind}
@@ -37,6 +37,10 @@ has_number n xs = list_any (λ x. n == x) xs
 -- the nets that count and have a terminal on the block, ascending
 abbrev pub nets_of : Netlist → ℕ → List ℕ
 nets_of d b = filter (λ n. has_number b (net_at d n).blocks) (counted d)
+
+-- how many pins of a block are on a net
+abbrev pub pin_count : Netlist → ℕ → ℕ → ℕ
+pin_count d b n = count_by (λ c. c == b) (net_at d n).blocks
 
 abbrev pub is_logic : BlockKind → Bool
 is_logic InputPad = false
@@ -92,3 +96,6 @@ a_block_of_a_global_net_alone = refl
 
 pub a_repeated_block_is_two_terminals : (net_at three_blocks 1).blocks ≡ 1 ∷ 1 ∷ 2 ∷ []
 a_repeated_block_is_two_terminals = refl
+
+pub both_pins_of_a_block_count : pin_count three_blocks 1 1 ≡ 2
+both_pins_of_a_block_count = refl

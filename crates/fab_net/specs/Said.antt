@@ -14,7 +14,7 @@ use Rattle.fab_net.specs.declared.fault.NetFault.{NetFault}
 use Rattle.fab_net.specs.declared.fault.NetFault.TheVariants.{UnknownWord, NoName, PinlistWithoutBlock, PinCount, SubblockWithoutLogic, DuplicateBlock, TooLarge}
 use Rattle.fab_net.specs.Names.{number_of, AllDistinct}
 use Rattle.fab_net.specs.Netlist.{Netlist, is_logic}
-use Rattle.fab_net.specs.Text.{Section, PinOf, head_of, sections, entries_in, pins_at, pins_from, net_names, terminals_of, is_global_in, global_names, name_at, name_in, kind_in, span_of_name, pin_count}
+use Rattle.fab_net.specs.Text.{PinOf, head_of, sections, entries_in, pins_at, pins_from, net_names, terminals_of, is_global_in, global_names, name_at, name_in, kind_in, span_of_name, pin_count}
 use Rattle.fab_net.specs.Faults.{awaiting, missing_fault, are_few, driver_fault}
 
 pub record Said : Type 0 where

@@ -1,6 +1,6 @@
 -- What a netlist text means (VPR manual). Behind the lines ahead of the first block its lines fall into sections: a
 -- line that opens a block, and the lines after it up to the next such line.
-use Rattle.std.specs.Prelude.{ℕ, ◌+◌, ◌-◌, ◌≡◌, ◌≤◌, ◌<◌, ◌==◌, Bool, true, false, ◌&&◌, List, [], ◌∷◌, ◌++◌, if◌then◌else◌, length, map, filter, count_by, drop, slice_get, slice_index_or, codes, Option, Some, None}
+use Rattle.std.specs.Prelude.{ℕ, ◌+◌, ◌≡◌, ◌≤◌, ◌<◌, Bool, true, false, ◌&&◌, List, [], ◌∷◌, ◌++◌, if◌then◌else◌, length, map, filter, count_by, drop, slice_get, slice_index_or, codes, Option, Some, None}
 use Rattle.std.specs.List.{list_any, AllByRecursion, flat_map}
 use Rattle.std.specs.Str.{bytes_eq}
 use Rattle.fab_text.specs.Lines.{TextLine}

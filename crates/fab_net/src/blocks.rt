@@ -1,9 +1,9 @@
-//! The nets of blocks.
+//! The nets of blocks, and how many pins of a block are on each.
 
 ghost use Rattle.std.specs.Prelude.{◌≡◌, ℕ, ◌+◌, ◌++◌, ◌-◌, ◌^◌, ◌<◌, ◌≤◌, [], length, IfOk, OnOk, slice_index_or};
 ghost use Rattle.std.specs.List.{All, sum_by};
 ghost use Rattle.fab_net.specs.Rows.{row_of};
-ghost use Rattle.fab_net.specs.BlockNets.{block_nets, net_where};
+ghost use Rattle.fab_net.specs.BlockNets.{block_nets, block_pins, net_where, pins_at, pins_where};
 
 use crate::pieces::{NetId, Terminal};
 use crate::rows::{Rows, gather};
@@ -57,4 +57,65 @@ pub fn gather_nets(
         }
     }
     gather(alloc, blocks, &entries, NetId(0))
+}
+
+/// Counts the terminals on each block, where nothing was counted before.
+fn count_pins(counts: &mut [u32], row: &[Terminal])
+    requires few { length row.now < 2 ^ 32 }
+    requires blocks { All (λ t. t.block.0 < length counts.old) row.now }
+    requires none { (b : ℕ) → b < length counts.old → slice_index_or counts.old b 0 ≡ 0 }
+    ensures { (b : ℕ) → b < length counts.old → slice_index_or counts.new b 0 ≡ pins_at b row.now }
+{
+    for t in row {
+        counts[t.block.0 as usize] += 1;
+    }
+}
+
+/// Adds what was counted to each block that has any, and counts nothing from then on.
+fn push_counts(
+    entries: &mut Vec<(u32, u32)>,
+    counts: &mut [u32],
+    row: &[Terminal],
+) -> Result<(), AllocError>
+    requires blocks { All (λ t. t.block.0 < length counts.old) row.now }
+    requires counted { (b : ℕ) → b < length counts.old → slice_index_or counts.old b 0 ≡ pins_at b row.now }
+    requires within { All (λ e. e.0 < length counts.old) entries.old.items }
+    ensures none { OnOk result ((b : ℕ) → b < length counts.old → slice_index_or counts.new b 0 ≡ 0) }
+    ensures within { OnOk result (All (λ e. e.0 < length counts.old) entries.new.items) }
+    ensures few { OnOk result (length entries.new.items ≤ length entries.old.items + length row.now) }
+    ensures rows { OnOk result ((b : ℕ) → b < length counts.old → row_of entries.new.items b ≡ row_of entries.old.items b ++ pins_where row.now b) }
+{
+    for t in row {
+        let block = t.block.0;
+        let count = counts[block as usize];
+        if count != 0 {
+            entries.push((block, count))?;
+            counts[block as usize] = 0;
+        }
+    }
+    Ok(())
+}
+
+/// How many pins of a block are on each of its nets, in the order of `gather_nets`.
+pub fn gather_pins(
+    alloc: Global,
+    blocks: usize,
+    terminals: &Rows<Terminal>,
+    globals: &[bool],
+) -> Result<Rows<u32>, AllocError>
+    requires same { length terminals.now ≡ length globals.now }
+    requires few { sum_by length terminals.now < 2 ^ 32 }
+    requires within { (n : ℕ) → n < length terminals.now → All (λ t. t.block.0 < blocks) (slice_index_or terminals.now n []) }
+    ensures { IfOk result (λ r. r ≡ block_pins blocks terminals.now globals.now) }
+{
+    let mut entries = Vec::new(alloc);
+    let mut counts = vec![in alloc; 0u32; blocks]?;
+    for net in 0..globals.len() {
+        if !globals[net] {
+            let row = terminals.row(net);
+            count_pins(&mut counts, row);
+            push_counts(&mut entries, &mut counts, row)?;
+        }
+    }
+    gather(alloc, blocks, &entries, 0)
 }

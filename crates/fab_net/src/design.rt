@@ -13,11 +13,12 @@ pub struct Design {
     terminals: Rows<Terminal>,
     globals: Vec<bool>,
     block_nets: Rows<NetId>,
+    block_pins: Rows<u32>,
 }
 
 impl Model for Design {
     ghost use Rattle.std.specs.Prelude.{◌≡◌, length};
-    ghost use Rattle.fab_net.specs.BlockNets.{block_nets as nets_by_block};
+    ghost use Rattle.fab_net.specs.BlockNets.{block_nets as nets_by_block, block_pins as pins_by_block};
     ghost use Rattle.fab_net.specs.Netlist.{Netlist, IsLawful};
     ghost use Rattle.fab_net.specs.Shown.{netlist};
 
@@ -25,15 +26,15 @@ impl Model for Design {
 
     ghost view = { λ a. netlist a.kinds.items a.names a.terminals a.globals.items };
 
-    ghost invariant = { λ a. (a.block_nets ≡ nets_by_block (length a.kinds.items) a.terminals a.globals.items) × IsLawful (netlist a.kinds.items a.names a.terminals a.globals.items) };
+    ghost invariant = { λ a. ((a.block_nets ≡ nets_by_block (length a.kinds.items) a.terminals a.globals.items) × (a.block_pins ≡ pins_by_block (length a.kinds.items) a.terminals a.globals.items)) × IsLawful (netlist a.kinds.items a.names a.terminals a.globals.items) };
 }
 
 impl Design {
     ghost use Rattle.std.specs.Prelude.{◌≡◌, ◌<◌, ◌≤◌, [], Some, length, map, slice_get, slice_index_or};
     ghost use Rattle.std.specs.Option.{option_map};
-    ghost use Rattle.fab_net.specs.BlockNets.{block_nets as nets_by_block, net_id};
+    ghost use Rattle.fab_net.specs.BlockNets.{block_nets as nets_by_block, block_pins as pins_by_block, net_id};
     ghost use Rattle.fab_net.specs.Names.{number_of};
-    ghost use Rattle.fab_net.specs.Netlist.{IsLawful, net_at, nets_of as nets_on_block, logic_count, pad_count};
+    ghost use Rattle.fab_net.specs.Netlist.{IsLawful, net_at, nets_of as nets_on_block, pin_count, logic_count, pad_count};
     ghost use Rattle.fab_net.specs.Shown.{netlist};
 
     /// A design of its parts. Callers read designs by `read_net`.
@@ -43,8 +44,10 @@ impl Design {
         terminals: Rows<Terminal>,
         globals: Vec<bool>,
         block_nets: Rows<NetId>,
+        block_pins: Rows<u32>,
     ) -> Self
         requires nets { block_nets ≡ nets_by_block (length kinds.items) terminals globals.items }
+        requires pins { block_pins ≡ pins_by_block (length kinds.items) terminals globals.items }
         requires lawful { IsLawful (netlist kinds.items names terminals globals.items) }
         ensures { result ≡ netlist kinds.items names terminals globals.items }
     {
@@ -54,6 +57,7 @@ impl Design {
             terminals,
             globals,
             block_nets,
+            block_pins,
         }
     }
 
@@ -141,5 +145,13 @@ impl Design {
         ensures { result.now ≡ map net_id (nets_on_block self.now block.0) }
     {
         self.block_nets.row(block.0 as usize)
+    }
+
+    /// How many pins of the block are on each of the nets of `nets_of`, in the same order.
+    pub fn pins_of(&self, block: BlockId) -> &[u32]
+        requires { block.0 < length self.now.kinds }
+        ensures { result.now ≡ map (pin_count self.now block.0) (nets_on_block self.now block.0) }
+    {
+        self.block_pins.row(block.0 as usize)
     }
 }

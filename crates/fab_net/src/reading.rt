@@ -11,7 +11,7 @@ ghost use Rattle.fab_net.specs.Faults.{are_few, driver_fault, first_fault, Means
 ghost use Rattle.fab_net.specs.Said.{last_kind, kind_or_pad, pins_more, opens_fault, pins_fault, said_fault, end_fault, said, netlist_said, opened, with_pins, with_globals, after, IsReady};
 ghost use Rattle.fab_net.specs.declared.fault.NetFault.TheVariants.{NoMemory};
 
-use crate::blocks::gather_nets;
+use crate::blocks::{gather_nets, gather_pins};
 use crate::design::Design;
 use crate::fault::NetFault;
 use crate::names::BlockNames;
@@ -386,7 +386,8 @@ fn finish(alloc: Global, seen: Seen) -> Result<Design, NetFault>
     let terminals = pins.terminals(alloc)?;
     let marks = pins.marks(alloc, &globals)?;
     let nets = gather_nets(alloc, kinds.len(), &terminals, &marks)?;
-    Ok(Design::new(kinds, names, terminals, marks, nets))
+    let counts = gather_pins(alloc, kinds.len(), &terminals, &marks)?;
+    Ok(Design::new(kinds, names, terminals, marks, nets, counts))
 }
 
 /// The design that a netlist text means, over an architecture, or the text's first fault: that of the first line

@@ -1,6 +1,5 @@
-use Rattle.std.proofs.Common.{◌≡◌, ◌<◌, length, sym, ap, ◌∙◌, arith}
+use Rattle.std.proofs.Common.{length, ap, ◌∙◌, arith}
 use Rattle.std.proofs.lemmas.List.{length-map}
-use Rattle.std.specs.List.{All}
 use Rattle.fab_net.specs.Text.{is_global_in, net_names, terminals_of}
 use Rattle.fab_net.specs.Said.{netlist_said}
 use Rattle.fab_net.proofs.Naming.{nets_le, terminals_blocks}
@@ -30,6 +29,16 @@ gather_nets-requires-clause-within c n lt k d kl =
     let all = terminals_blocks pins (length c.seen.inside.kinds.items) names ready.within n (omega (arith, t, lt)) in
     let all' = rw (← c.in_ok-terminals.ensures.found) at all in
     omega (arith, all' k d kl, c.len.ensures, c.seen.inside.kinds.ok.0)
+
+pub gather_pins-requires-clause-within : goal.gather_pins-requires-clause-within
+gather_pins-requires-clause-within c n lt k d kl =
+    let pins = c.seen.inside.pins in
+    let names = net_names pins in
+    let t = ap length c.in_ok-terminals.ensures.found ∙ length-map names (terminals_of pins) in
+    let ready = rw (← c.seen.view_is) at c.requires in
+    let all = terminals_blocks pins (length c.seen.inside.kinds.items) names ready.within n (omega (arith, t, lt)) in
+    let all' = rw (← c.in_ok-terminals.ensures.found) at all in
+    omega (arith, all' k d kl, c.len-2.ensures, c.seen.inside.kinds.ok.0)
 
 pub new-requires-clause-lawful : goal.new-requires-clause-lawful
 new-requires-clause-lawful c =

@@ -13,3 +13,8 @@ returns-clause-only c d g sites k =
     let same = c.in_ok-design.ensures.only d g sites k in
     let cost : cost_of c.in_ok-design.design c.in_ok-design.grid c.in_ok-design.placement.sites ≡ cost_of d g sites = rw (same.0, same.1, same.2) refl in
     c.in_ok-report.ensures.value ∙ cost
+
+pub returns-in_err-report-clause-only : goal.returns-in_err-report-clause-only
+returns-in_err-report-clause-only c d g sites k =
+    let p = err_from_is_err_and c.from_residual-in_err-report.result c.from_residual-in_err-report.ensures.1 in
+    rw p.1 p.2

@@ -1,4 +1,4 @@
-use Rattle.std.proofs.Common.{◌≡◌, sym, ◌∙◌}
+use Rattle.std.proofs.Common.{sym, ◌∙◌}
 use Rattle.fab_net.proofs.Numbers.{number-map}
 use Rattle.fab_net.proofs.names.BlockNames.number_of.Goals as goal
 

@@ -1,5 +1,3 @@
-use Rattle.std.proofs.Common.{sym, ◌∙◌}
-use Rattle.fab_net.specs.Names.{number_of}
 use Rattle.fab_net.proofs.Numbers.{new_key}
 use Rattle.fab_net.proofs.names.BlockNames.push.Goals as goal
 

@@ -1,5 +1,3 @@
-use Rattle.std.proofs.Common.{Some, map, sym, ap, ◌∙◌}
-use Rattle.fab_net.specs.Names.{number_of, with_name}
 use Rattle.fab_net.proofs.Numbers.{number_of_key, with_key}
 use Rattle.fab_net.proofs.names.NetNames.intern.Goals as goal
 
