@@ -1,0 +1,4 @@
+pub mod Stream
+pub mod Accept
+pub mod Propose
+pub mod Sides
