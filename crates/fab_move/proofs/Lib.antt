@@ -1,2 +1,4 @@
 pub mod Ranges
 pub mod Nearby
+pub mod Targets
+pub mod Choices

@@ -2,3 +2,4 @@ pub mod Stream
 pub mod Accept
 pub mod Propose
 pub mod Sides
+pub mod Chosen

@@ -8,5 +8,5 @@ pub mod stream_words;
 mod windows;
 
 pub use acceptance::accepts;
-pub use proposals::Proposal;
+pub use proposals::{Proposal, propose};
 pub use stream_words::StreamWords;

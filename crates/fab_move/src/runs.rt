@@ -11,6 +11,7 @@ pub(crate) struct Run {
 }
 
 /// The pad positions near one, side by side in perimeter order.
+#[derive(Clone, Copy)]
 pub(crate) struct Window {
     pub(crate) nx: u16,
     pub(crate) ny: u16,
