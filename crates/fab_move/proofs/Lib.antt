@@ -2,3 +2,4 @@ pub mod Ranges
 pub mod Nearby
 pub mod Targets
 pub mod Choices
+pub mod Judgements

@@ -3,3 +3,4 @@ pub mod Accept
 pub mod Propose
 pub mod Sides
 pub mod Chosen
+pub mod Judge
