@@ -1,0 +1,72 @@
+-- Examples of temperatures, factors and ranges.
+use Rattle.std.specs.Prelude.{ℕ, ◌≡◌, Option, Some, None, refl}
+use Rattle.fab_sched.specs.declared.schedules.Cooling.TheVariants.{Factor, Adaptive}
+use Rattle.fab_sched.specs.Annealing.{Plan, plan_of, next_range, adaptive_factor, next_heat, heat_at}
+
+abbrev halving : Plan
+halving = plan_of 100000 10000 (Factor 500) 3
+
+pub the_first : heat_at halving 0 ≡ Some 100000
+the_first = refl
+
+pub half_of_it : heat_at halving 1 ≡ Some 50000
+half_of_it = refl
+
+pub a_quarter : heat_at halving 2 ≡ Some 25000
+a_quarter = refl
+
+pub an_eighth : heat_at halving 3 ≡ Some 12500
+an_eighth = refl
+
+pub then_frozen : heat_at halving 4 ≡ Some 0
+then_frozen = refl
+
+pub then_nothing : heat_at halving 5 ≡ None
+then_nothing = refl
+
+abbrev ten_moves : Plan
+ten_moves = plan_of 100000 10000 (Factor 500) 10
+
+pub none_accepted : next_range ten_moves 3 3000 0 ≡ 1680
+unfolding next_range
+none_accepted = refl
+
+pub all_accepted : next_range ten_moves 3 3000 10 ≡ 3000
+unfolding next_range
+all_accepted = refl
+
+pub never_below_one : next_range ten_moves 3 1680 0 ≡ 1000
+unfolding next_range
+never_below_one = refl
+
+pub nearly_all : adaptive_factor 100 1000 97 ≡ 500
+unfolding adaptive_factor
+nearly_all = refl
+
+pub not_quite : adaptive_factor 100 1000 96 ≡ 900
+unfolding adaptive_factor
+not_quite = refl
+
+pub most : adaptive_factor 100 1000 81 ≡ 900
+unfolding adaptive_factor
+most = refl
+
+pub a_good_share : adaptive_factor 100 1000 80 ≡ 950
+unfolding adaptive_factor
+a_good_share = refl
+
+pub some : adaptive_factor 100 1000 16 ≡ 950
+unfolding adaptive_factor
+some = refl
+
+pub few : adaptive_factor 100 1000 15 ≡ 800
+unfolding adaptive_factor
+few = refl
+
+pub few_over_a_wide_range : adaptive_factor 100 1001 15 ≡ 950
+unfolding adaptive_factor
+few_over_a_wide_range = refl
+
+pub by_acceptance : next_heat (plan_of 100000 10000 Adaptive 3) 1000 0 (Some 100000) ≡ Some 80000
+unfolding adaptive_factor
+by_acceptance = refl
