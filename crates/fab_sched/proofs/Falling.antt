@@ -5,8 +5,9 @@ use Rattle.std.proofs.lemmas.Nat.{mul-le}
 use Rattle.std.proofs.lemmas.Bool.{cases_lt, cases_eq, lt-ltb, eq-eqb, ne_eqb}
 use Rattle.std.proofs.lemmas.Bool.Decides.{nat_tests}
 use Rattle.fab_sched.specs.declared.schedules.Cooling.{Cooling}
+use Rattle.fab_sched.specs.declared.schedules.Stage.{Stage}
 use Rattle.fab_sched.specs.declared.schedules.Cooling.TheVariants.{Factor, Adaptive}
-use Rattle.fab_sched.specs.Annealing.{Plan, IsLawful, IsCooling, IsLastBy, IsLastIndex, IsStage, MayCoolTo, MayStand, MayStandBy, cooled, factor_after, factor_by, fresh, heat_by, hot}
+use Rattle.fab_sched.specs.Annealing.{Plan, GoesOnColder, IsLawful, IsCooling, IsLastBy, IsLastIndex, IsStage, MayCoolTo, MayStand, MayStandBy, adaptive_factor, cooled, factor_after, factor_by, first_stage, fresh, heat_by, hot, next_range}
 
 -- a factor below one
 pub cooler : (t f : ℕ) → 0 < t → f ≤ 999 → t * f / 1000 < t
@@ -151,3 +152,36 @@ last_of p f n by h = rw by h
 
 pub fresh_is : (p : Plan) (side x t range : ℕ) → MayStand p x t → (1000 ≤ range) × (range ≤ 1000 * side) → IsStage p side (fresh x t range)
 fresh_is p side x t range h within = record { stands = h; range = within; accepted = omega arith; done = omega arith; frozen = refl }
+
+-- every run
+first_stands : (c : Cooling) (p : Plan) → MayStandBy c p 0 (hot p p.init)
+first_stands (Factor f) p = refl
+first_stands Adaptive p = refl
+
+pub first_is : (p : Plan) (side : ℕ) → IsLawful p → 1 ≤ side → IsStage p side (first_stage p side)
+first_is p side l some = fresh_is p side 0 (hot p p.init) (1000 * side) (first_stands p.cooling p) (omega arith, omega arith)
+
+range_within : (p : Plan) (side range accepted : ℕ) → 1 ≤ side → (1000 ≤ next_range p side range accepted) × (next_range p side range accepted ≤ 1000 * side)
+unfolding next_range
+range_within p side range accepted some = (omega arith, omega arith)
+
+factor_small : (c : Cooling) (moves range accepted : ℕ) → IsCooling c → factor_by c moves range accepted ≤ 999
+unfolding adaptive_factor
+factor_small (Factor f) moves range accepted is = is.1
+factor_small Adaptive moves range accepted is = grind (arith, nat_tests)
+
+pub goes_on : (p : Plan) (side : ℕ) (s : Stage) (accepted : ℕ) → IsLawful p → 1 ≤ side → IsStage p side s → GoesOnColder p side s accepted
+goes_on p side s accepted l some is =
+    let f = factor_after p s.range accepted in
+    elim (cases_eq s.t 0) [
+      | inl z ↦ rw (cooled_out p f s.t z) tt
+      | inr ne ↦ (
+          let warm : 0 < s.t = omega arith in
+          let small = factor_small p.cooling p.moves s.range accepted l.cooling in
+          let next = stands_on p s.index s.t s.range accepted f (hot p (s.t * f / 1000)) refl small warm refl is.stands in
+          rw (cooled_on p f s.t warm) (fresh_is p side (s.index + 1) (hot p (s.t * f / 1000)) (next_range p side s.range accepted) next (range_within p side s.range accepted some), omega (arith, hot_le p (s.t * f / 1000), cooler s.t f warm small))
+          )
+    ]
+
+pub few_moves : (p : Plan) (x t : ℕ) → IsLawful p → MayStand p x t → (x + 1) * p.moves < 2 ^ 61
+few_moves p x t l h = moves_bound x p.moves (index_below p x t l h) l.moves.1

@@ -3,7 +3,7 @@
 -- Rose and Marquardt). All are whole numbers, rounded down: temperatures in ten-thousandths, factors and ranges in
 -- thousandths (our own). A temperature below the exit one is not run: in its place comes one last stage at 0, which is
 -- frozen.
-use Rattle.std.specs.Prelude.{ℕ, ◌≡◌, ◌+◌, ◌-◌, ◌*◌, ◌/◌, ◌<◌, ◌≤◌, ◌⊎◌, zero, suc, min, max, Bool, true, if◌then◌else◌, nat_lt, nat_le, ◌==◌, ◌&&◌, Option, Some, None}
+use Rattle.std.specs.Prelude.{ℕ, ◌≡◌, ◌+◌, ◌-◌, ◌*◌, ◌/◌, ◌<◌, ◌≤◌, ◌⊎◌, zero, suc, min, max, Bool, true, if◌then◌else◌, nat_lt, nat_le, ◌==◌, ◌&&◌, Option, Some, None, IfSome}
 use Rattle.fab_sched.specs.declared.fault.SchedFault.{SchedFault}
 use Rattle.fab_sched.specs.declared.fault.SchedFault.TheVariants.{InitOutOfRange, ExitOutOfRange, AlphaOutOfRange, MovesOutOfRange}
 use Rattle.fab_sched.specs.declared.schedules.Cooling.{Cooling}
@@ -140,3 +140,7 @@ pub record IsStage (p : Plan) (side : ℕ) (s : Stage) : Type 0 where
   pub accepted : s.accepted ≤ s.done
   pub done : s.done ≤ p.moves
   pub frozen : s.frozen ≡ (s.t == 0)
+
+-- after a lawful stage comes a lawful one that is colder, or none
+abbrev pub GoesOnColder : Plan → ℕ → Stage → ℕ → Type 0
+GoesOnColder p side s accepted = IfSome (stage_after p side s accepted) (λ next. IsStage p side next × (next.t < s.t))

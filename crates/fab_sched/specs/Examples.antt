@@ -1,6 +1,8 @@
--- Examples of temperatures, factors and ranges.
+-- Examples of temperatures, factors, ranges, and the moves of a stage.
 use Rattle.std.specs.Prelude.{ℕ, ◌≡◌, Option, Some, None, refl}
 use Rattle.fab_sched.specs.declared.schedules.Cooling.TheVariants.{Factor, Adaptive}
+use Rattle.std.proofs.Common.{lit<, lit≤}
+use Rattle.fab_sched.specs.Roots.{AreMoves}
 use Rattle.fab_sched.specs.Annealing.{Plan, plan_of, next_range, adaptive_factor, next_heat, heat_at}
 
 abbrev halving : Plan
@@ -70,3 +72,13 @@ few_over_a_wide_range = refl
 pub by_acceptance : next_heat (plan_of 100000 10000 Adaptive 3) 1000 0 (Some 100000) ≡ Some 80000
 unfolding adaptive_factor
 by_acceptance = refl
+
+pub sixteen_moves_for_eight_blocks : AreMoves 1 8 16
+sixteen_moves_for_eight_blocks = record { inner = (lit≤ tt, lit≤ tt); root = record { low = lit≤ tt; high = lit< tt }; limit = lit≤ tt }
+
+-- the cube root of 10 ^ 4 is 21.5
+pub twenty_one_moves_for_ten_blocks : AreMoves 1 10 21
+twenty_one_moves_for_ten_blocks = record { inner = (lit≤ tt, lit≤ tt); root = record { low = lit≤ tt; high = lit< tt }; limit = lit≤ tt }
+
+pub one_move_for_no_block : AreMoves 10 0 1
+one_move_for_no_block = record { inner = (lit≤ tt, lit≤ tt); root = record { low = lit≤ tt; high = lit< tt }; limit = lit≤ tt }

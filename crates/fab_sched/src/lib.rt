@@ -9,4 +9,4 @@ mod tests;
 
 pub use fault::SchedFault;
 pub use move_count::moves_of;
-pub use schedules::{Cooling, Schedule, Stage};
+pub use schedules::{Cooling, Schedule, Stage, stages_are_lawful};

@@ -2,7 +2,8 @@
 
 ghost use Rattle.std.specs.Prelude.{◌≡◌, ℕ, ◌↔◌, ◌+◌, ◌*◌, ◌<◌, ◌≤◌, ◌^◌, None, Some, IsOk, IsTrue, IfOk, IfErr, IfSome};
 ghost use Rattle.fab_sched.specs.declared.schedules.Cooling.TheVariants.{Factor, Adaptive};
-ghost use Rattle.fab_sched.specs.Annealing.{IsCooling, IsLawful, IsLastIndex, IsStage, MayStand, adaptive_factor, factor_after, fault_of, first_stage, fresh, heat_at, heat_by, hot, is_cooling, is_within, next_range, plan_of, stage_after};
+ghost use Rattle.fab_sched.specs.declared.schedules.Stage.{Stage};
+ghost use Rattle.fab_sched.specs.Annealing.{GoesOnColder, IsCooling, IsLawful, IsLastIndex, IsStage, MayStand, Plan, adaptive_factor, factor_after, fault_of, first_stage, fresh, heat_at, heat_by, hot, is_cooling, is_within, next_range, plan_of, stage_after};
 
 use crate::fault::SchedFault;
 use std::marker::Model;
@@ -311,3 +312,10 @@ impl Schedule {
         index
     }
 }
+
+/// The law that every run has lawful stages, each colder than the one before, and fewer than 2^61 moves in all.
+pub fn stages_are_lawful()
+    ensures first { (p : Plan) (side : ℕ) → IsLawful p → 1 ≤ side → IsStage p side (first_stage p side) }
+    ensures next { (p : Plan) (side : ℕ) (s : Stage) (accepted : ℕ) → IsLawful p → 1 ≤ side → IsStage p side s → GoesOnColder p side s accepted }
+    ensures few { (p : Plan) (x t : ℕ) → IsLawful p → MayStand p x t → (x + 1) * p.moves < 2 ^ 61 }
+{}
