@@ -58,8 +58,7 @@ fn fourth_power(n: u32) -> u128
 
 fn cube(n: u64) -> u128
     requires { n ≤ 1073741825 }
-    ensures cube { result ≡ cubed n }
-    ensures below { result < 2 ^ 91 }
+    ensures { result ≡ cubed n }
 {
     let wide = u128::from(n);
     wide * wide * wide
