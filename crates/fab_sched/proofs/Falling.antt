@@ -1,5 +1,5 @@
 -- Temperatures fall from stage to stage, so the stages are few.
-use Rattle.std.proofs.Common.{◌≡◌, ℕ, zero, suc, ◌+◌, ◌-◌, ◌*◌, ◌/◌, ◌<◌, ◌≤◌, ◌^◌, ◌⊎◌, cond, true, false, eqb, ltb, Option, Some, None, refl, sym, ap, ◌∙◌, arith, inl, inr, add-one}
+use Rattle.std.proofs.Common.{◌≡◌, ℕ, zero, suc, ◌+◌, ◌-◌, ◌*◌, ◌/◌, ◌<◌, ◌≤◌, ◌^◌, ◌⊎◌, cond, true, false, eqb, ltb, Option, Some, None, IfSome, refl, sym, ap, ◌∙◌, arith, inl, inr, add-one}
 use Rattle.std.proofs.Math.Nat.{mul-le-mul_left}
 use Rattle.std.proofs.lemmas.Nat.{mul-le}
 use Rattle.std.proofs.lemmas.Bool.{cases_lt, cases_eq, lt-ltb, eq-eqb, ne_eqb}
@@ -7,7 +7,7 @@ use Rattle.std.proofs.lemmas.Bool.Decides.{nat_tests}
 use Rattle.fab_sched.specs.declared.schedules.Cooling.{Cooling}
 use Rattle.fab_sched.specs.declared.schedules.Stage.{Stage}
 use Rattle.fab_sched.specs.declared.schedules.Cooling.TheVariants.{Factor, Adaptive}
-use Rattle.fab_sched.specs.Annealing.{Plan, GoesOnColder, IsLawful, IsCooling, IsLastBy, IsLastIndex, IsStage, MayCoolTo, MayStand, MayStandBy, adaptive_factor, cooled, factor_after, factor_by, first_stage, fresh, heat_by, hot, next_range}
+use Rattle.fab_sched.specs.Annealing.{Plan, GoesOnColder, IsLawful, IsCooling, IsLastBy, IsLastIndex, IsStage, MayCoolTo, MayStand, MayStandBy, adaptive_factor, cooled, factor_after, factor_by, first_stage, fresh, heat_by, hot, next_range, stage_after}
 
 -- a factor below one
 pub cooler : (t f : ℕ) → 0 < t → f ≤ 999 → t * f / 1000 < t
@@ -150,6 +150,9 @@ moves_bound n m a b = let p = mul-le (n + 1) m 1073741825 1073741824 (omega arit
 pub last_of : (p : Plan) (f n : ℕ) → p.cooling ≡ Factor f → heat_by p f n ≡ Some 0 → IsLastIndex p n
 last_of p f n by h = rw by h
 
+pub greatest_of : (p : Plan) (f n : ℕ) → p.cooling ≡ Factor f → heat_by p f n ≡ Some 0 → (x t : ℕ) → MayStand p x t → x ≤ n
+greatest_of p f n by h = λ x t k. greatest p n x t (last_of p f n by h) k
+
 pub fresh_is : (p : Plan) (side x t range : ℕ) → MayStand p x t → (1000 ≤ range) × (range ≤ 1000 * side) → IsStage p side (fresh x t range)
 fresh_is p side x t range h within = record { stands = h; range = within; accepted = omega arith; done = omega arith; frozen = refl }
 
@@ -182,6 +185,20 @@ goes_on p side s accepted l some is =
           rw (cooled_on p f s.t warm) (fresh_is p side (s.index + 1) (hot p (s.t * f / 1000)) (next_range p side s.range accepted) next (range_within p side s.range accepted some), omega (arith, hot_le p (s.t * f / 1000), cooler s.t f warm small))
           )
     ]
+
+lawful_of : (p : Plan) (side t : ℕ) (next : Option Stage) → IfSome next (λ n. IsStage p side n × (n.t < t)) → IfSome next (IsStage p side)
+lawful_of p side t None h = tt
+lawful_of p side t (Some n) h = h.0
+
+colder_of : (p : Plan) (side t : ℕ) (next : Option Stage) → IfSome next (λ n. IsStage p side n × (n.t < t)) → IfSome next (λ n. n.t < t)
+colder_of p side t None h = tt
+colder_of p side t (Some n) h = h.1
+
+pub lawful_on : (p : Plan) (side : ℕ) (s : Stage) (accepted : ℕ) (next : Option Stage) → next ≡ stage_after p side s accepted → IsLawful p → 1 ≤ side → IsStage p side s → IfSome next (IsStage p side)
+lawful_on p side s accepted next e l some is = rw e (lawful_of p side s.t (stage_after p side s accepted) (goes_on p side s accepted l some is))
+
+pub colder_on : (p : Plan) (side : ℕ) (s : Stage) (accepted : ℕ) (next : Option Stage) → next ≡ stage_after p side s accepted → IsLawful p → 1 ≤ side → IsStage p side s → IfSome next (λ n. n.t < s.t)
+colder_on p side s accepted next e l some is = rw e (colder_of p side s.t (stage_after p side s accepted) (goes_on p side s accepted l some is))
 
 pub few_moves : (p : Plan) (x t : ℕ) → IsLawful p → MayStand p x t → (x + 1) * p.moves < 2 ^ 61
 few_moves p x t l h = moves_bound x p.moves (index_below p x t l h) l.moves.1

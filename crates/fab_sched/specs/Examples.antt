@@ -1,9 +1,10 @@
 -- Examples of temperatures, factors, ranges, and the moves of a stage.
-use Rattle.std.specs.Prelude.{ℕ, ◌≡◌, Option, Some, None, refl}
+use Rattle.std.specs.Prelude.{ℕ, ◌≡◌, Option, Some, None, IsTrue, refl}
+use Rattle.fab_sched.specs.declared.fault.SchedFault.TheVariants.{ExitOutOfRange, MovesOutOfRange}
 use Rattle.fab_sched.specs.declared.schedules.Cooling.TheVariants.{Factor, Adaptive}
 use Rattle.std.proofs.Common.{lit<, lit≤}
 use Rattle.fab_sched.specs.Roots.{AreMoves}
-use Rattle.fab_sched.specs.Annealing.{Plan, plan_of, next_range, adaptive_factor, next_heat, heat_at}
+use Rattle.fab_sched.specs.Annealing.{Plan, plan_of, fault_of, fresh, next_range, adaptive_factor, next_heat, heat_at, stage_after}
 
 abbrev halving : Plan
 halving = plan_of 100000 10000 (Factor 500) 3
@@ -82,3 +83,19 @@ twenty_one_moves_for_ten_blocks = record { inner = (lit≤ tt, lit≤ tt); root 
 
 pub one_move_for_no_block : AreMoves 10 0 1
 one_move_for_no_block = record { inner = (lit≤ tt, lit≤ tt); root = record { low = lit≤ tt; high = lit< tt }; limit = lit≤ tt }
+
+pub after_a_hot_stage : stage_after ten_moves 3 (fresh 3 12500 1000) 5 ≡ Some (fresh 4 0 1060)
+unfolding next_range
+after_a_hot_stage = refl
+
+pub that_one_is_frozen : IsTrue (fresh 4 0 1060).frozen
+that_one_is_frozen = tt
+
+pub after_the_frozen_stage : stage_after ten_moves 3 (fresh 4 0 1060) 2 ≡ None
+after_the_frozen_stage = refl
+
+pub the_exit_temperature_comes_before_the_factor : fault_of (plan_of 1 0 (Factor 1000) 0) ≡ Some ExitOutOfRange
+the_exit_temperature_comes_before_the_factor = refl
+
+pub no_factor_to_be_wrong : fault_of (plan_of 1 1 Adaptive 0) ≡ Some MovesOutOfRange
+no_factor_to_be_wrong = refl

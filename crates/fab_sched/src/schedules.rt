@@ -199,7 +199,7 @@ impl Schedule {
         }
     }
 
-    #[tactic(auto, using(crate::proofs::Falling::greatest, crate::proofs::Falling::reached, crate::proofs::Falling::moves_bound))]
+    #[tactic(auto, using(crate::proofs::Falling::last_of, crate::proofs::Falling::greatest, crate::proofs::Falling::greatest_of, crate::proofs::Falling::reached, crate::proofs::Falling::moves_bound))]
     /// The greatest index that a stage can have: the number of hot temperatures, or, where they depend on what is
     /// accepted, how many there can be at most.
     pub fn last_index(&self) -> u64
@@ -229,7 +229,7 @@ impl Schedule {
         fresh_stage(0, self.hot(self.init_t), 1000 * u64::from(side))
     }
 
-    #[tactic(auto, using(crate::proofs::Falling::index_below, crate::proofs::Falling::heat_below, crate::proofs::Falling::product_fits, crate::proofs::Falling::cooler, crate::proofs::Falling::hot_le, crate::proofs::Falling::stands_on))]
+    #[tactic(auto, using(crate::proofs::Falling::lawful_on))]
     /// What comes after a stage that ended with so many accepted moves, on an array whose longer side is `side`:
     /// `None` after the frozen one.
     pub fn next_stage(&self, stage: &Stage, accepted: u64, side: u16) -> Option<Stage>
@@ -241,6 +241,18 @@ impl Schedule {
         ensures falls { IfSome result (λ next. next.t < stage.now.t) }
         ensures ends { (result ≡ None) ↔ IsTrue stage.now.frozen }
     {
+        self.stage_behind(stage, accepted, side)
+    }
+
+    #[tactic(auto, using(crate::proofs::Falling::index_below, crate::proofs::Falling::heat_below, crate::proofs::Falling::product_fits))]
+    fn stage_behind(&self, stage: &Stage, accepted: u64, side: u16) -> Option<Stage>
+        requires side { (1 ≤ side) × (side ≤ 1000) }
+        requires stage { IsStage self.now side stage.now }
+        requires accepted { accepted ≤ self.now.moves }
+        ensures stage { result ≡ stage_after self.now side stage.now accepted }
+        ensures lawful { IsLawful self.now }
+    {
+        let _moves = self.moves;
         if stage.t == 0 {
             return None;
         }
@@ -261,7 +273,6 @@ impl Schedule {
         requires { accepted ≤ self.now.moves }
         ensures factor { result ≡ factor_after self.now range accepted }
         ensures limits { (1 ≤ result) × (result ≤ 999) }
-        ensures lawful { IsLawful self.now }
     {
         match self.cooling {
             Cooling::Factor(factor) => factor,
