@@ -1,5 +1,5 @@
 -- Examples of temperatures, factors, ranges, and the moves of a stage.
-use Rattle.std.specs.Prelude.{ℕ, ◌≡◌, Option, Some, None, IsTrue, refl}
+use Rattle.std.specs.Prelude.{◌≡◌, Some, None, true, refl}
 use Rattle.fab_sched.specs.declared.fault.SchedFault.TheVariants.{ExitOutOfRange, MovesOutOfRange}
 use Rattle.fab_sched.specs.declared.schedules.Cooling.TheVariants.{Factor, Adaptive}
 use Rattle.std.proofs.Common.{lit<, lit≤}
@@ -88,8 +88,8 @@ pub after_a_hot_stage : stage_after ten_moves 3 (fresh 3 12500 1000) 5 ≡ Some 
 unfolding next_range
 after_a_hot_stage = refl
 
-pub that_one_is_frozen : IsTrue (fresh 4 0 1060).frozen
-that_one_is_frozen = tt
+pub that_one_is_frozen : (fresh 4 0 1060).frozen ≡ true
+that_one_is_frozen = refl
 
 pub after_the_frozen_stage : stage_after ten_moves 3 (fresh 4 0 1060) 2 ≡ None
 after_the_frozen_stage = refl

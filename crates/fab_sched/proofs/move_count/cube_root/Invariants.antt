@@ -1,4 +1,4 @@
-use Rattle.std.proofs.Common.{ℕ, ◌-◌, ◌<◌, ◌≤◌}
+use Rattle.std.proofs.Common.{◌-◌, ◌<◌, ◌≤◌}
 use Rattle.fab_sched.specs.Roots.{cube}
 use Rattle.fab_sched.proofs.move_count.cube_root.Given as goal
 
