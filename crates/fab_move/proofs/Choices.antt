@@ -1,14 +1,14 @@
 -- The chosen block is one of the design's, and what is proposed for it is a swap of the placement.
-use Rattle.std.proofs.Common.{◌≡◌, ◌≢◌, ℕ, zero, suc, ◌+◌, ◌<◌, ◌≤◌, Bool, true, false, not, cond, ◌&&◌, ◌==◌, List, [], ◌∷◌, length, get_or, Option, Some, None, slice_get, slice_index_or, refl, sym, ap, subst, ◌∙◌, inl, inr, arith}
+use Rattle.std.proofs.Common.{◌≡◌, ℕ, zero, suc, ◌+◌, ◌<◌, Bool, true, false, cond, List, [], ◌∷◌, length, Option, Some, None, slice_get, refl, sym, ap, subst, ◌∙◌, arith}
 use Rattle.std.specs.List.{filter, range_with_len}
-use Rattle.std.proofs.lemmas.Bool.{and_from, eq-eqb, cases_Bool, false≢true}
+use Rattle.std.proofs.lemmas.Bool.{and_from, eq-eqb, false≢true}
 use Rattle.fab_arch.specs.declared.array.Site.{Site}
 use Rattle.fab_arch.specs.Grid.{GridShape, kind_at}
 use Rattle.fab_net.specs.declared.pieces.BlockId.{BlockId}
 use Rattle.fab_net.specs.Netlist.{Netlist}
 use Rattle.fab_site.specs.declared.pieces.Swap.{Swap}
-use Rattle.fab_site.specs.Free.{is_free, free_below}
-use Rattle.fab_site.specs.Placement.{Fits, IsLegal, IsSwapOf, same_site, site_of, at, nowhere}
+use Rattle.fab_site.specs.Free.{is_free}
+use Rattle.fab_site.specs.Placement.{IsSwapOf, same_site, site_of, at}
 use Rattle.fab_move.specs.declared.proposals.Proposal.{Proposal}
 use Rattle.fab_move.specs.declared.proposals.Proposal.TheVariants.{Nothing, Void, Move}
 use Rattle.fab_move.specs.Propose.{is_fixed, movable, propose_held, propose_to, propose_for, proposal, target}
@@ -84,3 +84,6 @@ pub stands_at : (sites : List Site) (b : ℕ) → b < length sites → slice_get
 stands_at [] b h = absurd (omega arith)
 stands_at (s ∷ sites) zero h = refl
 stands_at (s ∷ sites) (suc b) h = stands_at sites b (omega arith)
+
+pub same_swap : (s t : Swap) → Some s ≡ Some t → s ≡ t
+same_swap s t q = cc

@@ -1,5 +1,5 @@
 -- What a judgement comes to, by what is proposed.
-use Rattle.std.proofs.Common.{◌≡◌, ℕ, ℤ, pos, Bool, false, List, [], ◌∷◌, ◌++◌, map, Option, Some, None, refl, sym, ap, ◌∙◌}
+use Rattle.std.proofs.Common.{◌≡◌, ℕ, ℤ, pos, Bool, false, List, [], ◌∷◌, ◌++◌, map, Some, None, refl, sym, ap, ◌∙◌}
 use Rattle.std.specs.Prelude.{slice_index}
 use Rattle.fab_arch.specs.declared.array.Site.{Site}
 use Rattle.fab_net.specs.declared.pieces.BlockId.{BlockId}
@@ -13,7 +13,7 @@ use Rattle.fab_move.specs.declared.marks.Mark.TheVariants.{Block, Net}
 use Rattle.fab_move.specs.declared.proposals.Proposal.{Proposal}
 use Rattle.fab_move.specs.declared.proposals.Proposal.TheVariants.{Nothing, Void, Move}
 use Rattle.fab_move.specs.Accept.{is_accepted}
-use Rattle.fab_move.specs.Judge.{Problem, Judged, judged_as, judged, footprint, block_marks}
+use Rattle.fab_move.specs.Judge.{Problem, judged_as, judged, footprint, block_marks}
 use Rattle.fab_move.specs.Propose.{proposal}
 
 append_one : (xs : List Mark) (x : Mark) (ys : List Mark) → (xs ++ x ∷ []) ++ ys ≡ xs ++ x ∷ ys

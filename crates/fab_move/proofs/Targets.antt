@@ -1,10 +1,9 @@
 -- A target is a site of the block's kind.
-use Rattle.std.proofs.Common.{◌≡◌, ◌≢◌, ℕ, ◌+◌, ◌-◌, ◌*◌, ◌/◌, ◌^◌, ◌<◌, ◌≤◌, min, max, Bool, true, false, cond, ◌&&◌, ◌||◌, ◌==◌, List, [], ◌∷◌, length, get_or, Option, Some, None, zero, suc, slice_get, refl, sym, ap, subst, ◌∙◌, inl, inr, arith}
-use Rattle.std.specs.Prelude.{nat_le, nat_lt, slice_index_or, slice_index}
+use Rattle.std.proofs.Common.{◌≡◌, ℕ, ◌+◌, ◌/◌, ◌<◌, ◌≤◌, Bool, true, false, cond, ◌&&◌, ◌||◌, ◌==◌, List, [], ◌∷◌, length, get_or, Some, zero, suc, slice_get, refl, sym, ap, ◌∙◌, inl, inr, arith}
+use Rattle.std.specs.Prelude.{nat_le, nat_lt}
 use Rattle.std.specs.List.{list_any, filter, All, AllByRecursion}
-use Rattle.std.proofs.lemmas.Bool.{and_parts, and_from, or_cases, or_left, or_right, leb-true, le-leb, lt-ltb, ltb-true, eqb-true, eq-eqb, cases_Bool, false≢true}
+use Rattle.std.proofs.lemmas.Bool.{and_parts, and_from, or_cases, or_left, or_right, le-leb, lt-ltb, eqb-true, eq-eqb, false≢true}
 use Rattle.std.proofs.lemmas.List.Elements.{All-filter, All-from_recursion}
-use Rattle.std.proofs.Math.Nat.{div-lt_iff_lt-mul, mul-le-mul_right}
 use Rattle.fab_arch.specs.declared.array.Site.{Site}
 use Rattle.fab_arch.specs.declared.array.SiteKind.TheVariants as site_kind
 use Rattle.fab_arch.specs.Grid.{GridShape, perimeter, is_logic_site, is_position, is_pad_site, kind_at}
@@ -14,8 +13,7 @@ use Rattle.fab_net.specs.declared.pieces.BlockKind.{BlockKind}
 use Rattle.fab_net.specs.declared.pieces.BlockKind.TheVariants.{Logic}
 use Rattle.fab_net.specs.Netlist.{Netlist, is_logic, is_logic_at}
 use Rattle.fab_site.specs.Placement.{Fits, kind_wanted, site}
-use Rattle.fab_site.specs.Words.{pick_of}
-use Rattle.fab_move.specs.Propose.{near, logic_target, within, near_positions, pad_target, target}
+use Rattle.fab_move.specs.Propose.{logic_target, within, near_positions, pad_target, target}
 
 nonempty_at : {X : Type 0} (p t : X → Bool) (x : X) (xs : List X) → (t x || list_any t xs) ≡ true → (t x ≡ true → p x ≡ true) → (list_any t xs ≡ true → 0 < length (filter p xs)) → (b : Bool) → p x ≡ b → 0 < length (cond b (x ∷ filter p xs) (filter p xs))
 nonempty_at p t x xs h only rest true e = omega arith

@@ -1,11 +1,10 @@
 -- What a move comes to on a placement, and what its judgement rests on (that moves whose marks do not meet may be judged
 -- in any order is after Kravitz and Rutenbar; which marks there are, our own).
-use Rattle.std.specs.Prelude.{ℕ, ℤ, pos, ◌≡◌, Bool, true, false, if◌then◌else◌, ◌&&◌, ◌||◌, ◌==◌, List, [], ◌∷◌, ◌++◌, map, Option, Some, None, slice_index, codes, refl}
+use Rattle.std.specs.Prelude.{ℕ, ℤ, pos, ◌≡◌, Bool, true, false, if◌then◌else◌, ◌==◌, List, [], ◌∷◌, ◌++◌, map, Option, Some, None, slice_index, codes, refl}
 use Rattle.std.specs.List.{list_any}
 use Rattle.fab_arch.specs.declared.array.Site.{Site}
 use Rattle.fab_arch.specs.Grid.{GridShape}
 use Rattle.fab_net.specs.declared.pieces.BlockId.{BlockId}
-use Rattle.fab_net.specs.declared.pieces.NetId.{NetId}
 use Rattle.fab_net.specs.declared.pieces.BlockKind.TheVariants.{Logic}
 use Rattle.fab_net.specs.Netlist.{Netlist, nets_of, terminal}
 use Rattle.fab_site.specs.declared.pieces.Swap.{Swap}

@@ -1,6 +1,6 @@
 -- What a move proposes (our own; the range limit after Betz, Rose and Marquardt): a block that may move, and a site near it,
 -- by three of the four words of the move.
-use Rattle.std.specs.Prelude.{ℕ, ◌≡◌, ◌+◌, ◌-◌, ◌*◌, ◌/◌, min, max, Bool, if◌then◌else◌, nat_le, ◌&&◌, filter, List, [], ◌∷◌, length, is_some, Option, Some, None, slice_get, slice_index, slice_index_or, codes, refl}
+use Rattle.std.specs.Prelude.{ℕ, ◌≡◌, ◌+◌, ◌-◌, ◌/◌, min, max, Bool, if◌then◌else◌, nat_le, ◌&&◌, filter, List, [], ◌∷◌, length, is_some, Option, Some, None, slice_get, slice_index, slice_index_or, codes, refl}
 use Rattle.fab_arch.specs.declared.array.Site.{Site}
 use Rattle.fab_arch.specs.Grid.{GridShape, shape, perimeter}
 use Rattle.fab_net.specs.declared.pieces.BlockId.{BlockId}

@@ -1,7 +1,7 @@
 //! Judging a move on a view.
 
 ghost use Rattle.std.specs.Prelude.{◌≡◌, ℕ, ◌<◌, ◌++◌, length, map, false, pos, None, Some, IfOk, OnOk};
-ghost use Rattle.fab_site.specs.Placement.{IsLegal};
+ghost use Rattle.fab_site.specs.Placement.{IsLegal, IsSwapOf};
 ghost use Rattle.fab_move.specs.declared.marks.Mark.TheVariants.{Net as net_mark};
 ghost use Rattle.fab_move.specs.declared.proposals.Proposal.TheVariants.{Move as proposes};
 ghost use Rattle.fab_move.specs.Judge.{block_marks, footprint as footprint_is, judged, problem, says};
@@ -27,6 +27,7 @@ pub fn judge<C: WireCost, W: Words>(
     requires array { view.now.placement.now.grid ≡ view.now.grid.now }
     requires stands { C.StandsFor view.now.cost.now view.now.design.now view.now.grid.now view.now.placement.now.sites }
     ensures number { IfOk result (λ v. v.k ≡ k) }
+    ensures lawful { IfOk result (λ v. (s : Swap) → v.swap ≡ Some s → IsSwapOf view.now.placement.now.grid view.now.placement.now.sites s) }
     ensures judged { IfOk result (λ v. says v ≡ judged (problem view.now.design.now view.now.grid.now view.now.fixed.now (W.moves view.now.words.now)) view.now.placement.now.sites k view.now.t view.now.range) }
 {
     let words = view.words.move_words(k);

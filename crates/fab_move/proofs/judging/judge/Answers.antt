@@ -1,5 +1,7 @@
-use Rattle.std.proofs.Common.{◌≡◌, sym, ap, ◌∙◌, rules, slice_index, to_z, of_z, w64}
+use Rattle.std.proofs.Common.{◌≡◌, subst, sym, ap, ◌∙◌, rules, slice_index, to_z, of_z, w64}
 use Rattle.fab_cost.proofs.Sited.{block_below, other_below}
+use Rattle.fab_site.specs.Placement.{IsSwapOf}
+use Rattle.fab_move.proofs.Choices.{same_swap}
 use Rattle.fab_move.specs.Judge.{problem, footprint, judged_as}
 use Rattle.fab_move.proofs.Judgements.{judged_on, nothing_says, void_says, move_says}
 use Rattle.fab_move.proofs.judging.judge.Goals as goal
@@ -44,3 +46,7 @@ returns-in-Void-clause-judged g c =
     let is = judged_on p sites c.args.k t c.args.view.now.range c.move_words-words.result c.propose-proposal.result c.move_words-words.ensures c.propose-proposal.ensures.value in
     let marks = c.in_ok-footprint.ensures ∙ ap (footprint p.design) c.in-Void.is in
     c.without_swap-in-Void.ensures.says ∙ void_says p sites t w c.in-Void.field-0 c.in-Void.field-1 _ marks ∙ sym (is ∙ ap (judged_as p sites t w) c.in-Void.is)
+
+pub returns-in-Move-clause-lawful : goal.returns-in-Move-clause-lawful
+returns-in-Move-clause-lawful g c = λ s e.
+    subst (IsSwapOf c.args.view.now.placement.now.grid c.args.view.now.placement.now.sites) (same_swap c.in-Move.swap s e) (c.propose-proposal.ensures.lawful c.in-Move.swap c.in-Move.is)

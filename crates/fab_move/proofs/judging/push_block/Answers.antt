@@ -1,4 +1,3 @@
-use Rattle.std.proofs.Common.{◌≡◌}
 use Rattle.fab_move.proofs.Judgements.{block_pushed}
 use Rattle.fab_move.proofs.judging.push_block.Goals as goal
 

@@ -1,4 +1,4 @@
-use Rattle.std.proofs.Common.{◌≡◌, ◌≤◌, subst, arith}
+use Rattle.std.proofs.Common.{◌≤◌, arith}
 use Rattle.fab_move.proofs.Targets.{logic_near}
 use Rattle.fab_move.proofs.proposals.logic_target.Goals as goal
 

@@ -1,4 +1,4 @@
-use Rattle.std.proofs.Common.{◌≡◌, ℕ, ◌+◌, ◌<◌, ◌≤◌, length, ap, sym, subst, ◌∙◌, arith, rules}
+use Rattle.std.proofs.Common.{◌≡◌, ℕ, ◌<◌, length, ap, sym, subst, ◌∙◌, arith}
 use Rattle.fab_move.specs.Propose.{near_positions}
 use Rattle.fab_move.specs.Sides.{positions}
 use Rattle.std.proofs.Common.{slice_index_or, Some}

@@ -1,9 +1,6 @@
-use Rattle.std.proofs.Common.{◌≡◌, ℕ, ◌<◌, length, Option, Some, None, slice_get, sym, ap, subst, ◌∙◌, arith, rules}
-use Rattle.std.specs.Prelude.{slice_index}
-use Rattle.fab_net.specs.declared.pieces.BlockId.{BlockId}
-use Rattle.fab_site.specs.Placement.{Fits, IsSwapOf, site_of}
-use Rattle.fab_site.specs.Words.{pick_of}
-use Rattle.fab_move.specs.Propose.{movable, propose_to, target}
+use Rattle.std.proofs.Common.{◌<◌, length, Some, sym, ap, subst, ◌∙◌, arith}
+use Rattle.fab_site.specs.Placement.{Fits, IsSwapOf}
+use Rattle.fab_move.specs.Propose.{propose_to, target}
 use Rattle.fab_move.specs.Chosen.{number_of}
 use Rattle.fab_move.proofs.Choices.{chosen_below, nothing_chosen, some_chosen, lawful_to, stands_at}
 use Rattle.fab_move.proofs.proposals.propose.Goals as goal

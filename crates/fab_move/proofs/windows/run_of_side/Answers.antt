@@ -1,4 +1,4 @@
-use Rattle.std.proofs.Common.{◌≡◌, false, rules, ◌&&◌}
+use Rattle.std.proofs.Common.{◌≡◌, false, rules}
 use Rattle.fab_move.specs.Propose.{within}
 use Rattle.fab_move.proofs.Nearby.{side_none}
 use Rattle.fab_move.proofs.windows.run_of_side.Goals as goal

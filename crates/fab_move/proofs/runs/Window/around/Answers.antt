@@ -1,4 +1,4 @@
-use Rattle.std.proofs.Common.{◌≡◌, ℕ, ◌+◌, ◌&&◌, ap, ◌∙◌}
+use Rattle.std.proofs.Common.{◌+◌, ◌&&◌, ◌∙◌}
 use Rattle.std.specs.List.{filter, range_with_len}
 use Rattle.fab_move.specs.Propose.{within}
 use Rattle.fab_move.specs.Sides.{numbers, side_by_side}

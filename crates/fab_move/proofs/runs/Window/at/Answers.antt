@@ -1,5 +1,4 @@
-use Rattle.std.proofs.Common.{◌≡◌, ℕ, ◌+◌, ◌-◌, ◌≤◌, ◌<◌, length, arith, refl, sym, ap, ◌∙◌, rules}
-use Rattle.fab_move.specs.Sides.{positions}
+use Rattle.std.proofs.Common.{◌≡◌, ◌+◌, ◌-◌, arith, sym, ◌∙◌}
 use Rattle.fab_move.proofs.Nearby.{length_all, at_left, at_top, at_right, at_bottom}
 use Rattle.fab_move.proofs.runs.Window.at.Goals as goal
 

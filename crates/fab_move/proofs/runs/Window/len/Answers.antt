@@ -1,6 +1,5 @@
-use Rattle.std.proofs.Common.{◌≡◌, ℕ, ◌+◌, ◌-◌, ◌≤◌, ◌<◌, length, arith, refl, sym, ap, ◌∙◌, rules}
-use Rattle.fab_move.specs.Sides.{positions}
-use Rattle.fab_move.proofs.Nearby.{length_all, at_left, at_top, at_right, at_bottom}
+use Rattle.std.proofs.Common.{arith}
+use Rattle.fab_move.proofs.Nearby.{length_all}
 use Rattle.fab_move.proofs.runs.Window.len.Goals as goal
 
 pub returns : goal.returns
