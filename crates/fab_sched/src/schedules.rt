@@ -281,7 +281,9 @@ impl Schedule {
     }
 
     #[tactic(auto, unfolding(crate::specs::Annealing::next_range))]
-    fn next_range(&self, side: u16, range: u64, accepted: u64) -> u64
+    /// The range after a stage with this one, in which so many moves were accepted, on an array whose longer side is
+    /// `side`. It is there after the frozen stage too.
+    pub fn next_range(&self, side: u16, range: u64, accepted: u64) -> u64
         requires side { (1 ≤ side) × (side ≤ 1000) }
         requires range { range ≤ 1000 * side }
         requires accepted { accepted ≤ self.now.moves }

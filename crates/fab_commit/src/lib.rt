@@ -1,0 +1,7 @@
+//! Annealing: moves are judged and committed, and a placement comes of them.
+#![tactic(auto)]
+
+pub mod annealers;
+mod states;
+
+pub use annealers::Turn;
