@@ -1,3 +1,5 @@
 pub mod Kept
 pub mod Advancing
 pub mod Committing
+pub mod Folding
+pub mod Turning

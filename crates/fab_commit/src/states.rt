@@ -1,6 +1,6 @@
 //! What an annealer keeps, and how one move changes it.
 
-ghost use Rattle.std.specs.Prelude.{◌≡◌, ℕ, ◌+◌, ◌-◌, ◌^◌, ◌<◌, ◌≤◌, ◌++◌, min, max, true, false, length, vec_len, vec_capacity, Some, OnOk, OnErr, IsSome};
+ghost use Rattle.std.specs.Prelude.{◌≡◌, ℕ, ◌+◌, ◌-◌, ◌^◌, ◌<◌, ◌≤◌, ◌++◌, min, max, true, false, length, vec_len, vec_capacity, Some, IfOk, OnOk, OnErr};
 ghost use Rattle.fab_sched.specs.Annealing.{IsStage, next_range};
 ghost use Rattle.fab_site.specs.Placement.{IsSwapOf};
 ghost use Rattle.fab_cost.specs.Swapping.{CountedStandsFor};
@@ -152,4 +152,68 @@ fn commit<W: Words>(given: &Given<'_, W>, state: &mut State, verdict: &Verdict)
     state.stage = stage;
     state.ended = ended;
     state.done += 1;
+}
+
+/// Judges the next move on the placement as it stands.
+fn judge_next<W: Words>(
+    alloc: Global,
+    given: &Given<'_, W>,
+    state: &State,
+) -> Result<Verdict, AllocError>
+    requires sound { IsSound (run given.now.design.now given.now.grid.now given.now.fixed.now (W.moves given.now.words.now) given.now.schedule.now) state.now }
+    requires going { state.now.ended ≡ false }
+    ensures lawful { IfOk result (λ v. (s : Swap) → v.swap ≡ Some s → IsSwapOf state.now.placement.grid state.now.placement.sites s) }
+    ensures says { IfOk result (λ v. says v ≡ judged_here (run given.now.design.now given.now.grid.now given.now.fixed.now (W.moves given.now.words.now) given.now.schedule.now) (standing_of state.now) state.now.done) }
+{
+    let view = View {
+        design: given.design,
+        grid: given.grid,
+        fixed: given.fixed,
+        placement: &state.placement,
+        cost: &state.cost,
+        words: given.words,
+        t: state.stage.t,
+        range: state.stage.range,
+    };
+    judge(alloc, &view, state.done)
+}
+
+/// Makes the next move. Where memory is short, all stays as it was.
+fn make_move<W: Words>(
+    alloc: Global,
+    given: &Given<'_, W>,
+    state: &mut State,
+) -> Result<(), AllocError>
+    requires sound { IsSound (run given.now.design.now given.now.grid.now given.now.fixed.now (W.moves given.now.words.now) given.now.schedule.now) state.old }
+    requires going { state.old.ended ≡ false }
+    ensures sound { IsSound (run given.now.design.now given.now.grid.now given.now.fixed.now (W.moves given.now.words.now) given.now.schedule.now) state.new }
+    ensures stands { OnOk result (standing_of state.new ≡ step (run given.now.design.now given.now.grid.now given.now.fixed.now (W.moves given.now.words.now) given.now.schedule.now) (standing_of state.old)) }
+    ensures accepted { OnOk result (state.new.accepted.items ≡ state.old.accepted.items ++ accepted_here (run given.now.design.now given.now.grid.now given.now.fixed.now (W.moves given.now.words.now) given.now.schedule.now) (standing_of state.old)) }
+    ensures same { OnErr result ((standing_of state.new ≡ standing_of state.old) × (state.new.accepted.items ≡ state.old.accepted.items)) }
+{
+    let verdict = judge_next(alloc, given, state)?;
+    state.accepted.reserve(1)?;
+    commit(given, state, &verdict);
+    Ok(())
+}
+
+/// Makes so many moves of the running stage. Where memory is short, it stands behind the moves that it made.
+pub(crate) fn make_moves<W: Words>(
+    alloc: Global,
+    given: &Given<'_, W>,
+    state: &mut State,
+    moves: u64,
+) -> Result<(), AllocError>
+    requires sound { IsSound (run given.now.design.now given.now.grid.now given.now.fixed.now (W.moves given.now.words.now) given.now.schedule.now) state.old }
+    requires left { moves ≤ moves_left (run given.now.design.now given.now.grid.now given.now.fixed.now (W.moves given.now.words.now) given.now.schedule.now) (standing_of state.old) }
+    ensures sound { IsSound (run given.now.design.now given.now.grid.now given.now.fixed.now (W.moves given.now.words.now) given.now.schedule.now) state.new }
+    ensures stands { standing_of state.new ≡ from (run given.now.design.now given.now.grid.now given.now.fixed.now (W.moves given.now.words.now) given.now.schedule.now) (standing_of state.old) (state.new.done - state.old.done) }
+    ensures accepted { state.new.accepted.items ≡ state.old.accepted.items ++ accepted_among (run given.now.design.now given.now.grid.now given.now.fixed.now (W.moves given.now.words.now) given.now.schedule.now) (standing_of state.old) (state.new.done - state.old.done) }
+    ensures ok { OnOk result (state.new.done ≡ state.old.done + moves) }
+    ensures within { (state.old.done ≤ state.new.done) × (state.new.done ≤ state.old.done + moves) }
+{
+    'moves: for made in 0..moves {
+        make_move(alloc, given, state)?;
+    }
+    Ok(())
 }
