@@ -1,10 +1,10 @@
 -- What a move makes of a stage.
-use Rattle.std.proofs.Common.{◌≡◌, ◌≢◌, ℕ, ◌+◌, ◌*◌, ◌/◌, ◌<◌, ◌≤◌, ◌==◌, min, max, Bool, true, false, cond, eqb, Option, Some, None, refl, sym, ap, subst, ◌∙◌, arith, inl, inr}
-use Rattle.std.proofs.lemmas.Bool.{eq-eqb, ne_eqb, cases_eq, false≢true}
+use Rattle.std.proofs.Common.{◌≡◌, ℕ, ◌+◌, ◌*◌, ◌/◌, ◌≤◌, Bool, true, cond, eqb, Option, Some, None, refl, sym, ap, subst, ◌∙◌, arith, inl, inr}
+use Rattle.std.proofs.lemmas.Bool.{eq-eqb, ne_eqb, cases_eq}
 use Rattle.fab_sched.specs.declared.schedules.Stage.{Stage}
-use Rattle.fab_sched.specs.Annealing.{Plan, IsLawful, IsStage, MayStand, fresh_at, factor_after, hot, cooled, next_heat, next_range, stage_after}
+use Rattle.fab_sched.specs.Annealing.{Plan, IsStage, MayStand, fresh_at, factor_after, hot, cooled, next_heat, next_range}
 use Rattle.fab_commit.specs.Serial.{one_if}
-use Rattle.fab_commit.specs.Commits.{IsAdvanced, StageStands}
+use Rattle.fab_commit.specs.Commits.{IsAdvanced}
 
 range_bounds : (p : Plan) (side range accepted : ℕ) → 1 ≤ side → (1000 ≤ next_range p side range accepted) × (next_range p side range accepted ≤ 1000 * side)
 unfolding next_range

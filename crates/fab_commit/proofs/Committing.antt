@@ -1,16 +1,16 @@
 -- A verdict that is committed moves the standing on by one, and what is kept still fits together.
-use Rattle.std.proofs.Common.{◌≡◌, ◌≢◌, ℕ, ◌+◌, ◌*◌, ◌/◌, ◌%◌, ◌<◌, ◌≤◌, ◌^◌, ◌==◌, List, Bool, true, false, cond, eqb, Option, Some, None, refl, sym, ap, subst, ◌∙◌, arith, inl, inr}
-use Rattle.std.proofs.lemmas.Bool.{eq-eqb, ne_eqb, cases_eq, false≢true}
+use Rattle.std.proofs.Common.{◌≡◌, ℕ, ◌+◌, ◌*◌, ◌%◌, ◌<◌, ◌≤◌, ◌^◌, List, Bool, true, false, cond, eqb, Option, Some, None, refl, sym, ap, subst, ◌∙◌, arith, inl, inr}
+use Rattle.std.proofs.lemmas.Bool.{eq-eqb, ne_eqb, cases_eq}
 use Rattle.std.proofs.lemmas.Nat.{mod-mul-add}
 use Rattle.fab_cost.specs.Swapping.{CountedStandsFor}
 use Rattle.fab_arch.specs.declared.array.Site.{Site}
 use Rattle.fab_site.specs.declared.pieces.Swap.{Swap}
 use Rattle.fab_site.specs.Placement.{IsLegal, IsSwapOf, swapped}
-use Rattle.fab_move.specs.Judge.{Judged, judged, moved, problem}
-use Rattle.fab_sched.specs.Annealing.{Plan, IsLawful, IsStage, next_heat, next_range}
+use Rattle.fab_move.specs.Judge.{Judged, moved}
+use Rattle.fab_sched.specs.Annealing.{IsLawful, IsStage, next_heat, next_range}
 use Rattle.fab_sched.proofs.Falling.{few_moves}
 use Rattle.fab_commit.specs.declared.states.State.{State}
-use Rattle.fab_commit.specs.Serial.{Run, Standing, one_if, side, after_move, judged_here}
+use Rattle.fab_commit.specs.Serial.{Run, one_if, side, after_move, judged_here}
 use Rattle.fab_commit.specs.Commits.{IsAdvanced, IsSound, StageStands, standing_of, heat_of}
 use Rattle.fab_commit.proofs.Kept.{MayMove, legal_swapped, judged_may_move}
 

@@ -1,6 +1,6 @@
 -- A move that is proposed on a legal placement leaves a legal one.
-use Rattle.std.proofs.Common.{◌≡◌, ◌≢◌, ℕ, ◌<◌, Bool, true, false, cond, List, [], ◌∷◌, zero, suc, Option, Some, None, is_some, slice_get, length, refl, sym, ap, subst, ◌∙◌, ◌⊎◌, inl, inr, arith}
-use Rattle.std.proofs.lemmas.Bool.{false≢true, cases_Bool}
+use Rattle.std.proofs.Common.{◌≡◌, ◌≢◌, ℕ, ◌<◌, Bool, true, false, cond, List, [], ◌∷◌, zero, suc, Option, Some, None, is_some, slice_get, length, refl, sym, ap, subst, ◌∙◌, inl, inr, arith}
+use Rattle.std.proofs.lemmas.Bool.{false≢true}
 use Rattle.std.specs.Prelude.{slice_index, not}
 use Rattle.std.specs.List.{filter, range_with_len}
 use Rattle.fab_arch.specs.declared.array.Site.{Site}
@@ -9,14 +9,14 @@ use Rattle.fab_net.specs.declared.pieces.BlockId.{BlockId}
 use Rattle.fab_net.specs.Netlist.{Netlist}
 use Rattle.fab_site.specs.declared.pieces.Swap.{Swap}
 use Rattle.fab_site.specs.Free.{is_free}
-use Rattle.fab_site.specs.Placement.{Fits, IsLegal, IsSwapOf, kind_wanted, fixed_at, same_site, site_of, at, swapped}
+use Rattle.fab_site.specs.Placement.{Fits, IsLegal, IsSwapOf, fixed_at, same_site, site_of, at, swapped}
 use Rattle.fab_site.specs.Words.{pick_of}
-use Rattle.fab_site.proofs.Swaps.{IsHeldBy, IsReady, Placed, placed, apart-swapped, length-swapped}
+use Rattle.fab_site.proofs.Swaps.{IsHeldBy, Placed, placed, apart-swapped, length-swapped}
 use Rattle.fab_site.proofs.Swapping.{ready}
 use Rattle.fab_move.specs.declared.proposals.Proposal.{Proposal}
 use Rattle.fab_move.specs.declared.proposals.Proposal.TheVariants.{Nothing, Void, Move}
 use Rattle.fab_move.specs.Propose.{is_fixed, movable, propose_held, propose_to, propose_for, proposal, target}
-use Rattle.fab_move.specs.Judge.{Problem, Judged, judged_as, judged}
+use Rattle.fab_move.specs.Judge.{Problem, judged_as, judged}
 use Rattle.fab_move.proofs.Choices.{stands_at}
 
 abbrev pub OtherMay : List (Option Site) → Option BlockId → Type 0

@@ -3,3 +3,4 @@ pub mod Advancing
 pub mod Committing
 pub mod Folding
 pub mod Turning
+pub mod Beginning

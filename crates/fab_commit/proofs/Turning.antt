@@ -1,8 +1,8 @@
 -- What moves made one after another leave.
-use Rattle.std.proofs.Common.{◌≡◌, ℕ, ◌+◌, ◌-◌, ◌<◌, ◌≤◌, ◌++◌, true, false, List, is_some, sym, ap, subst, ◌∙◌, arith}
+use Rattle.std.proofs.Common.{◌≡◌, ℕ, ◌+◌, ◌<◌, ◌++◌, true, false, is_some, sym, ap, subst, ◌∙◌, arith}
 use Rattle.std.proofs.lemmas.List.{append_assoc}
 use Rattle.fab_commit.specs.declared.states.State.{State}
-use Rattle.fab_commit.specs.Serial.{Run, Standing, accepted_among, accepted_here, from, step, moves_left}
+use Rattle.fab_commit.specs.Serial.{Run, accepted_among, accepted_here, from, step, moves_left}
 use Rattle.fab_commit.specs.Commits.{standing_of}
 use Rattle.fab_commit.proofs.Folding.{goes_on, not_ended, hot_at, step_done, from_more, accepted_more}
 

@@ -7,7 +7,9 @@ use Rattle.fab_site.specs.Placement.{IsLegal}
 use Rattle.fab_cost.specs.Swapping.{CountedStandsFor}
 use Rattle.fab_sched.specs.declared.schedules.Stage.{Stage}
 use Rattle.fab_sched.specs.Annealing.{Plan, IsStage, MayStand, next_heat, next_range}
-use Rattle.fab_move.specs.Judge.{Problem, problem}
+use Rattle.fab_move.specs.Judge.{problem}
+use Rattle.fab_commit.specs.declared.turns.Turn.{Turn}
+use Rattle.fab_commit.specs.declared.turns.Turn.TheVariants.{More, Finished}
 use Rattle.fab_commit.specs.declared.states.State.{State}
 use Rattle.fab_commit.specs.Serial.{Run, Standing, one_if, side}
 
@@ -27,6 +29,19 @@ pub record AnnealOf (W : Type 0) : Type 0 where
 -- the run of an annealer, where a value of `W` stands for these words
 abbrev pub run_of : {W : Type 0} → (W → ℕ → List ℕ) → AnnealOf W → Run
 run_of moves a = run a.design a.grid a.fixed (moves a.words) a.plan
+
+-- all but the standing and what was accepted stays
+pub record IsSameRun {W : Type 0} (a b : AnnealOf W) : Type 0 where
+  pub design : b.design ≡ a.design
+  pub grid : b.grid ≡ a.grid
+  pub fixed : b.fixed ≡ a.fixed
+  pub plan : b.plan ≡ a.plan
+  pub words : b.words ≡ a.words
+
+-- what a turn answers, by the temperature after it
+abbrev pub turn_of : Option ℕ → Turn
+turn_of None = Finished
+turn_of (Some t) = More
 
 abbrev pub heat_of : Bool → ℕ → Option ℕ
 heat_of ended t = if ended then None else Some t

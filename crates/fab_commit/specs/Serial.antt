@@ -1,6 +1,6 @@
 -- Annealing one move at a time (VPR manual's user schedule; Betz, Rose and Marquardt): a fold over placements, in which no
 -- box, batch or worker occurs. Each change of cost is two whole sums over all nets.
-use Rattle.std.specs.Prelude.{ℕ, ◌≡◌, zero, suc, ◌+◌, ◌-◌, ◌*◌, ◌/◌, ◌%◌, ◌≤◌, min, max, Bool, true, if◌then◌else◌, ◌==◌, List, [], ◌∷◌, ◌++◌, Option, Some, None, is_some}
+use Rattle.std.specs.Prelude.{ℕ, ◌≡◌, zero, suc, ◌+◌, ◌-◌, ◌*◌, ◌/◌, ◌%◌, ◌≤◌, max, Bool, if◌then◌else◌, ◌==◌, List, [], ◌∷◌, ◌++◌, Option, Some, None, is_some}
 use Rattle.fab_arch.specs.declared.array.Site.{Site}
 use Rattle.fab_site.specs.Placement.{IsLegal}
 use Rattle.fab_move.specs.Judge.{Problem, Judged, judged, moved}

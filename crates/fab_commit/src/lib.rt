@@ -3,5 +3,7 @@
 
 pub mod annealers;
 mod states;
+pub mod turns;
 
-pub use annealers::Turn;
+pub use annealers::Anneal;
+pub use turns::Turn;

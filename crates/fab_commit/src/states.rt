@@ -1,12 +1,12 @@
 //! What an annealer keeps, and how one move changes it.
 
-ghost use Rattle.std.specs.Prelude.{◌≡◌, ℕ, ◌+◌, ◌-◌, ◌^◌, ◌<◌, ◌≤◌, ◌++◌, min, max, true, false, length, vec_len, vec_capacity, Some, IfOk, OnOk, OnErr};
+ghost use Rattle.std.specs.Prelude.{◌≡◌, ℕ, ◌+◌, ◌-◌, ◌*◌, ◌^◌, ◌<◌, ◌≤◌, List, [], ◌++◌, min, max, true, false, length, vec_len, vec_capacity, Some, IfOk, OnOk, OnErr};
 ghost use Rattle.fab_sched.specs.Annealing.{IsStage, next_range};
-ghost use Rattle.fab_site.specs.Placement.{IsSwapOf};
+ghost use Rattle.fab_site.specs.Placement.{IsLegal, IsSwapOf};
 ghost use Rattle.fab_cost.specs.Swapping.{CountedStandsFor};
 ghost use Rattle.fab_move.specs.Judge.{judged, moved, says};
-ghost use Rattle.fab_commit.specs.Serial.{Run, accepted_among, accepted_here, after_move, from, judged_here, moves_left, numbers_if, one_if, side, step};
-ghost use Rattle.fab_commit.specs.Commits.{IsAdvanced, IsSound, run, standing_of};
+ghost use Rattle.fab_commit.specs.Serial.{Run, accepted_among, accepted_here, after_move, at_start, from, judged_here, left_at, moves_left, numbers_if, one_if, side, step};
+ghost use Rattle.fab_commit.specs.Commits.{IsAdvanced, IsSound, heat_of, run, standing_of};
 
 use fab_arch::Grid;
 use fab_cost::{EdgeBoxes, WireCost};
@@ -17,6 +17,7 @@ use fab_site::{Fixed, Placement, Swap, Words};
 use std::alloc::{AllocError, Global};
 
 /// What a run is given, lent.
+#[derive(Drop)]
 pub(crate) struct Given<'a, W> {
     pub(crate) design: &'a Design,
     pub(crate) grid: &'a Grid,
@@ -216,4 +217,45 @@ pub(crate) fn make_moves<W: Words>(
         make_move(alloc, given, state)?;
     }
     Ok(())
+}
+
+/// How many moves the running stage still has.
+pub(crate) fn moves_left(schedule: &Schedule, state: &State) -> u64
+    requires inside { state.now.ended ≡ false → state.now.stage.done < schedule.now.moves }
+    requires place { state.now.done ≡ state.now.stage.index * schedule.now.moves + state.now.stage.done }
+    ensures { result ≡ left_at schedule.now.moves state.now.done (heat_of state.now.ended state.now.stage.t) }
+{
+    if state.ended {
+        0
+    } else {
+        schedule.moves() - state.stage.done
+    }
+}
+
+/// What is kept before the first move.
+pub(crate) fn first_state(
+    alloc: Global,
+    design: &Design,
+    grid: &Grid,
+    fixed: &Fixed,
+    schedule: &Schedule,
+    placement: Placement,
+) -> Result<State, AllocError>
+    requires legal { IsLegal design.now grid.now fixed.now placement.sites }
+    requires array { placement.grid ≡ grid.now }
+    ensures sound { IfOk result (λ s. (words : ℕ → List ℕ) → IsSound (run design.now grid.now fixed.now words schedule.now) s) }
+    ensures stands { IfOk result (λ s. (words : ℕ → List ℕ) → standing_of s ≡ at_start (run design.now grid.now fixed.now words schedule.now) placement.sites) }
+    ensures accepted { IfOk result (λ s. s.accepted.items ≡ []) }
+{
+    let _moves = schedule.moves();
+    let cost = EdgeBoxes::new(alloc, design, grid, &placement)?;
+    Ok(State {
+        placement,
+        cost,
+        stage: schedule.first(side_of(grid)),
+        ended: false,
+        done: 0,
+        total: 0,
+        accepted: Vec::new(alloc),
+    })
 }

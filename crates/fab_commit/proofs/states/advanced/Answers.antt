@@ -1,7 +1,7 @@
 use Rattle.std.proofs.Common.{◌≡◌, ◌+◌, true, arith, rules, sym, subst, ◌∙◌}
 use Rattle.fab_commit.specs.Serial.{one_if}
 use Rattle.fab_commit.specs.Commits.{IsAdvanced}
-use Rattle.fab_commit.proofs.Advancing.{after_all, after_last}
+use Rattle.fab_commit.proofs.Advancing.{after_all}
 use Rattle.fab_commit.proofs.states.advanced.Goals as goal
 
 pub returns-in-None : goal.returns-in-None

@@ -1,7 +1,7 @@
-use Rattle.std.proofs.Common.{◌≡◌, ◌+◌, ◌<◌, ◌^◌, refl, sym, ap, subst, arith}
+use Rattle.std.proofs.Common.{◌+◌, refl, ap, subst, arith}
 use Rattle.fab_move.specs.Judge.{says}
 use Rattle.fab_commit.specs.Commits.{IsAdvanced, run}
-use Rattle.fab_commit.proofs.Committing.{IsCommitted, stands_after, sound_after, judged_legal, numbers_fit}
+use Rattle.fab_commit.proofs.Committing.{stands_after, sound_after, judged_legal, numbers_fit}
 use Rattle.fab_commit.proofs.states.commit.Goals as goal
 
 pub count-requires-clause-few : goal.count-requires-clause-few

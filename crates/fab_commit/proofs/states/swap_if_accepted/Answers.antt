@@ -1,4 +1,3 @@
-use Rattle.std.proofs.Common.{◌≡◌}
 use Rattle.fab_commit.proofs.states.swap_if_accepted.Goals as goal
 
 pub apply-requires-clause-lawful : goal.apply-requires-clause-lawful
