@@ -1,6 +1,6 @@
 -- The lists of all sites stand in the order of their places in the table, so no site stands twice.
-use Rattle.std.proofs.Common.{◌≡◌, ◌≢◌, ℕ, ◌+◌, ◌-◌, ◌*◌, ◌<◌, ◌≤◌, Bool, true, false, cond, ◌||◌, ◌&&◌, ◌==◌, List, [], ◌∷◌, ◌++◌, Option, Some, None, length, map, get_or, zero, suc, refl, sym, ap, ◌∙◌, inl, inr, arith}
-use Rattle.std.specs.Prelude.{nat_le, nat_lt, is_some, slice_get}
+use Rattle.std.proofs.Common.{◌≡◌, ℕ, ◌+◌, ◌-◌, ◌*◌, ◌<◌, ◌≤◌, true, false, List, [], ◌∷◌, ◌++◌, Some, None, length, map, get_or, zero, suc, refl, sym, ap, ◌∙◌, inl, inr, arith}
+use Rattle.std.specs.Prelude.{nat_lt, is_some}
 use Rattle.std.specs.List.{list_any, AllByRecursion, range_with_len, flat_map}
 use Rattle.std.proofs.lemmas.Bool.{cases_Bool, false≢true}
 use Rattle.std.proofs.lemmas.Bool.Decides.{nat_tests}
@@ -12,11 +12,11 @@ use Rattle.fab_arch.specs.declared.array.SiteKind.{SiteKind}
 use Rattle.fab_arch.specs.declared.array.SiteKind.TheVariants as site_kind
 use Rattle.fab_arch.specs.Grid.{GridShape, perimeter, is_logic_site, is_pad_site, kind_at}
 use Rattle.fab_arch.proofs.Perimeter.{perimeter_len, at_left, at_top, at_right, at_bottom}
-use Rattle.fab_site.specs.Placement.{site, same_site, site_of, AreApart}
-use Rattle.fab_site.specs.Index.{place_of, pad_index, index_of}
+use Rattle.fab_site.specs.Placement.{site, same_site}
+use Rattle.fab_site.specs.Index.{place_of, index_of}
 use Rattle.fab_site.specs.Start.{logic_sites, pad_sites}
 use Rattle.fab_site.proofs.Sites.{logic_bounds, site_from}
-use Rattle.fab_site.proofs.Tables.{IsPlace, place_is, index_is, logic_below, same_is, itself, false_of}
+use Rattle.fab_site.proofs.Tables.{place_is, index_is, logic_below, same_is, false_of}
 
 -- sites whose places in the table go up by one from this one
 abbrev pub Run : GridShape → ℕ → List Site → Type 0

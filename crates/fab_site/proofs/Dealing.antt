@@ -1,8 +1,8 @@
 -- The start placement is legal.
-use Rattle.std.proofs.Common.{◌≡◌, ◌≢◌, ℕ, ◌+◌, ◌-◌, ◌*◌, ◌^◌, ◌<◌, ◌≤◌, Bool, true, false, not, cond, ◌⊎◌, List, [], ◌∷◌, Option, Some, None, length, map, get_or, zero, suc, refl, sym, ap, ◌∙◌, inl, inr, arith}
+use Rattle.std.proofs.Common.{◌≡◌, ℕ, ◌+◌, ◌*◌, ◌^◌, ◌<◌, ◌≤◌, Bool, true, false, not, cond, ◌⊎◌, List, [], ◌∷◌, Option, Some, None, length, map, zero, suc, refl, sym, ap, ◌∙◌, inl, inr, arith}
 use Rattle.std.specs.Prelude.{slice_get, slice_index_or}
-use Rattle.std.specs.List.{range_with_len, AllByRecursion}
-use Rattle.std.proofs.lemmas.Bool.{cases_Bool, false≢true}
+use Rattle.std.specs.List.{range_with_len}
+use Rattle.std.proofs.lemmas.Bool.{cases_Bool}
 use Rattle.std.proofs.lemmas.List.FromFn.{length-map-range_with_len, get_or-map-range_with_len}
 use Rattle.std.proofs.lemmas.Option.{slice_get-get_or, slice_get_within}
 use Rattle.fab_arch.specs.declared.array.Site.{Site}
@@ -12,12 +12,11 @@ use Rattle.fab_arch.specs.Grid.{GridShape, kind_at, Holds}
 use Rattle.fab_net.specs.declared.pieces.BlockKind.{BlockKind}
 use Rattle.fab_net.specs.declared.pieces.BlockKind.TheVariants.{Logic}
 use Rattle.fab_net.specs.Netlist.{Netlist, is_logic, logic_count, pad_count}
-use Rattle.fab_site.specs.Placement.{nowhere, site_of, kind_wanted, fixed_at, AreApart, IsLegal}
+use Rattle.fab_site.specs.Placement.{site_of, fixed_at, AreApart, IsLegal}
 use Rattle.fab_site.specs.Draft.{NoneShared}
 use Rattle.fab_site.specs.Pins.{either_site, given_at, ArePins}
-use Rattle.fab_site.specs.Words.{pick_of}
 use Rattle.fab_site.specs.Start.{logic_sites, pad_sites, given_sites, sites_left, entry_of, without, deal, waiting, is_pad, drawing, start_sites}
-use Rattle.fab_site.proofs.AllSites.{Distinct, logic_run, logic_len, pads_run, pads_length, run_distinct, run_logic, run_pad}
+use Rattle.fab_site.proofs.AllSites.{logic_run, logic_len, pads_run, pads_length, run_distinct, run_logic, run_pad}
 use Rattle.fab_site.proofs.Stock.{IsStock, stock_of, without_len, came, stock_without, pick_below, Fitting, enough}
 
 none_some : {X : Type 0} (x : X) → None ≡ Some x → ⊥

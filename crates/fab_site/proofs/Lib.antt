@@ -8,3 +8,4 @@ pub mod AllSites
 pub mod Stock
 pub mod Dealing
 pub mod Drawing
+pub mod Freed

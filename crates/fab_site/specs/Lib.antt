@@ -1,6 +1,7 @@
 pub mod Placement
 pub mod Index
 pub mod Draft
+pub mod Free
 pub mod Pins
 pub mod Words
 pub mod Start

@@ -1,6 +1,6 @@
 use Rattle.std.proofs.Common.{◌≡◌, refl, sym, ◌∙◌, arith}
 use Rattle.fab_site.specs.Pins.{given_at}
-use Rattle.fab_site.proofs.Drawing.{AreGiven, one_given, not_given, still_free, all_given}
+use Rattle.fab_site.proofs.Drawing.{one_given, not_given, still_free, all_given}
 use Rattle.fab_site.proofs.starting.given.Goals as goal
 use Rattle.fab_site.proofs.starting.given.Goals.{in-Some, in_default}
 

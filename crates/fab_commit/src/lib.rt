@@ -1,0 +1,9 @@
+//! Annealing: moves are judged and committed, and a placement comes of them.
+#![tactic(auto)]
+
+pub mod annealers;
+mod states;
+pub mod turns;
+
+pub use annealers::Anneal;
+pub use turns::Turn;

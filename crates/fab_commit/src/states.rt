@@ -1,0 +1,261 @@
+//! What an annealer keeps, and how one move changes it.
+
+ghost use Rattle.std.specs.Prelude.{◌≡◌, ℕ, ◌+◌, ◌-◌, ◌*◌, ◌^◌, ◌<◌, ◌≤◌, List, [], ◌++◌, min, max, true, false, length, vec_len, vec_capacity, Some, IfOk, OnOk, OnErr};
+ghost use Rattle.fab_sched.specs.Annealing.{IsStage, next_range};
+ghost use Rattle.fab_site.specs.Placement.{IsLegal, IsSwapOf};
+ghost use Rattle.fab_cost.specs.Swapping.{CountedStandsFor};
+ghost use Rattle.fab_move.specs.Judge.{judged, moved, says};
+ghost use Rattle.fab_commit.specs.Serial.{Run, accepted_among, accepted_here, after_move, at_start, from, judged_here, left_at, moves_left, numbers_if, one_if, side, step};
+ghost use Rattle.fab_commit.specs.Commits.{IsAdvanced, IsSound, heat_of, run, standing_of};
+
+use fab_arch::Grid;
+use fab_cost::{EdgeBoxes, WireCost};
+use fab_move::{Verdict, View, judge};
+use fab_net::Design;
+use fab_sched::{Schedule, Stage};
+use fab_site::{Fixed, Placement, Swap, Words};
+use std::alloc::{AllocError, Global};
+
+/// What a run is given, lent.
+#[derive(Drop)]
+pub(crate) struct Given<'a, W> {
+    pub(crate) design: &'a Design,
+    pub(crate) grid: &'a Grid,
+    pub(crate) fixed: &'a Fixed,
+    pub(crate) schedule: &'a Schedule,
+    pub(crate) words: &'a W,
+}
+
+/// Where a run stands, and what is kept for that.
+#[derive(Drop)]
+pub(crate) struct State {
+    pub(crate) placement: Placement,
+    pub(crate) cost: EdgeBoxes,
+    /// The running stage; after the last move an empty one behind it.
+    pub(crate) stage: Stage,
+    pub(crate) ended: bool,
+    pub(crate) done: u64,
+    pub(crate) total: u64,
+    /// The numbers of the moves that were accepted.
+    pub(crate) accepted: Vec<u64>,
+}
+
+/// The longer side of an array.
+fn side_of(grid: &Grid) -> u16
+    ensures value { result ≡ max grid.now.nx grid.now.ny }
+    ensures limits { (1 ≤ result) × (result ≤ 1000) }
+{
+    grid.nx().max(grid.ny())
+}
+
+/// What a stage becomes by one more of its moves, and whether that was the last move of all.
+fn advanced(schedule: &Schedule, side: u16, stage: Stage, accepted: bool) -> (Stage, bool)
+    requires side { (1 ≤ side) × (side ≤ 1000) }
+    requires stage { IsStage schedule.now side stage }
+    requires left { stage.done < schedule.now.moves }
+    ensures { IsAdvanced schedule.now side stage accepted result.0 result.1 }
+{
+    let moves = schedule.moves();
+    let made = Stage {
+        done: stage.done + 1,
+        accepted: stage.accepted + u64::from(accepted),
+        ..stage
+    };
+    if made.done < moves {
+        return (made, false);
+    }
+    match schedule.next_stage(&made, made.accepted, side) {
+        Some(next) => (next, false),
+        None => (behind_the_last(schedule, side, &made), true),
+    }
+}
+
+/// An empty stage behind the frozen one.
+fn behind_the_last(schedule: &Schedule, side: u16, frozen: &Stage) -> Stage
+    requires side { (1 ≤ side) × (side ≤ 1000) }
+    requires stage { IsStage schedule.now side frozen.now }
+    ensures { result ≡ record { index = frozen.now.index + 1; t = 0; range = next_range schedule.now side frozen.now.range frozen.now.accepted; done = 0; accepted = 0; frozen = true } }
+{
+    let _moves = schedule.moves();
+    Stage {
+        index: frozen.index + 1,
+        t: 0,
+        range: schedule.next_range(side, frozen.range, frozen.accepted),
+        done: 0,
+        accepted: 0,
+        frozen: true,
+    }
+}
+
+/// Makes the swap of a verdict, if it is accepted.
+fn swap_if_accepted(
+    design: &Design,
+    grid: &Grid,
+    placement: &mut Placement,
+    cost: &mut EdgeBoxes,
+    verdict: &Verdict,
+)
+    requires whole { length design.now.kinds ≡ length placement.old.sites }
+    requires cost { CountedStandsFor cost.old design.now grid.now placement.old.sites }
+    requires lawful { (s : Swap) → verdict.now.swap ≡ Some s → IsSwapOf placement.old.grid placement.old.sites s }
+    ensures placement { placement.new ≡ record placement.old { sites = moved placement.old.sites (says verdict.now) } }
+    ensures cost { CountedStandsFor cost.new design.now grid.now (moved placement.old.sites (says verdict.now)) }
+{
+    if !verdict.accepted {
+        return;
+    }
+    if let Some(swap) = verdict.swap {
+        cost.apply(design, grid, placement, &swap);
+        placement.apply(&swap);
+    }
+}
+
+/// Counts a move, if it is accepted.
+fn count(accepted: &mut Vec<u64>, total: &mut u64, number: u64, took: bool)
+    requires room { vec_len accepted.old < vec_capacity accepted.old }
+    requires few { total.old < 2 ^ 61 }
+    ensures accepted { accepted.new.items ≡ accepted.old.items ++ numbers_if number took }
+    ensures total { total.new ≡ total.old + one_if took }
+{
+    if took {
+        accepted.push_reserved(number);
+        *total += 1;
+    }
+}
+
+/// Commits a verdict on the next move.
+fn commit<W: Words>(given: &Given<'_, W>, state: &mut State, verdict: &Verdict)
+    requires sound { IsSound (run given.now.design.now given.now.grid.now given.now.fixed.now (W.moves given.now.words.now) given.now.schedule.now) state.old }
+    requires going { state.old.ended ≡ false }
+    requires room { vec_len state.old.accepted < vec_capacity state.old.accepted }
+    requires lawful { (s : Swap) → verdict.now.swap ≡ Some s → IsSwapOf state.old.placement.grid state.old.placement.sites s }
+    requires says { says verdict.now ≡ judged_here (run given.now.design.now given.now.grid.now given.now.fixed.now (W.moves given.now.words.now) given.now.schedule.now) (standing_of state.old) state.old.done }
+    ensures stands { standing_of state.new ≡ after_move (run given.now.design.now given.now.grid.now given.now.fixed.now (W.moves given.now.words.now) given.now.schedule.now) (standing_of state.old) (says verdict.now) }
+    ensures accepted { state.new.accepted.items ≡ state.old.accepted.items ++ numbers_if state.old.done verdict.now.accepted }
+    ensures sound { IsSound (run given.now.design.now given.now.grid.now given.now.fixed.now (W.moves given.now.words.now) given.now.schedule.now) state.new }
+{
+    let side = side_of(given.grid);
+    let _moves = given.schedule.moves();
+    swap_if_accepted(
+        given.design,
+        given.grid,
+        &mut state.placement,
+        &mut state.cost,
+        verdict,
+    );
+    count(
+        &mut state.accepted,
+        &mut state.total,
+        state.done,
+        verdict.accepted,
+    );
+    let (stage, ended) = advanced(given.schedule, side, state.stage, verdict.accepted);
+    state.stage = stage;
+    state.ended = ended;
+    state.done += 1;
+}
+
+/// Judges the next move on the placement as it stands.
+fn judge_next<W: Words>(
+    alloc: Global,
+    given: &Given<'_, W>,
+    state: &State,
+) -> Result<Verdict, AllocError>
+    requires sound { IsSound (run given.now.design.now given.now.grid.now given.now.fixed.now (W.moves given.now.words.now) given.now.schedule.now) state.now }
+    requires going { state.now.ended ≡ false }
+    ensures lawful { IfOk result (λ v. (s : Swap) → v.swap ≡ Some s → IsSwapOf state.now.placement.grid state.now.placement.sites s) }
+    ensures says { IfOk result (λ v. says v ≡ judged_here (run given.now.design.now given.now.grid.now given.now.fixed.now (W.moves given.now.words.now) given.now.schedule.now) (standing_of state.now) state.now.done) }
+{
+    let view = View {
+        design: given.design,
+        grid: given.grid,
+        fixed: given.fixed,
+        placement: &state.placement,
+        cost: &state.cost,
+        words: given.words,
+        t: state.stage.t,
+        range: state.stage.range,
+    };
+    judge(alloc, &view, state.done)
+}
+
+/// Makes the next move. Where memory is short, all stays as it was.
+fn make_move<W: Words>(
+    alloc: Global,
+    given: &Given<'_, W>,
+    state: &mut State,
+) -> Result<(), AllocError>
+    requires sound { IsSound (run given.now.design.now given.now.grid.now given.now.fixed.now (W.moves given.now.words.now) given.now.schedule.now) state.old }
+    requires going { state.old.ended ≡ false }
+    ensures sound { IsSound (run given.now.design.now given.now.grid.now given.now.fixed.now (W.moves given.now.words.now) given.now.schedule.now) state.new }
+    ensures stands { OnOk result (standing_of state.new ≡ step (run given.now.design.now given.now.grid.now given.now.fixed.now (W.moves given.now.words.now) given.now.schedule.now) (standing_of state.old)) }
+    ensures accepted { OnOk result (state.new.accepted.items ≡ state.old.accepted.items ++ accepted_here (run given.now.design.now given.now.grid.now given.now.fixed.now (W.moves given.now.words.now) given.now.schedule.now) (standing_of state.old)) }
+    ensures same { OnErr result ((standing_of state.new ≡ standing_of state.old) × (state.new.accepted.items ≡ state.old.accepted.items)) }
+{
+    let verdict = judge_next(alloc, given, state)?;
+    state.accepted.reserve(1)?;
+    commit(given, state, &verdict);
+    Ok(())
+}
+
+/// Makes so many moves of the running stage. Where memory is short, it stands behind the moves that it made.
+pub(crate) fn make_moves<W: Words>(
+    alloc: Global,
+    given: &Given<'_, W>,
+    state: &mut State,
+    moves: u64,
+) -> Result<(), AllocError>
+    requires sound { IsSound (run given.now.design.now given.now.grid.now given.now.fixed.now (W.moves given.now.words.now) given.now.schedule.now) state.old }
+    requires left { moves ≤ moves_left (run given.now.design.now given.now.grid.now given.now.fixed.now (W.moves given.now.words.now) given.now.schedule.now) (standing_of state.old) }
+    ensures sound { IsSound (run given.now.design.now given.now.grid.now given.now.fixed.now (W.moves given.now.words.now) given.now.schedule.now) state.new }
+    ensures stands { standing_of state.new ≡ from (run given.now.design.now given.now.grid.now given.now.fixed.now (W.moves given.now.words.now) given.now.schedule.now) (standing_of state.old) (state.new.done - state.old.done) }
+    ensures accepted { state.new.accepted.items ≡ state.old.accepted.items ++ accepted_among (run given.now.design.now given.now.grid.now given.now.fixed.now (W.moves given.now.words.now) given.now.schedule.now) (standing_of state.old) (state.new.done - state.old.done) }
+    ensures ok { OnOk result (state.new.done ≡ state.old.done + moves) }
+    ensures within { (state.old.done ≤ state.new.done) × (state.new.done ≤ state.old.done + moves) }
+{
+    'moves: for made in 0..moves {
+        make_move(alloc, given, state)?;
+    }
+    Ok(())
+}
+
+/// How many moves the running stage still has.
+pub(crate) fn moves_left(schedule: &Schedule, state: &State) -> u64
+    requires inside { state.now.ended ≡ false → state.now.stage.done < schedule.now.moves }
+    requires place { state.now.done ≡ state.now.stage.index * schedule.now.moves + state.now.stage.done }
+    ensures { result ≡ left_at schedule.now.moves state.now.done (heat_of state.now.ended state.now.stage.t) }
+{
+    if state.ended {
+        0
+    } else {
+        schedule.moves() - state.stage.done
+    }
+}
+
+/// What is kept before the first move.
+pub(crate) fn first_state(
+    alloc: Global,
+    design: &Design,
+    grid: &Grid,
+    fixed: &Fixed,
+    schedule: &Schedule,
+    placement: Placement,
+) -> Result<State, AllocError>
+    requires legal { IsLegal design.now grid.now fixed.now placement.sites }
+    requires array { placement.grid ≡ grid.now }
+    ensures sound { IfOk result (λ s. (words : ℕ → List ℕ) → IsSound (run design.now grid.now fixed.now words schedule.now) s) }
+    ensures stands { IfOk result (λ s. (words : ℕ → List ℕ) → standing_of s ≡ at_start (run design.now grid.now fixed.now words schedule.now) placement.sites) }
+    ensures accepted { IfOk result (λ s. s.accepted.items ≡ []) }
+{
+    let _moves = schedule.moves();
+    let cost = EdgeBoxes::new(alloc, design, grid, &placement)?;
+    Ok(State {
+        placement,
+        cost,
+        stage: schedule.first(side_of(grid)),
+        ended: false,
+        done: 0,
+        total: 0,
+        accepted: Vec::new(alloc),
+    })
+}

@@ -1,0 +1,5 @@
+pub mod Ranges
+pub mod Nearby
+pub mod Targets
+pub mod Choices
+pub mod Judgements

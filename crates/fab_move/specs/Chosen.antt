@@ -1,0 +1,14 @@
+-- Blocks that there may be (our own).
+use Rattle.std.specs.Prelude.{ℕ, Bool, false, List, Option, Some, None}
+use Rattle.fab_arch.specs.declared.array.Site.{Site}
+use Rattle.fab_net.specs.declared.pieces.BlockId.{BlockId}
+use Rattle.fab_move.specs.Propose.{is_fixed}
+
+abbrev pub number_of : Option BlockId → Option ℕ
+number_of None = None
+number_of (Some b) = Some b.0
+
+-- the block, if there is one, is fixed
+abbrev pub holder_is_fixed : List (Option Site) → Option BlockId → Bool
+holder_is_fixed fixed None = false
+holder_is_fixed fixed (Some b) = is_fixed fixed b.0

@@ -1,0 +1,6 @@
+pub mod Stream
+pub mod Accept
+pub mod Propose
+pub mod Sides
+pub mod Chosen
+pub mod Judge

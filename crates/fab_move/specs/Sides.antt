@@ -1,0 +1,22 @@
+-- The positions near a pad's: on each side of the array one run of them (our own).
+use Rattle.std.specs.Prelude.{ℕ, ◌≡◌, ◌+◌, List, [], ◌∷◌, ◌++◌, map, reverse, refl}
+use Rattle.std.specs.List.{range_with_len}
+use Rattle.fab_move.specs.declared.runs.Run.{Run}
+use Rattle.fab_move.specs.declared.runs.Window.{Window}
+
+abbrev pub numbers : Run → List ℕ
+numbers r = range_with_len r.first r.count
+
+-- positions up the left side, along the top, down the right side and back along the bottom
+abbrev pub side_by_side : ℕ → ℕ → List ℕ → List ℕ → List ℕ → List ℕ → List (ℕ × ℕ)
+side_by_side nx ny left top right bottom =
+    map (λ i. (0, i)) left
+    ++ map (λ i. (i, ny + 1)) top
+    ++ reverse (map (λ i. (nx + 1, i)) right)
+    ++ reverse (map (λ i. (i, 0)) bottom)
+
+abbrev pub positions : Window → List (ℕ × ℕ)
+positions w = side_by_side w.nx w.ny (numbers w.left) (numbers w.top) (numbers w.right) (numbers w.bottom)
+
+pub round_a_corner : side_by_side 2 2 (1 ∷ 2 ∷ []) [] [] (1 ∷ 2 ∷ []) ≡ (0, 1) ∷ (0, 2) ∷ (2, 0) ∷ (1, 0) ∷ []
+round_a_corner = refl

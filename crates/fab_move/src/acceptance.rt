@@ -1,0 +1,62 @@
+//! Whether a change of cost is accepted.
+
+ghost use Rattle.std.specs.Prelude.{◌≡◌, ◌*◌, ◌/◌, ◌<◌};
+ghost use Rattle.fab_move.specs.Accept.{chance_of, is_accepted, millionths};
+
+/// The chance of a change of so many whole temperatures, in millionths; beyond it there is none.
+const WHOLE_CHANCES: [u32; 15] = [
+    1_000_000, 367_879, 135_335, 49_787, 18_316, 6_738, 2_479, 912, 335, 123, 45, 17, 6, 2, 1,
+];
+
+/// The factor of so many sixteenths of a temperature more, in millionths.
+const SIXTEENTH_CHANCES: [u32; 16] = [
+    1_000_000, 939_413, 882_497, 829_029, 778_801, 731_616, 687_289, 645_649, 606_531, 569_783,
+    535_261, 502_832, 472_367, 443_747, 416_862, 391_606,
+];
+
+#[tactic(auto, unfolding(crate::specs::Accept::is_accepted))]
+/// Whether a change of cost is accepted at a temperature `t`, both in ten-thousandths, by the word `w`. What makes
+/// nothing worse is; at temperature 0 nothing else is.
+pub fn accepts(delta: i64, t: u64, w: u32) -> bool
+    ensures { result ≡ is_accepted delta t w }
+{
+    if delta <= 0 {
+        true
+    } else if t == 0 {
+        false
+    } else {
+        fraction(w) < chance(sixteenths(delta as u64, t))
+    }
+}
+
+/// A word as a fraction of one, in millionths.
+fn fraction(w: u32) -> u64
+    ensures { result ≡ millionths w }
+{
+    (u64::from(w) * 1_000_000) >> 32
+}
+
+/// A change of cost in sixteenths of the temperature, rounded down.
+fn sixteenths(delta: u64, t: u64) -> u128
+    requires { 0 < t }
+    ensures { result ≡ 16 * delta / t }
+{
+    if delta < 1 << 59 {
+        u128::from(16 * delta / t)
+    } else {
+        16 * u128::from(delta) / u128::from(t)
+    }
+}
+
+#[tactic(auto, unfolding(crate::specs::Accept::chance_of))]
+/// The chance of a change of so many sixteenths of a temperature, in millionths.
+fn chance(z: u128) -> u64
+    ensures { result ≡ chance_of z }
+{
+    if z < 240 {
+        u64::from(WHOLE_CHANCES[z as usize / 16]) * u64::from(SIXTEENTH_CHANCES[z as usize % 16])
+            / 1_000_000
+    } else {
+        0
+    }
+}

@@ -1,0 +1,117 @@
+//! Judging a move on a view.
+
+ghost use Rattle.std.specs.Prelude.{◌≡◌, ℕ, ◌<◌, ◌++◌, length, map, false, pos, None, Some, IfOk, OnOk};
+ghost use Rattle.fab_site.specs.Placement.{IsLegal, IsSwapOf};
+ghost use Rattle.fab_move.specs.declared.marks.Mark.TheVariants.{Net as net_mark};
+ghost use Rattle.fab_move.specs.declared.proposals.Proposal.TheVariants.{Move as proposes};
+ghost use Rattle.fab_move.specs.Judge.{block_marks, footprint as footprint_is, judged, problem, says};
+
+use crate::acceptance::accepts;
+use crate::marks::{Footprint, Mark};
+use crate::proposals::{Proposal, propose};
+use crate::verdicts::{Verdict, View};
+use fab_cost::WireCost;
+use fab_net::{BlockId, Design, NetId};
+use fab_site::{Swap, Words};
+use smallvec::SmallVec;
+use std::alloc::{AllocError, Global};
+
+/// Judges a move on a view: what it proposes, what that makes of the cost, whether it is accepted, and what all this
+/// rests on. The placement is legal and the wire cost stands for it by condition.
+pub fn judge<C: WireCost, W: Words>(
+    alloc: Global,
+    view: &View<'_, C, W>,
+    k: u64,
+) -> Result<Verdict, AllocError>
+    requires legal { IsLegal view.now.design.now view.now.grid.now view.now.fixed.now view.now.placement.now.sites }
+    requires array { view.now.placement.now.grid ≡ view.now.grid.now }
+    requires stands { C.StandsFor view.now.cost.now view.now.design.now view.now.grid.now view.now.placement.now.sites }
+    ensures number { IfOk result (λ v. v.k ≡ k) }
+    ensures lawful { IfOk result (λ v. (s : Swap) → v.swap ≡ Some s → IsSwapOf view.now.placement.now.grid view.now.placement.now.sites s) }
+    ensures judged { IfOk result (λ v. says v ≡ judged (problem view.now.design.now view.now.grid.now view.now.fixed.now (W.moves view.now.words.now)) view.now.placement.now.sites k view.now.t view.now.range) }
+{
+    let words = view.words.move_words(k);
+    let proposal = propose(
+        view.design,
+        view.grid,
+        view.fixed,
+        view.placement,
+        view.range,
+        words,
+    );
+    let footprint = footprint_of(alloc, view.design, proposal)?;
+    match proposal {
+        Proposal::Move(swap) => {
+            let delta = view
+                .cost
+                .delta(view.design, view.grid, view.placement, &swap);
+            Ok(Verdict {
+                k,
+                swap: Some(swap),
+                delta,
+                accepted: accepts(delta, view.t, words[3]),
+                footprint,
+            })
+        }
+        Proposal::Nothing => Ok(without_swap(k, footprint)),
+        Proposal::Void(_, _) => Ok(without_swap(k, footprint)),
+    }
+}
+
+/// What comes of a move that proposes no swap.
+fn without_swap(k: u64, footprint: Footprint) -> Verdict
+    ensures number { result.k ≡ k }
+    ensures says { says result ≡ record { swap = None; change = pos 0; accepted = false; footprint = footprint.items } }
+{
+    Verdict {
+        k,
+        swap: None,
+        delta: 0,
+        accepted: false,
+        footprint,
+    }
+}
+
+/// What a proposal rests on.
+fn footprint_of(alloc: Global, design: &Design, proposal: Proposal) -> Result<Footprint, AllocError>
+    requires block { (s : Swap) → proposal ≡ proposes s → s.block.0 < length design.now.kinds }
+    requires other { (s : Swap) (b : BlockId) → proposal ≡ proposes s → s.other ≡ Some b → b.0 < length design.now.kinds }
+    ensures { IfOk result (λ f. f.items ≡ footprint_is design.now proposal) }
+{
+    let mut footprint = SmallVec::new(alloc);
+    match proposal {
+        Proposal::Nothing => {}
+        Proposal::Void(block, target) => {
+            footprint.push(Mark::Place(target))?;
+            footprint.push(Mark::Block(block))?;
+        }
+        Proposal::Move(swap) => {
+            footprint.push(Mark::Place(swap.to))?;
+            push_block(&mut footprint, design, swap.block)?;
+            if let Some(other) = swap.other {
+                push_block(&mut footprint, design, other)?;
+            }
+        }
+    }
+    Ok(footprint)
+}
+
+/// Adds a block and its nets.
+fn push_block(footprint: &mut Footprint, design: &Design, block: BlockId) -> Result<(), AllocError>
+    requires { block.0 < length design.now.kinds }
+    ensures { OnOk result (footprint.new.items ≡ footprint.old.items ++ block_marks design.now block) }
+{
+    footprint.push(Mark::Block(block))?;
+    push_nets(footprint, design.nets_of(block))?;
+    Ok(())
+}
+
+/// Adds nets.
+fn push_nets(footprint: &mut Footprint, nets: &[NetId]) -> Result<(), AllocError>
+    ensures { OnOk result (footprint.new.items ≡ footprint.old.items ++ map net_mark nets.now) }
+{
+    for net in nets {
+        footprint.push(Mark::Net(*net))?;
+    }
+    Ok(())
+}

@@ -1,0 +1,18 @@
+//! Moves: their random words, what they propose, and what comes of it.
+#![tactic(auto)]
+
+pub mod acceptance;
+pub mod judging;
+pub mod marks;
+pub mod proposals;
+mod runs;
+pub mod stream_words;
+pub mod verdicts;
+mod windows;
+
+pub use acceptance::accepts;
+pub use judging::judge;
+pub use marks::{Footprint, Mark};
+pub use proposals::{Proposal, propose};
+pub use stream_words::StreamWords;
+pub use verdicts::{Verdict, View};

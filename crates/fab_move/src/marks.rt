@@ -1,0 +1,26 @@
+//! The marks of moves: what a judgement rests on, and what an accepted swap touches.
+
+use fab_arch::Site;
+use fab_net::{BlockId, NetId};
+use smallvec::SmallVec;
+
+/// A thing that a judgement rests on, or that an accepted swap touches.
+#[derive(Clone, Copy, Debug, PartialEq, Eq)]
+pub enum Mark {
+    /// A block.
+    Block(BlockId),
+    /// A site.
+    Place(Site),
+    /// A net that is not global.
+    Net(NetId),
+}
+
+/// What fills an inline place that is not in use.
+impl Default for Mark {
+    fn default() -> Mark {
+        Mark::Net(NetId(0))
+    }
+}
+
+/// The marks that a judgement rests on. Those of swaps of two blocks with a dozen nets each stay inline.
+pub type Footprint = SmallVec<Mark, 28>;

@@ -1,0 +1,75 @@
+//! The random words of a seed, from the ChaCha cipher.
+
+ghost use Rattle.std.specs.Prelude.{◌≡◌, ℕ, ◌+◌, ◌*◌, ◌<◌, ◌^◌};
+ghost use Rattle.fab_move.specs.Stream.{cipher_seed, stream_moves, stream_starts, stream_word};
+
+use fab_site::Words;
+use rand_chacha::ChaCha8Rng;
+use rand_core::SeedableRng;
+use rand_core::utils::NextWord;
+use std::marker::Model;
+
+/// The words that a seed gives: the same on every machine.
+#[derive(Drop)]
+pub struct StreamWords {
+    seed: u64,
+    cipher_seed: [u8; 32],
+}
+
+impl Model for StreamWords {
+    ghost use Rattle.std.specs.Prelude.{ℕ, ◌≡◌};
+    ghost use Rattle.fab_move.specs.Stream.{cipher_seed as cipher_seed_of};
+
+    ghost Value = { ℕ };
+
+    ghost view = { λ w. w.seed };
+
+    ghost invariant = { λ w. w.cipher_seed ≡ cipher_seed_of w.seed };
+}
+
+impl StreamWords {
+    /// The words of a seed.
+    pub fn new(seed: u64) -> StreamWords
+        ensures { result ≡ seed }
+    {
+        StreamWords {
+            seed,
+            cipher_seed: cipher_seed_of(seed),
+        }
+    }
+}
+
+impl Words for StreamWords {
+    ghost moves = { λ w. stream_moves w };
+
+    ghost starts = { λ w. stream_starts w };
+
+    fn move_words(&self, k: u64) -> [u32; 4] {
+        let mut stream = ChaCha8Rng::from_seed(self.cipher_seed);
+        stream.set_word_pos(16 * u128::from(k));
+        [
+            stream.next_word(),
+            stream.next_word(),
+            stream.next_word(),
+            stream.next_word(),
+        ]
+    }
+
+    fn start_word(&self, i: u32) -> u32 {
+        let mut stream = ChaCha8Rng::from_seed(self.cipher_seed);
+        stream.set_stream(1);
+        stream.set_word_pos(u128::from(i));
+        stream.next_word()
+    }
+}
+
+/// The seed of the cipher: the eight bytes of the number, the lowest first, and zeros.
+fn cipher_seed_of(seed: u64) -> [u8; 32]
+    ensures { result ≡ cipher_seed seed }
+{
+    let low = seed.to_le_bytes();
+    [
+        low[0], low[1], low[2], low[3], low[4], low[5], low[6], low[7], 0, 0, 0, 0, 0, 0, 0, 0, 0,
+        0, 0, 0, 0, 0, 0, 0, 0, 0, 0, 0, 0, 0, 0, 0,
+    ]
+}

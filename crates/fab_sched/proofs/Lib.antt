@@ -1,0 +1,2 @@
+pub mod Cubes
+pub mod Falling

@@ -1,0 +1,3 @@
+pub mod Annealing
+pub mod Examples
+pub mod Roots

@@ -1,0 +1,12 @@
+//! Annealing schedules: the temperatures and ranges of the stages, and how many moves a stage has.
+#![tactic(auto)]
+
+pub mod fault;
+pub mod move_count;
+pub mod schedules;
+#[cfg(test)]
+mod tests;
+
+pub use fault::SchedFault;
+pub use move_count::moves_of;
+pub use schedules::{Cooling, Schedule, Stage, stages_are_lawful};
