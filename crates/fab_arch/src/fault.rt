@@ -5,11 +5,11 @@ ghost use Rattle.fab_arch.specs.FaultTexts.{arch_fault_text, grid_fault_text};
 ghost use Rattle.fab_arch.specs.declared.fault.ArchFault.TheVariants.{NoMemory};
 
 use std::alloc::{AllocError, AllocFailed};
-use std::error::Error;
 use std::fmt;
+use thiserror::Error;
 
 /// Why a text is no architecture: its first fault. A number is that of the faulty line.
-#[derive(Clone, Copy, Debug, PartialEq, Eq)]
+#[derive(Clone, Copy, Debug, PartialEq, Eq, Error)]
 pub enum ArchFault {
     /// No line gives the pads for each position.
     NoIoRat,
@@ -43,8 +43,6 @@ impl fmt::Display for ArchFault {
     }
 }
 
-impl Error for ArchFault {}
-
 impl From<AllocError> for ArchFault {
     ghost from_gives = { λ _ e. e ≡ NoMemory };
 
@@ -62,7 +60,7 @@ impl<T: Drop> From<AllocFailed<T>> for ArchFault {
 }
 
 /// Why there is no such array, or why blocks do not fit on one.
-#[derive(Clone, Copy, Debug, PartialEq, Eq)]
+#[derive(Clone, Copy, Debug, PartialEq, Eq, Error)]
 pub enum GridFault {
     /// There are more logic blocks than logic sites.
     TooFewLogicSites,
@@ -84,4 +82,3 @@ impl fmt::Display for GridFault {
     }
 }
 
-impl Error for GridFault {}

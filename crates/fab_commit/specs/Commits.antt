@@ -57,13 +57,14 @@ standing_of s =
       total = s.total;
     }
 
--- the stage can be one of the run's, with moves left; after the last move it is an empty one behind the frozen stage
+-- the stage can be one of the run's, with moves left; after the last move it is an empty one behind the frozen stage, whose
+-- temperature nobody reads
 abbrev pub StageStands : Plan → ℕ → Bool → Stage → Type 0
 StageStands p side false s = IsStage p side s × (s.done < p.moves)
 StageStands p side true s =
     (1000 ≤ s.range) × (s.range ≤ 1000 * side) × (s.done ≡ 0) × (s.accepted ≡ 0) × ((x : ℕ) × (s.index ≡ x + 1) × MayStand p x 0)
 
--- what a stage becomes by one more of its moves: the parts of the standing after it
+-- what a stage becomes by one more of its moves: the parts of the standing after it, by the stage's own counts
 pub record IsAdvanced (p : Plan) (side : ℕ) (s : Stage) (yes : Bool) (next : Stage) (ended : Bool) : Type 0 where
   pub accepted : next.accepted ≡ (if s.done + 1 == p.moves then 0 else s.accepted + one_if yes)
   pub range : next.range ≡ (if s.done + 1 == p.moves then next_range p side s.range (s.accepted + one_if yes) else s.range)

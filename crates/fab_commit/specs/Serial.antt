@@ -1,6 +1,7 @@
--- Annealing one move at a time (VPR manual's user schedule; Betz, Rose and Marquardt): a fold over placements, in which no
--- box, batch or worker occurs. Each change of cost is two whole sums over all nets.
-use Rattle.std.specs.Prelude.{ℕ, ◌≡◌, zero, suc, ◌+◌, ◌-◌, ◌*◌, ◌/◌, ◌%◌, ◌≤◌, max, Bool, if◌then◌else◌, ◌==◌, List, [], ◌∷◌, ◌++◌, Option, Some, None, is_some}
+-- Annealing one move at a time (Betz, Rose and Marquardt; VPR manual's user schedule, or VPR's cooling by acceptance): a
+-- fold over standings, in which no kept box, batch or worker occurs. Each change of cost is two whole sums over all nets
+-- that are not global.
+use Rattle.std.specs.Prelude.{ℕ, ◌≡◌, zero, suc, ◌+◌, ◌-◌, ◌*◌, ◌/◌, ◌%◌, ◌≤◌, max, Bool, if◌then◌else◌, ◌==◌, List, [], ◌∷◌, ◌++◌, Option, Some, None, is_some, refl}
 use Rattle.fab_arch.specs.declared.array.Site.{Site}
 use Rattle.fab_site.specs.Placement.{IsLegal}
 use Rattle.fab_move.specs.Judge.{Problem, Judged, judged, moved}
@@ -40,7 +41,7 @@ at_start r sites =
 abbrev pub one_if : Bool → ℕ
 one_if b = if b then 1 else 0
 
--- one more move is made, with this answer; at the end of a stage the next begins
+-- one more move is made, with this answer; at the end of a stage the next begins, if there is one
 abbrev pub after_move : Run → Standing → Judged → Standing
 after_move r x j =
     let over = (x.done + 1) % r.plan.moves == 0 in
@@ -58,7 +59,7 @@ abbrev pub or_zero : Option ℕ → ℕ
 or_zero None = 0
 or_zero (Some t) = t
 
--- move k, on the placement as it stands
+-- move k of the running stage, on the placement as it stands
 abbrev pub judged_here : Run → Standing → ℕ → Judged
 judged_here r x k = judged r.problem x.sites k (or_zero x.heat) x.range
 
@@ -83,6 +84,7 @@ abbrev pub accepted_among : Run → Standing → ℕ → List ℕ
 accepted_among r x zero = []
 accepted_among r x (suc n) = accepted_here r x ++ accepted_among r (step r x) n
 
+-- how many of a stage's moves are left after n moves of the run: none where it is over
 abbrev pub left_at : ℕ → ℕ → Option ℕ → ℕ
 left_at moves n None = 0
 left_at moves n (Some t) = moves - n % moves
@@ -91,12 +93,12 @@ left_at moves n (Some t) = moves - n % moves
 abbrev pub moves_left : Run → Standing → ℕ
 moves_left r x = left_at r.plan.moves x.done x.heat
 
--- what the schedule can have at this temperature after n moves; after the last one a frozen stage has just ended
+-- the schedule can have this temperature after n moves, and none only where a frozen stage has just ended
 abbrev pub HeatStands : Plan → ℕ → Option ℕ → Type 0
 HeatStands p n (Some t) = MayStand p (n / p.moves) t
 HeatStands p n None = (x : ℕ) × (n ≡ (x + 1) * p.moves) × MayStand p x 0
 
--- the standing can be one of the run's
+-- the standing fits the run
 pub record IsStanding (r : Run) (x : Standing) : Type 0 where
   pub legal : IsLegal r.problem.design r.problem.grid r.problem.fixed x.sites
   pub range : (1000 ≤ x.range) × (x.range ≤ 1000 * side r)
@@ -119,3 +121,12 @@ stage_at p x (Some t) =
 -- the running stage, none after the last move
 abbrev pub stage_of : Run → Standing → Option Stage
 stage_of r x = stage_at r.plan x x.heat
+
+pub one_of_three_left : left_at 3 5 (Some 0) ≡ 1
+one_of_three_left = refl
+
+pub a_whole_stage_left : left_at 3 6 (Some 0) ≡ 3
+a_whole_stage_left = refl
+
+pub nothing_left : left_at 3 6 None ≡ 0
+nothing_left = refl

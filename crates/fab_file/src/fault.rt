@@ -5,11 +5,11 @@ ghost use Rattle.fab_file.specs.FaultTexts.{place_fault_text};
 ghost use Rattle.fab_file.specs.declared.fault.PlaceFault.TheVariants.{NoMemory};
 
 use std::alloc::{AllocError, AllocFailed};
-use std::error::Error;
 use std::fmt;
+use thiserror::Error;
 
 /// Why a text stands for no placement, or why none was written: its first fault. A number is that of the faulty line.
-#[derive(Clone, Copy, Debug, PartialEq, Eq)]
+#[derive(Clone, Copy, Debug, PartialEq, Eq, Error)]
 pub enum PlaceFault {
     /// One of the first two lines is not the header, or is missing.
     BadHeader,
@@ -60,8 +60,6 @@ impl fmt::Display for PlaceFault {
         }
     }
 }
-
-impl Error for PlaceFault {}
 
 impl From<AllocError> for PlaceFault {
     ghost from_gives = { λ _ e. e ≡ NoMemory };

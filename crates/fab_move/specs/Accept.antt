@@ -69,3 +69,11 @@ something_worse_at_temperature_0 = refl
 pub something_better : is_accepted (negsuc 4) 0 4294967295 ≡ true
 unfolding is_accepted
 something_better = refl
+
+pub just_below_fifteen_temperatures : chance_of 239 ≡ 0
+unfolding chance_of
+just_below_fifteen_temperatures = refl
+
+pub hardly_worse_at_the_highest_temperature : is_accepted (pos 1) 1073741824 4294967295 ≡ true
+unfolding is_accepted chance_of
+hardly_worse_at_the_highest_temperature = refl

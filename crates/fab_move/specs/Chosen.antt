@@ -1,4 +1,4 @@
--- Blocks that there may be (our own).
+-- The block that is chosen, and the one that holds a target, if there is one (our own).
 use Rattle.std.specs.Prelude.{ℕ, Bool, false, List, Option, Some, None}
 use Rattle.fab_arch.specs.declared.array.Site.{Site}
 use Rattle.fab_net.specs.declared.pieces.BlockId.{BlockId}

@@ -1,5 +1,6 @@
--- What a move comes to on a placement, and what its judgement rests on (that moves whose marks do not meet may be judged
--- in any order is after Kravitz and Rutenbar; which marks there are, our own).
+-- What a move comes to on a placement, what its judgement rests on, and what an accepted swap touches (that a judgement
+-- still holds where no accepted swap touched what it rests on is after Kravitz and Rutenbar; which marks there are, our
+-- own).
 use Rattle.std.specs.Prelude.{ℕ, ℤ, pos, ◌≡◌, Bool, true, false, if◌then◌else◌, ◌==◌, List, [], ◌∷◌, ◌++◌, map, Option, Some, None, slice_index, codes, refl}
 use Rattle.std.specs.List.{list_any}
 use Rattle.fab_arch.specs.declared.array.Site.{Site}
@@ -18,7 +19,8 @@ use Rattle.fab_move.specs.declared.proposals.Proposal.TheVariants.{Nothing, Void
 use Rattle.fab_move.specs.Propose.{proposal}
 use Rattle.fab_move.specs.Accept.{is_accepted}
 
--- what moves are made of: a design on an array, its fixed blocks by number, and the words of each move
+-- what moves are made of: a design on an array, its fixed blocks by number, and of each move four words, which the type
+-- of what gives them keeps below 2^32
 pub record Problem : Type 0 where
   pub design : Netlist
   pub grid : GridShape
@@ -49,7 +51,8 @@ abbrev pub other_marks : Netlist → Option BlockId → List Mark
 other_marks d None = []
 other_marks d (Some b) = block_marks d b
 
--- what a proposal rests on: its target, its blocks, and their nets
+-- what a proposal rests on: its target and its block, and for a swap also the block on the target, and the nets of both;
+-- as a list in this order, though only the set counts
 abbrev pub footprint : Netlist → Proposal → List Mark
 footprint d Nothing = []
 footprint d (Void b to) = Place to ∷ Block b ∷ []
@@ -66,7 +69,7 @@ pub record Judged : Type 0 where
   pub accepted : Bool
   pub footprint : List Mark
 
--- what a verdict says of its move
+-- what a verdict says of its move, beside the move's number
 abbrev pub says : Verdict → Judged
 says v = record { swap = v.swap; change = v.delta; accepted = v.accepted; footprint = v.footprint.items }
 
@@ -109,9 +112,13 @@ the_footprint_of_a_swap = refl
 pub a_void_move_has_a_footprint : footprint two_blocks (Void (record { 0 = 0 }) (site 1 1 0)) ≡ Place (site 1 1 0) ∷ Block (record { 0 = 0 }) ∷ []
 a_void_move_has_a_footprint = refl
 
--- two moves meet in a net alone
+-- the marks of two blocks meet in a net alone
 pub marks_meet_in_a_net : meet (block_marks two_blocks (record { 0 = 0 })) (block_marks two_blocks (record { 0 = 1 })) ≡ true
 marks_meet_in_a_net = refl
 
 pub marks_of_other_sites_do_not_meet : meet (Place (site 1 1 0) ∷ []) (Place (site 2 1 0) ∷ Block (record { 0 = 0 }) ∷ []) ≡ false
 marks_of_other_sites_do_not_meet = refl
+
+-- an accepted swap touches the site that its block left too
+pub a_swap_touches_both_sites : touched two_blocks to_the_other ≡ Place (site 1 1 0) ∷ footprint two_blocks (Move to_the_other)
+a_swap_touches_both_sites = refl

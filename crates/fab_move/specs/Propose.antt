@@ -111,3 +111,13 @@ a_fixed_holder = refl
 pub all_blocks_fixed : proposal clock_and_two (shape 2 2 1) (Some (site 0 1 0) ∷ Some (site 1 1 0) ∷ Some (site 2 2 0) ∷ []) three_sites 2000 (0 ∷ 0 ∷ 0 ∷ 0 ∷ []) ≡ Nothing
 unfolding proposal target
 all_blocks_fixed = refl
+
+-- the last word picks the last position of the window, behind the corner
+pub a_pad_goes_round_the_corner : proposal clock_and_two (shape 2 2 1) [] three_sites 1000 (0 ∷ 4294967295 ∷ 0 ∷ 0 ∷ []) ≡ Move (record { block = record { 0 = 0 }; from = site 0 1 0; to = site 1 0 0; other = None })
+unfolding proposal target
+a_pad_goes_round_the_corner = refl
+
+-- the block that is fixed is left out: the second word picks among the two others
+pub a_fixed_block_is_not_chosen : proposal clock_and_two (shape 2 2 1) (Some (site 0 1 0) ∷ []) three_sites 2000 (0 ∷ half ∷ 0 ∷ 0 ∷ []) ≡ Move (record { block = record { 0 = 1 }; from = site 1 1 0; to = site 2 1 0; other = None })
+unfolding proposal target
+a_fixed_block_is_not_chosen = refl

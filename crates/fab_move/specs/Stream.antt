@@ -12,7 +12,7 @@ cipher_seed seed = to_le_bytes w64 seed ++ replicate 24 0
 abbrev pub stream_word : ℕ → ℕ → ℕ → ℕ
 stream_word seed stream place = word_at 4 (key_of (cipher_seed seed)) stream place
 
--- the four words of a move: the first four of a block of stream 0
+-- the four words of move k: the first four of block k of stream 0
 abbrev pub stream_moves : ℕ → ℕ → List ℕ
 stream_moves seed k =
     stream_word seed 0 (16 * k) ∷ stream_word seed 0 (16 * k + 1) ∷ stream_word seed 0 (16 * k + 2) ∷ stream_word seed 0 (16 * k + 3) ∷ []

@@ -6,12 +6,12 @@ ghost use Rattle.fab_net.specs.declared.fault.NetFault.TheVariants.{NoMemory};
 
 use fab_text::Span;
 use std::alloc::{AllocError, AllocFailed};
-use std::error::Error;
 use std::fmt;
+use thiserror::Error;
 
 /// Why a text is no netlist: its first fault. A number is that of the faulty line, a span the place of a name in
 /// the text.
-#[derive(Clone, Copy, Debug, PartialEq, Eq)]
+#[derive(Clone, Copy, Debug, PartialEq, Eq, Error)]
 pub enum NetFault {
     /// A line begins with none of the words of a netlist.
     UnknownWord(u64),
@@ -59,8 +59,6 @@ impl fmt::Display for NetFault {
         }
     }
 }
-
-impl Error for NetFault {}
 
 impl From<AllocError> for NetFault {
     ghost from_gives = { λ _ e. e ≡ NoMemory };

@@ -10,11 +10,11 @@ use fab_file::PlaceFault;
 use fab_net::NetFault;
 use fab_text::{Span, WriteFault};
 use std::alloc::{AllocError, AllocFailed, Global};
-use std::error::Error;
 use std::fmt;
+use thiserror::Error;
 
 /// Why a run gave no answer: the first fault of what it was given, or what it lacked.
-#[derive(Clone, Copy, Debug, PartialEq, Eq)]
+#[derive(Clone, Copy, Debug, PartialEq, Eq, Error)]
 pub enum RunFault {
     /// The architecture text is faulty.
     Arch(ArchFault),
@@ -48,8 +48,6 @@ impl fmt::Display for RunFault {
         }
     }
 }
-
-impl Error for RunFault {}
 
 impl From<AllocError> for RunFault {
     ghost from_gives = { λ _ e. e ≡ NoMemory };

@@ -57,8 +57,8 @@ hot p t = if nat_lt t p.exit then 0 else t
 unfoldable pub next_range : Plan → ℕ → ℕ → ℕ → ℕ
 next_range p side range accepted = max 1000 (min (1000 * side) (range * (560 * p.moves + 1000 * accepted) / (1000 * p.moves)))
 
--- VPR's factor by the share of accepted moves: fast where nearly all or few of them are accepted, slow in between, and
--- while the range is still above 1
+-- VPR's factor by the share of accepted moves: fast where nearly all of them are accepted, slow in between, and where few
+-- are accepted slow while the range is above 1, and else fast again
 unfoldable pub adaptive_factor : ℕ → ℕ → ℕ → ℕ
 adaptive_factor moves range accepted =
     if nat_lt (96 * moves) (100 * accepted) then 500 else
@@ -121,7 +121,8 @@ abbrev pub MayStandBy : Cooling → Plan → ℕ → ℕ → Type 0
 MayStandBy (Factor f) p x t = heat_by p f x ≡ Some t
 MayStandBy Adaptive p x t = MayCoolTo p x t
 
--- the schedule has a stage x at temperature t, in some run
+-- stage x may be at temperature t: for a factor, exactly where it is; else wherever a temperature can be that fell by at
+-- least one unit with each stage, which is more than VPR's factors reach
 abbrev pub MayStand : Plan → ℕ → ℕ → Type 0
 MayStand p x t = MayStandBy p.cooling p x t
 
@@ -133,7 +134,7 @@ IsLastBy Adaptive p x = x ≡ (if nat_lt p.init p.exit then 0 else p.init - p.ex
 abbrev pub IsLastIndex : Plan → ℕ → Type 0
 IsLastIndex p x = IsLastBy p.cooling p x
 
--- a stage as a run may have it, on an array with this longer side
+-- a stage as a run may have it, perhaps with all its moves made, on an array with this longer side
 pub record IsStage (p : Plan) (side : ℕ) (s : Stage) : Type 0 where
   pub stands : MayStand p s.index s.t
   pub range : (1000 ≤ s.range) × (s.range ≤ 1000 * side)
