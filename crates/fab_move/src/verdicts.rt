@@ -7,6 +7,7 @@ use fab_site::{Fixed, Placement, Swap};
 
 /// What a judgement looks at: a placement with its wire cost, the words of all moves, and the running stage's
 /// temperature, in ten-thousandths, and range, in thousandths. It is lent, and nothing of it is changed.
+#[derive(Drop)]
 pub struct View<'a, C, W> {
     pub design: &'a Design,
     pub grid: &'a Grid,
