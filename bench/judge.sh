@@ -16,7 +16,7 @@ use fab_arch::{Grid, read_arch};
 use fab_cost::EdgeBoxes;
 use fab_move::{StreamWords, View, judge};
 use fab_net::{Design, read_net};
-use fab_site::{Fixed, Pins, Placement, start};
+use fab_site::{Fixed, Pins, Placement, is_legal, start};
 use std::alloc::{AllocError, Global};
 use std::time::Instant;
 
@@ -65,30 +65,71 @@ fn accepted(alloc: Global, view: &View<'_, EdgeBoxes, StreamWords>) -> Result<u6
     Ok(accepted)
 }
 
-fn bench(rt: &HostRuntime, side: u16, blocks: u32) -> anyhow::Result<()> {
-    let alloc = rt.alloc();
+// How many microseconds judging takes on a view.
+fn timed(rt: &HostRuntime, view: &View<'_, EdgeBoxes, StreamWords>) -> anyhow::Result<u64>
+    requires legal { IsLegal view.now.design.now view.now.grid.now view.now.fixed.now view.now.placement.now.sites }
+    requires array { view.now.placement.now.grid ≡ view.now.grid.now }
+    requires stands { CountedStandsFor view.now.cost.now view.now.design.now view.now.grid.now view.now.placement.now.sites }
+{
+    let begun = Instant::now(rt)?;
+    let accepted = accepted(rt.alloc(), view)?;
+    let taken = begun.elapsed(rt)?.as_micros();
+    println!(rt; "moves {MOVES} accepted {accepted} us {taken}")?;
+    Ok(accepted)
+}
+
+// A design on an array.
+#[derive(Drop)]
+struct Placed {
+    design: Design,
+    grid: Grid,
+    fixed: Fixed,
+    placement: Placement,
+    ghost array: { placement.grid ≡ grid },
+}
+
+fn placed_at_start(alloc: Global, side: u16, blocks: u32) -> anyhow::Result<Placed> {
     let design = design(alloc, blocks)?;
     let grid = Grid::new(side, side, 1)?;
     grid.holds(design.logic_blocks(), design.pads())?;
+    let placement = start(alloc, &design, &grid, &no_pins(alloc), &StreamWords::new(1))?;
+    Ok(Placed {
+        design,
+        grid,
+        fixed: Fixed::none(alloc),
+        placement,
+    })
+}
+
+fn judge_all(rt: &HostRuntime, placed: &Placed, range: u64) -> anyhow::Result<u64> {
+    let Placed {
+        design,
+        grid,
+        fixed,
+        placement,
+    } = placed;
+    if !is_legal(design, grid, fixed, placement) {
+        return Ok(0);
+    }
+    let cost = EdgeBoxes::new(rt.alloc(), design, grid, placement)?;
     let words = StreamWords::new(1);
-    let pins = no_pins(alloc);
-    let placement = start(alloc, &design, &grid, &pins, &words)?;
-    let cost = EdgeBoxes::new(alloc, &design, &grid, &placement)?;
     let view = View {
-        design: &design,
-        grid: &grid,
-        fixed: &pins.fixed,
-        placement: &placement,
+        design,
+        grid,
+        fixed,
+        placement,
         cost: &cost,
         words: &words,
         t: 100_000,
-        range: 1000 * u64::from(side),
+        range,
     };
-    let begun = Instant::now(rt)?;
-    let accepted = accepted(alloc, &view)?;
-    let taken = begun.elapsed(rt)?.as_micros();
-    println!(rt; "side {side} blocks {blocks} moves {MOVES} accepted {accepted} in {taken} us")?;
-    Ok(())
+    timed(rt, &view)
+}
+
+fn bench(rt: &HostRuntime, side: u16, blocks: u32) -> anyhow::Result<u64> {
+    print!(rt; "side {side} blocks {blocks} ")?;
+    let placed = placed_at_start(rt.alloc(), side, blocks)?;
+    judge_all(rt, &placed, 1000 * u64::from(side))
 }
 
 fn main(rt: HostRuntime) -> anyhow::Result<()> {
