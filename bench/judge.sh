@@ -56,10 +56,10 @@ fn accepted(alloc: Global, view: &View<'_, EdgeBoxes, StreamWords>) -> Result<u6
     requires array { view.now.placement.now.grid ≡ view.now.grid.now }
     requires stands { CountedStandsFor view.now.cost.now view.now.design.now view.now.grid.now view.now.placement.now.sites }
 {
-    let mut accepted = 0;
+    let mut accepted: u64 = 0;
     for k in 0..MOVES {
         if judge(alloc, view, k)?.accepted {
-            accepted += 1;
+            accepted = accepted.saturating_add(1);
         }
     }
     Ok(accepted)

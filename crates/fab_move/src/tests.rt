@@ -133,13 +133,6 @@ fn one_move(alloc: Global, starts: &[u32], words: [u32; 4]) -> Result<ListWords,
     })
 }
 
-// The line of move 0 with these words, with a range over all of an array of 2 by 2.
-fn told(alloc: Global, placed: &Placed, words: [u32; 4], t: u64) -> Result<String, Fail> {
-    let words = one_move(alloc, &[], words)?;
-    let verdict = judged(alloc, placed, &words, 0, t, 2000)?;
-    Ok(line_of(alloc, &verdict)?)
-}
-
 // A clock pad and two logic blocks on an array of 2 by 2, on the first of their sites.
 fn clock_and_two(alloc: Global) -> Result<Placed, Fail> {
     let arch = b"io_rat 1\ninpin class: 0 global top\n";
@@ -213,37 +206,37 @@ fn changes_are_accepted_by_the_tables(rt: HostRuntime) {
     }
 }
 
-// What the second block does at a temperature.
-fn second_block(alloc: Global, t: u64) -> Result<String, Fail> {
-    told(alloc, &clock_and_two(alloc)?, [HALF, HALF, HALF, 0], t)
-}
-
 #[test]
 fn two_blocks_change_places(rt: HostRuntime) -> Result<(), Fail> {
+    let alloc = rt.alloc();
+    let placed = clock_and_two(alloc)?;
+    let words = one_move(alloc, &[], [HALF, HALF, HALF, 0])?;
     let wanted = "b1 1.1.0 2.2.0 b2 0 yes: 2.2.0 b1 b2";
-    assert_eq!(rt; second_block(rt.alloc(), 0)?.as_str(), wanted);
-    assert_eq!(rt; second_block(rt.alloc(), 1)?.as_str(), wanted);
-    assert_eq!(rt; second_block(rt.alloc(), 1_000_000)?.as_str(), wanted);
+    for t in [0, 1, 1_000_000] {
+        let verdict = judged(alloc, &placed, &words, 0, t, 2000)?;
+        assert_eq!(rt; line_of(alloc, &verdict)?.as_str(), wanted);
+    }
     Ok(())
-}
-
-// What these words propose to two blocks across.
-fn proposed_across(alloc: Global, words: [u32; 4]) -> Result<Option<Proposal>, Fail> {
-    Ok(proposed(&two_drivers(alloc, &[])?, 2000, words))
 }
 
 #[test]
 fn words_choose_block_and_target(rt: HostRuntime) -> Result<(), Fail> {
-    let first = Proposal::Move(swap(0, site(1, 1, 0), site(2, 1, 0), None));
-    let second = Proposal::Move(swap(1, site(2, 2, 0), site(2, 1, 0), None));
-    let stays = Proposal::Void(BlockId(0), site(1, 1, 0));
-    for (words, wanted) in [
-        ([0, HALF, 0, 0], first),
-        ([HALF, HALF, 0, 0], second),
-        ([0; 4], stays),
-    ] {
-        assert_eq!(rt; proposed_across(rt.alloc(), words)?, Some(wanted));
-    }
+    let alloc = rt.alloc();
+    let placed = two_drivers(alloc, &[])?;
+    let alone = swap(0, site(1, 1, 0), site(2, 1, 0), None);
+    assert_eq!(rt;
+        proposed(&placed, 2000, [0, HALF, 0, 0]),
+        Some(Proposal::Move(alone))
+    );
+    let alone = swap(1, site(2, 2, 0), site(2, 1, 0), None);
+    assert_eq!(rt;
+        proposed(&placed, 2000, [HALF, HALF, 0, 0]),
+        Some(Proposal::Move(alone))
+    );
+    assert_eq!(rt;
+        proposed(&placed, 2000, [0; 4]),
+        Some(Proposal::Void(BlockId(0), site(1, 1, 0)))
+    );
     Ok(())
 }
 
@@ -267,17 +260,23 @@ fn a_fixed_logic_block_stays(rt: HostRuntime) -> Result<(), Fail> {
     assert_eq!(rt; proposed(&fixed, 2000, [0; 4]), Some(held));
     // The only block that may move is taken by any word.
     assert_eq!(rt; proposed(&fixed, 2000, [MOST, 0, 0, 0]), Some(held));
-    let up = told(alloc, &fixed, [0, 0, HALF, 0], 0)?;
-    assert_eq!(rt; up.as_str(), "b0 2.1.0 1.2.0 0 yes: 1.2.0 b0 n0");
+    let words = one_move(alloc, &[], [0, 0, HALF, 0])?;
+    let verdict = judged(alloc, &fixed, &words, 0, 0, 2000)?;
+    assert_eq!(rt;
+        line_of(alloc, &verdict)?.as_str(),
+        "b0 2.1.0 1.2.0 0 yes: 1.2.0 b0 n0"
+    );
     Ok(())
 }
 
 #[test]
 fn a_block_that_is_only_begun_is_swapped(rt: HostRuntime) -> Result<(), Fail> {
     let alloc = rt.alloc();
-    let both = told(alloc, &two_beside(alloc)?, [0; 4], 0)?;
+    let begun = two_beside(alloc)?;
+    let words = one_move(alloc, &[], [0; 4])?;
+    let verdict = judged(alloc, &begun, &words, 0, 0, 2000)?;
     let wanted = "b0 2.1.0 1.1.0 b1 0 yes: 1.1.0 b0 n0 b1 n1";
-    assert_eq!(rt; both.as_str(), wanted);
+    assert_eq!(rt; line_of(alloc, &verdict)?.as_str(), wanted);
     Ok(())
 }
 
@@ -287,8 +286,10 @@ fn nothing_is_proposed_where_no_block_may_move(rt: HostRuntime) -> Result<(), Fa
     let nothing = Some(Proposal::Nothing);
     assert_eq!(rt; proposed(&all_fixed(alloc)?, 2000, [HALF; 4]), nothing);
     assert_eq!(rt; proposed(&empty(alloc)?, 2000, [HALF; 4]), nothing);
-    let verdict = told(alloc, &empty(alloc)?, [0; 4], 10000)?;
-    assert_eq!(rt; verdict.as_str(), "- 0 no:");
+    let words = one_move(alloc, &[], [0; 4])?;
+    let verdict = judged(alloc, &empty(alloc)?, &words, 7, 10000, 1000)?;
+    assert_eq!(rt; verdict.k, 7);
+    assert_eq!(rt; line_of(alloc, &verdict)?.as_str(), "- 0 no:");
     Ok(())
 }
 
