@@ -7,6 +7,8 @@ pub mod marks;
 pub mod proposals;
 mod runs;
 pub mod stream_words;
+#[cfg(test)]
+mod tests;
 pub mod verdicts;
 mod windows;
 
