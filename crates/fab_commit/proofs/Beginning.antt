@@ -4,9 +4,9 @@ use Rattle.std.proofs.lemmas.Nat.{mod-mul-add, div-mul-add}
 use Rattle.fab_arch.specs.declared.array.Site.{Site}
 use Rattle.fab_cost.specs.Swapping.{CountedStandsFor}
 use Rattle.fab_site.specs.Placement.{IsLegal}
-use Rattle.fab_sched.specs.Annealing.{IsStage, first_stage}
+use Rattle.fab_sched.specs.Annealing.{IsStage, MayStand, first_stage}
 use Rattle.fab_commit.specs.declared.states.State.{State}
-use Rattle.fab_commit.specs.Serial.{Run, side, at_start, left_at, stage_at, stage_of}
+use Rattle.fab_commit.specs.Serial.{Run, HeatStands, IsStanding, side, at_start, left_at, stage_at, stage_of}
 use Rattle.fab_commit.specs.Commits.{IsSound, heat_of, standing_of, StageStands}
 use Rattle.fab_commit.proofs.Committing.{going}
 
@@ -70,3 +70,31 @@ stage_told r s sound e =
 
 pub nothing_told : (r : Run) (s : State) → s.ended ≡ true → None ≡ stage_of r (standing_of s)
 nothing_told r s e = sym (ap (λ b. stage_at r.plan (standing_of s) (heat_of b s.stage.t)) e)
+
+-- what is kept together stands where a run can stand
+pub standing_is : (r : Run) (s : State) (b : Bool) → IsSound r s → s.ended ≡ b → IsStanding r (standing_of s)
+standing_is r s false sound e =
+    let g = going r s sound e in
+    let index : s.done / r.plan.moves ≡ s.stage.index = ap (λ k. k / r.plan.moves) sound.place ∙ div-mul-add s.stage.index r.plan.moves s.stage.done g.1 in
+    let done : s.done % r.plan.moves ≡ s.stage.done = ap (λ k. k % r.plan.moves) sound.place ∙ mod-mul-add s.stage.index r.plan.moves s.stage.done g.1 in
+    let few = g.0.accepted in
+    record {
+      legal = sound.legal;
+      range = g.0.range;
+      accepted = omega (arith, done, few);
+      total = sound.counted;
+      heat = subst (λ c. HeatStands r.plan s.done (heat_of c s.stage.t)) (sym e) (subst (λ i. MayStand r.plan i s.stage.t) (sym index) g.0.stands);
+    }
+standing_is r s true sound e =
+    let k = subst (λ b. StageStands r.plan (side r) b s.stage) e sound.stage in
+    let none = k.3 in
+    record {
+      legal = sound.legal;
+      range = (k.0, k.1);
+      accepted = omega (arith, none);
+      total = sound.counted;
+      heat = subst (λ c. HeatStands r.plan s.done (heat_of c s.stage.t)) (sym e) (k.4.0, sound.place ∙ placed s.stage.index s.stage.done r.plan.moves k.4.0 k.2 k.4.1, k.4.2);
+    }
+  where
+    placed : (i d m x : ℕ) → d ≡ 0 → i ≡ x + 1 → i * m + d ≡ (x + 1) * m
+    placed i d m x p q = grind (arith, p, q)

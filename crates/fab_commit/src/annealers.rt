@@ -73,7 +73,9 @@ impl<'a, W: Words + Drop> Anneal<'a, W> {
 
     /// How many moves are made.
     pub fn done(&self) -> u64
-        ensures { result ≡ self.now.standing.done }
+        ensures value { result ≡ self.now.standing.done }
+        // Where it stands is a lawful place of its run.
+        ensures lawful { IsStanding (run_of W.moves self.now) self.now.standing }
     {
         self.state.done
     }

@@ -1,2 +1,4 @@
 pub mod Checking
 pub mod Readers
+pub mod Pieces
+pub mod Telling

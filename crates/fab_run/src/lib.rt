@@ -3,6 +3,8 @@
 
 pub mod check;
 pub mod fault;
+mod report;
+mod stages;
 #[cfg(test)]
 mod tests;
 

@@ -168,7 +168,7 @@ range_within : (p : Plan) (side range accepted : ℕ) → 1 ≤ side → (1000 �
 unfolding next_range
 range_within p side range accepted some = (omega arith, omega arith)
 
-factor_small : (c : Cooling) (moves range accepted : ℕ) → IsCooling c → factor_by c moves range accepted ≤ 999
+pub factor_small : (c : Cooling) (moves range accepted : ℕ) → IsCooling c → factor_by c moves range accepted ≤ 999
 unfolding adaptive_factor
 factor_small (Factor f) moves range accepted is = is.1
 factor_small Adaptive moves range accepted is = grind (arith, nat_tests)

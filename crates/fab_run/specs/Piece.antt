@@ -1,0 +1,43 @@
+-- A run from its first move to its last: what it reports of the moves made one at a time (our own).
+use Rattle.std.specs.Prelude.{ℕ, ◌≡◌, zero, suc, ◌+◌, ◌/◌, if◌then◌else◌, ◌==◌, List, [], ◌∷◌, ◌++◌, None}
+use Rattle.fab_cost.specs.Cost.{cost_of}
+use Rattle.fab_commit.specs.Serial.{Run, Standing, from, judged_here, moves_left, one_if, or_zero, step}
+use Rattle.fab_run.specs.RunReport.{blocks_line, start_line, stage_line, final_line}
+
+-- the wire cost where a run stands: one sum over all nets, from positions alone
+abbrev pub cost_at : Run → Standing → ℕ
+cost_at r x = cost_of r.problem.design r.problem.grid x.sites
+
+-- the line of the running stage, where the next move is its last one
+abbrev pub line_here : Run → Standing → List ℕ
+line_here r x =
+    if moves_left r x == 1 then
+    stage_line (x.done / r.plan.moves) (or_zero x.heat) x.range r.plan.moves (x.accepted + one_if (judged_here r x x.done).accepted) (cost_at r (step r x))
+    else []
+
+-- the lines of the stages that end among the next n moves
+abbrev pub stage_lines : Run → Standing → ℕ → List ℕ
+stage_lines r x zero = []
+stage_lines r x (suc n) = line_here r x ++ stage_lines r (step r x) n
+
+abbrev pub cost_here : Run → Standing → List ℕ
+cost_here r x = if moves_left r x == 1 then cost_at r (step r x) ∷ [] else []
+
+-- the costs at the ends of these stages
+abbrev pub stage_costs : Run → Standing → ℕ → List ℕ
+stage_costs r x zero = []
+stage_costs r x (suc n) = cost_here r x ++ stage_costs r (step r x) n
+
+-- after n moves no move is left
+abbrev pub IsOver : Run → Standing → ℕ → Type 0
+IsOver r x n = (from r x n).heat ≡ None
+
+-- the report of a run from its first standing, which is over after n moves
+abbrev pub run_report : Run → Standing → ℕ → List ℕ
+run_report r x n =
+    blocks_line r.problem.design r.problem.grid ++ start_line (cost_at r x) ++ stage_lines r x n
+    ++ final_line (cost_at r (from r x n)) (from r x n).total (from r x n).done
+
+-- the cost at the start, and those at the ends of the stages
+abbrev pub run_costs : Run → Standing → ℕ → List ℕ
+run_costs r x n = cost_at r x ∷ stage_costs r x n

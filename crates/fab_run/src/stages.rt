@@ -1,0 +1,83 @@
+//! The stages of a run, one after another, each told as it ends.
+
+ghost use Rattle.std.specs.Prelude.{◌≡◌, ◌≢◌, ℕ, ◌+◌, ◌-◌, ◌⊎◌, ◌≤◌, ◌++◌, Some, OnOk, OnErr, IfOk, IfErr, None, take};
+ghost use Rattle.std.specs.Io.KnownBytes.{Appends};
+ghost use Rattle.fab_text.specs.Failures.{grown};
+ghost use Rattle.fab_sched.specs.Annealing.{IsCooling};
+ghost use Rattle.fab_commit.specs.Serial.{accepted_among, from, moves_left, stage_of};
+ghost use Rattle.fab_commit.specs.Commits.{IsSameRun, run_of};
+ghost use Rattle.fab_run.specs.Piece.{stage_costs, stage_lines};
+ghost use Rattle.fab_run.specs.declared.fault.RunFault.TheVariants.{Report, NoMemory};
+
+use crate::fault::RunFault;
+use crate::report::stage_line;
+use fab_commit::Anneal;
+use fab_sched::Stage;
+use fab_site::Words;
+use fab_text::{Sink, write_whole};
+use std::alloc::{AllocError, Global};
+
+/// Makes the moves that are left in the running stage. The answer is the line that tells of the stage; its cost stands
+/// last among the costs.
+fn end_stage<V: Words + Drop>(
+    alloc: Global,
+    anneal: &mut Anneal<'_, V>,
+    stage: Stage,
+    moves: u64,
+    costs: &mut Vec<u64>,
+) -> Result<Vec<u8>, AllocError>
+    requires stage { Some stage ≡ stage_of (run_of V.moves anneal.old) anneal.old.standing }
+    requires moves { moves ≡ anneal.old.plan.moves }
+    requires some { 1 ≤ moves }
+    ensures same { IsSameRun anneal.old anneal.new }
+    ensures stands { OnOk result (anneal.new.standing ≡ from (run_of V.moves anneal.old) anneal.old.standing (moves_left (run_of V.moves anneal.old) anneal.old.standing)) }
+    ensures done { OnOk result (anneal.new.standing.done ≡ anneal.old.standing.done + moves_left (run_of V.moves anneal.old) anneal.old.standing) }
+    ensures accepted { OnOk result (anneal.new.accepted ≡ anneal.old.accepted ++ accepted_among (run_of V.moves anneal.old) anneal.old.standing (moves_left (run_of V.moves anneal.old) anneal.old.standing)) }
+    ensures costs { OnOk result (costs.new.items ≡ costs.old.items ++ stage_costs (run_of V.moves anneal.old) anneal.old.standing (moves_left (run_of V.moves anneal.old) anneal.old.standing)) }
+    ensures line { IfOk result (λ v. v.items ≡ stage_lines (run_of V.moves anneal.old) anneal.old.standing (moves_left (run_of V.moves anneal.old) anneal.old.standing)) }
+{
+    let before = anneal.total();
+    let _begun = anneal.done();
+    anneal.turn_alone(alloc, moves)?;
+    let _made = anneal.done();
+    let cost = anneal.cost();
+    let accepted = stage.accepted + (anneal.total() - before);
+    costs.push(cost)?;
+    stage_line(
+        alloc,
+        stage.index,
+        stage.t,
+        stage.range,
+        moves,
+        accepted,
+        cost,
+    )
+}
+
+/// Makes all moves that are left, each stage told as it ends.
+pub(crate) fn anneal_all<V: Words + Drop, W: Sink>(
+    alloc: Global,
+    anneal: &mut Anneal<'_, V>,
+    moves: u64,
+    report: &mut W,
+    costs: &mut Vec<u64>,
+) -> Result<(), RunFault>
+    requires moves { moves ≡ anneal.old.plan.moves }
+    requires some { 1 ≤ moves }
+    requires cooling { IsCooling anneal.old.plan.cooling }
+    ensures same { IsSameRun anneal.old anneal.new }
+    ensures over { OnOk result (anneal.new.standing.heat ≡ None) }
+    ensures stands { OnOk result (anneal.new.standing ≡ from (run_of V.moves anneal.old) anneal.old.standing (anneal.new.standing.done - anneal.old.standing.done)) }
+    ensures accepted { OnOk result (anneal.new.accepted ≡ anneal.old.accepted ++ accepted_among (run_of V.moves anneal.old) anneal.old.standing (anneal.new.standing.done - anneal.old.standing.done)) }
+    ensures costs { OnOk result (costs.new.items ≡ costs.old.items ++ stage_costs (run_of V.moves anneal.old) anneal.old.standing (anneal.new.standing.done - anneal.old.standing.done)) }
+    ensures told { OnOk result (Appends (W.contents report.old) (W.contents report.new) (stage_lines (run_of V.moves anneal.old) anneal.old.standing (anneal.new.standing.done - anneal.old.standing.done))) }
+    ensures cut { OnErr result ((n : ℕ) × (k : ℕ) × Appends (W.contents report.old) (W.contents report.new) (take k (stage_lines (run_of V.moves anneal.old) anneal.old.standing n))) }
+    ensures sound { OnOk result (W.failed report.new ≡ W.failed report.old) }
+    ensures fault { IfErr result (λ e. ((e ≡ NoMemory) × (W.failed report.new ≡ W.failed report.old)) ⊎ ((e ≡ Report) × (W.failed report.new ≡ grown (W.failed report.old)))) }
+{
+    while let Some(stage) = anneal.stage() {
+        let line = end_stage(alloc, anneal, stage, moves, costs)?;
+        write_whole(report, &line)?;
+    }
+    Ok(())
+}
