@@ -120,7 +120,7 @@ fn main(rt: HostRuntime) -> anyhow::Result<()> {
 }
 MAIN
 cd "$work/repo/crates/bench_moves"
-rt run > "$work/log" 2>&1 || { cat "$work/log" >&2; exit 1; }
+rt run -- "$designs/c880_ble.arch" "$designs/c880_ble.net" 1 > "$work/log" 2>&1 || { cat "$work/log" >&2; exit 1; }
 for name in $names; do
     for _ in 1 2 3 4 5; do
         out/bench_moves "$designs/$name.arch" "$designs/$name.net" "$moves" | sed "s/^/ours $name /"
