@@ -3,6 +3,8 @@
 
 pub mod annealers;
 mod states;
+#[cfg(test)]
+mod tests;
 pub mod turns;
 
 pub use annealers::Anneal;
