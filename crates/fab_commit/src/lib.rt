@@ -2,8 +2,10 @@
 #![tactic(auto)]
 
 pub mod annealers;
+pub mod events;
 mod states;
 pub mod turns;
 
 pub use annealers::Anneal;
+pub use events::{Event, Way, every_schedule_is_serial};
 pub use turns::Turn;
