@@ -4,3 +4,8 @@ pub mod Committing
 pub mod Folding
 pub mod Turning
 pub mod Beginning
+pub mod Marked
+pub mod Sitings
+pub mod Changes
+pub mod Noninterference
+pub mod Worlds

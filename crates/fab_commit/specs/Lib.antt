@@ -1,2 +1,4 @@
 pub mod Serial
 pub mod Commits
+pub mod World
+pub mod EverySchedule

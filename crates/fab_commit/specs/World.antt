@@ -1,0 +1,186 @@
+-- Moves that are judged ahead on an older placement, by any number of workers, in any order (that moves whose sets do not
+-- interact may be made in any order is after Kravitz and Rutenbar; the rest our own).
+use Rattle.std.specs.Prelude.{ℕ, ◌+◌, ◌-◌, ◌*◌, ◌/◌, max, Bool, not, if◌then◌else◌, nat_lt, nat_le, ◌&&◌, ◌||◌, ◌==◌, List, [], ◌∷◌, ◌++◌, Option, Some, None}
+use Rattle.std.specs.List.{list_any, filter, range_with_len}
+use Rattle.fab_net.specs.Netlist.{Netlist}
+use Rattle.fab_site.specs.declared.pieces.Swap.{Swap}
+use Rattle.fab_move.specs.declared.marks.Mark.{Mark}
+use Rattle.fab_move.specs.Judge.{Judged, meet, touched}
+use Rattle.fab_commit.specs.declared.events.Way.{Way}
+use Rattle.fab_commit.specs.declared.events.Way.TheVariants.{Taken, Redone, Late}
+use Rattle.fab_commit.specs.declared.events.Event.{Event}
+use Rattle.fab_commit.specs.declared.events.Event.TheVariants.{Claim, Judge, Lose, Commit, Refresh}
+use Rattle.fab_commit.specs.Serial.{Run, Standing, after_move, judged_here}
+
+pub record Claimed : Type 0 where
+  pub worker : ℕ
+  pub number : ℕ
+
+pub record Verdict : Type 0 where
+  pub worker : ℕ
+  pub number : ℕ
+  pub base : ℕ  -- the moves done in the placement that it was judged on
+  pub judged : Judged
+
+pub record Accepted : Type 0 where
+  pub number : ℕ
+  pub swap : Swap
+
+pub record World : Type 0 where
+  pub live : Standing
+  pub older : Standing  -- what workers judge on
+  pub claims : List Claimed
+  pub verdicts : List Verdict
+  pub accepted : List Accepted
+
+-- nothing is claimed or judged yet
+abbrev pub world : Standing → World
+world x = record { live = x; older = x; claims = []; verdicts = []; accepted = [] }
+
+abbrev pub stage_end_at : Run → ℕ → Option ℕ → ℕ
+stage_end_at p n None = n
+stage_end_at p n (Some t) = (n / p.plan.moves + 1) * p.plan.moves
+
+-- the end of the running stage
+abbrev pub stage_end : Run → Standing → ℕ
+stage_end p x = stage_end_at p x.done x.heat
+
+-- that of the older placement
+abbrev pub end : Run → World → ℕ
+end p w = stage_end p w.older
+
+-- an accepted swap from the base on touched one of the marks
+abbrev pub clash : Netlist → List Accepted → ℕ → List Mark → Bool
+clash d log base marks = list_any (λ (a : Accepted). nat_le base a.number && meet (touched d a.swap) marks) log
+
+abbrev pub is_claimed : ℕ → List Claimed → Bool
+is_claimed k claims = list_any (λ (c : Claimed). k == c.number) claims
+
+abbrev pub claim_of : ℕ → List Claimed → Option ℕ
+claim_of worker [] = None
+claim_of worker (c ∷ rest) = if c.worker == worker then Some c.number else claim_of worker rest
+
+abbrev pub verdict_for : ℕ → List Verdict → Option Verdict
+verdict_for k [] = None
+verdict_for k (v ∷ rest) = if v.number == k then Some v else verdict_for k rest
+
+abbrev pub is_judged : ℕ → List Verdict → Bool
+is_judged k verdicts = list_any (λ (v : Verdict). k == v.number) verdicts
+
+abbrev pub without_worker : ℕ → List Claimed → List Claimed
+without_worker worker claims = filter (λ (c : Claimed). not (c.worker == worker)) claims
+
+abbrev pub without_number : ℕ → List Verdict → List Verdict
+without_number k verdicts = filter (λ (v : Verdict). not (v.number == k)) verdicts
+
+-- the first of these numbers with no claim and no verdict
+abbrev pub first_free : List Claimed → List Verdict → List ℕ → Option ℕ
+first_free claims verdicts [] = None
+first_free claims verdicts (k ∷ rest) =
+    if is_claimed k claims || is_judged k verdicts then first_free claims verdicts rest else Some k
+
+abbrev pub open_numbers : Run → World → List ℕ
+open_numbers p w = range_with_len w.live.done (end p w - w.live.done)
+
+abbrev pub claimed : World → ℕ → Option ℕ → World
+claimed w worker None = w
+claimed w worker (Some k) = record w { claims = w.claims ++ record { worker = worker; number = k } ∷ [] }
+
+-- a worker without a claim takes the first number that is free
+abbrev pub claimed_by : Run → World → ℕ → Option ℕ → World
+claimed_by p w worker None = claimed w worker (first_free w.claims w.verdicts (open_numbers p w))
+claimed_by p w worker (Some k) = w
+
+abbrev pub verdict : Run → World → ℕ → ℕ → Verdict
+verdict p w worker k =
+    record { worker = worker; number = k; base = w.older.done; judged = judged_here p w.older k }
+
+-- the worker's claim is dropped where its move is done, and else judged
+abbrev pub judged_claim : Run → World → ℕ → Option ℕ → World
+judged_claim p w worker None = w
+judged_claim p w worker (Some k) =
+    record {
+      live = w.live;
+      older = w.older;
+      claims = without_worker worker w.claims;
+      verdicts = if nat_lt k w.live.done then w.verdicts else w.verdicts ++ verdict p w worker k ∷ [];
+      accepted = w.accepted;
+    }
+
+-- one more than the greatest number of the worker's verdicts, or 0
+abbrev pub above_all : ℕ → List Verdict → ℕ
+above_all worker [] = 0
+above_all worker (v ∷ rest) = if v.worker == worker then max (v.number + 1) (above_all worker rest) else above_all worker rest
+
+abbrev pub lost_verdict : World → ℕ → World
+lost_verdict w worker =
+    record w { verdicts = filter (λ (v : Verdict). not (v.worker == worker && v.number + 1 == above_all worker w.verdicts)) w.verdicts }
+
+abbrev pub lost : World → ℕ → Option ℕ → World
+lost w worker None = lost_verdict w worker
+lost w worker (Some k) = record w { claims = without_worker worker w.claims }
+
+-- the verdict that stands for the next move, where no accepted swap since its base touched what it rests on
+abbrev pub usable : Run → World → Option Verdict → Option Verdict
+usable p w None = None
+usable p w (Some v) = if clash p.problem.design w.accepted v.base v.judged.footprint then None else Some v
+
+abbrev pub verdict_here : World → Option Verdict
+verdict_here w = verdict_for w.live.done w.verdicts
+
+-- the verdict's own answer, else the move on the live placement
+abbrev pub answer : Run → World → Option Verdict → Judged
+answer p w None = judged_here p w.live w.live.done
+answer p w (Some v) = v.judged
+
+abbrev pub accepted_as : ℕ → Option Swap → List Accepted
+accepted_as k None = []
+accepted_as k (Some s) = record { number = k; swap = s } ∷ []
+
+abbrev pub accepted_now : ℕ → Judged → List Accepted
+accepted_now k j = if j.accepted then accepted_as k j.swap else []
+
+abbrev pub committed : Run → World → Judged → World
+committed p w j =
+    record {
+      live = after_move p w.live j;
+      older = w.older;
+      claims = w.claims;
+      verdicts = without_number w.live.done w.verdicts;
+      accepted = w.accepted ++ accepted_now w.live.done j;
+    }
+
+-- the next move can be committed
+abbrev pub can_commit : Run → World → Bool
+can_commit p w = nat_lt w.live.done (end p w)
+
+abbrev pub commit : Run → World → World
+commit p w = committed p w (answer p w (usable p w (verdict_here w)))
+
+-- what happens to the world; what does not apply changes nothing
+abbrev pub happens : Run → World → Event → World
+happens p w (Claim worker) =
+    claimed_by p w worker (claim_of worker w.claims)
+happens p w (Judge worker) = judged_claim p w worker (claim_of worker w.claims)
+happens p w (Lose worker) = lost w worker (claim_of worker w.claims)
+happens p w Commit = if can_commit p w then commit p w else w
+happens p w Refresh = record w { older = w.live }
+
+abbrev pub run_through : Run → World → List Event → World
+run_through p w [] = w
+run_through p w (e ∷ events) = run_through p (happens p w e) events
+
+-- how a commit got its answer
+abbrev pub way_of : Option Verdict → Option Verdict → Way
+way_of found (Some v) = Taken
+way_of None None = Late
+way_of (Some v) None = Redone
+
+abbrev pub ways_now : Run → World → Event → List Way
+ways_now p w Commit = if can_commit p w then way_of (verdict_here w) (usable p w (verdict_here w)) ∷ [] else []
+ways_now p w _ = []
+
+-- the ways of the moves that the events commit, in order
+abbrev pub ways : Run → World → List Event → List Way
+ways p w [] = []
+ways p w (e ∷ events) = ways_now p w e ++ ways p (happens p w e) events
