@@ -93,6 +93,7 @@ passed blocks row j before entries counts t lt is k zero s =
           let v : get_or counts t.block.0 0 ≡ pins_at t.block.0 row = s.left t.block.0 k ∙ (λ i. cond (n i) 0 (pins_at t.block.0 row)) in
           absurd (omega (arith, v, zero, here row j t lt is))
     ]
+
     same : (b : ℕ) → b < blocks → list_any (is_at b) (take (j + 1) row) ≡ list_any (is_at b) (take j row)
     same b bl = elim (cases_Bool (eqb t.block.0 b)) [
       | inl h ↦
@@ -119,6 +120,7 @@ taken blocks row j before entries counts t lt is k some s =
       | inl y ↦ absurd (some (s.left t.block.0 k ∙ (λ i. cond (y i) 0 (pins_at t.block.0 row))))
       | inr n ↦ n
     ]
+
     at : (b : ℕ) → b < blocks
         → (get_or (set counts t.block.0 0) b 0 ≡ cond (list_any (is_at b) (take (j + 1) row)) 0 (pins_at b row))
         × (row_of (entries ++ (t.block.0, get_or counts t.block.0 0) ∷ []) b ≡ row_of before b ++ cond (list_any (is_at b) (take (j + 1) row)) (pins_at b row ∷ []) [])
@@ -129,15 +131,17 @@ taken blocks row j before entries counts t lt is k some s =
           let no : list_any (is_at b) (take j row) ≡ false = ap (λ x. list_any (is_at x) (take j row)) (sym e) ∙ none in
           let any : list_any (is_at b) (take (j + 1) row) ≡ true = one_more row j b t lt is ∙ rw (no, h) refl in
           let r : row_of entries b ≡ row_of before b = s.rows b bl ∙ ap (λ x. row_of before b ++ cond x (pins_at b row ∷ []) []) no ∙ append-nil (row_of before b) in
-          let count : get_or counts t.block.0 0 ≡ pins_at b row = ap (λ x. get_or counts x 0) e ∙ s.left b bl ∙ (λ i. cond (no i) 0 (pins_at b row)) in
-          (v ∙ (λ i. cond (sym any i) 0 (pins_at b row)),
-          row_push entries t.block.0 b (get_or counts t.block.0 0) ∙ ap (λ x. row_of entries b ++ cond x (get_or counts t.block.0 0 ∷ []) []) h ∙ (λ i. r i ++ count i ∷ []) ∙ ap (λ x. row_of before b ++ cond x (pins_at b row ∷ []) []) (sym any))
+          let count : get_or counts t.block.0 0 ≡ pins_at b row = ap (λ x. get_or counts x 0) e ∙ s.left b bl ∙ (λ i. cond (no i) 0 (pins_at b row)) in (
+            v ∙ (λ i. cond (sym any i) 0 (pins_at b row)),
+            row_push entries t.block.0 b (get_or counts t.block.0 0) ∙ ap (λ x. row_of entries b ++ cond x (get_or counts t.block.0 0 ∷ []) []) h ∙ (λ i. r i ++ count i ∷ []) ∙ ap (λ x. row_of before b ++ cond x (pins_at b row ∷ []) []) (sym any),
+          )
       | inr h ↦
           let ne = eqb-false t.block.0 b h in
           let v : get_or (set counts t.block.0 0) b 0 ≡ get_or counts b 0 = get_or-set_other counts t.block.0 b 0 0 (λ e. ne (sym e)) in
-          let any : list_any (is_at b) (take (j + 1) row) ≡ list_any (is_at b) (take j row) = one_more row j b t lt is ∙ or_false (list_any (is_at b) (take j row)) (eqb t.block.0 b) h in
-          (v ∙ s.left b bl ∙ (λ i. cond (sym any i) 0 (pins_at b row)),
-          row_push entries t.block.0 b (get_or counts t.block.0 0) ∙ ap (λ x. row_of entries b ++ cond x (get_or counts t.block.0 0 ∷ []) []) h ∙ append-nil (row_of entries b) ∙ s.rows b bl ∙ ap (λ x. row_of before b ++ cond x (pins_at b row ∷ []) []) (sym any))
+          let any : list_any (is_at b) (take (j + 1) row) ≡ list_any (is_at b) (take j row) = one_more row j b t lt is ∙ or_false (list_any (is_at b) (take j row)) (eqb t.block.0 b) h in (
+            v ∙ s.left b bl ∙ (λ i. cond (sym any i) 0 (pins_at b row)),
+            row_push entries t.block.0 b (get_or counts t.block.0 0) ∙ ap (λ x. row_of entries b ++ cond x (get_or counts t.block.0 0 ∷ []) []) h ∙ append-nil (row_of entries b) ∙ s.rows b bl ∙ ap (λ x. row_of before b ++ cond x (pins_at b row ∷ []) []) (sym any),
+          )
     ]
 
 -- once all terminals were passed, nothing is counted
