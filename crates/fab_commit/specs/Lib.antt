@@ -1,4 +1,5 @@
 pub mod Serial
 pub mod Commits
 pub mod World
+pub mod WorldExamples
 pub mod EverySchedule
