@@ -4,7 +4,8 @@ use Rattle.fab_commit.specs.declared.events.Event.{Event}
 use Rattle.fab_commit.specs.Serial.{Run, Standing, judged_here, from}
 use Rattle.fab_commit.specs.World.{World, Verdict, world, run_through, ways, usable, verdict_here}
 
--- the verdict that a commit would take here is the next move on the live placement
+-- the verdict that a commit would take here is the next move on the live placement; as the law below holds for every list,
+-- it holds at each commit of a list, by what stands before it
 abbrev pub TakesTheMove : Run → World → Type 0
 TakesTheMove p w = (v : Verdict) → usable p w (verdict_here w) ≡ Some v → v.judged ≡ judged_here p w.live w.live.done
 

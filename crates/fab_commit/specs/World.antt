@@ -12,16 +12,19 @@ use Rattle.fab_commit.specs.declared.events.Event.{Event}
 use Rattle.fab_commit.specs.declared.events.Event.TheVariants.{Claim, Judge, Lose, Commit, Refresh}
 use Rattle.fab_commit.specs.Serial.{Run, Standing, after_move, judged_here}
 
+-- a worker holds this move
 pub record Claimed : Type 0 where
   pub worker : ℕ
   pub number : ℕ
 
+-- what a worker answered for a move
 pub record Verdict : Type 0 where
   pub worker : ℕ
   pub number : ℕ
   pub base : ℕ  -- the moves done in the placement that it was judged on
   pub judged : Judged
 
+-- a swap that was accepted, and the number of its move
 pub record Accepted : Type 0 where
   pub number : ℕ
   pub swap : Swap
@@ -41,11 +44,11 @@ abbrev pub stage_end_at : Run → ℕ → Option ℕ → ℕ
 stage_end_at p n None = n
 stage_end_at p n (Some t) = (n / p.plan.moves + 1) * p.plan.moves
 
--- the end of the running stage
+-- the number behind the last move of the running stage; after the last move of all, the number of moves
 abbrev pub stage_end : Run → Standing → ℕ
 stage_end p x = stage_end_at p x.done x.heat
 
--- that of the older placement
+-- no number from here on is claimed or committed before the older placement is renewed
 abbrev pub end : Run → World → ℕ
 end p w = stage_end p w.older
 
@@ -120,7 +123,8 @@ abbrev pub lost : World → ℕ → Option ℕ → World
 lost w worker None = lost_verdict w worker
 lost w worker (Some k) = record w { claims = without_worker worker w.claims }
 
--- the verdict that stands for the next move, where no accepted swap since its base touched what it rests on
+-- the verdict that stands for the next move, where no accepted swap since its base touched what it rests on; otherwise
+-- the move is judged again
 abbrev pub usable : Run → World → Option Verdict → Option Verdict
 usable p w None = None
 usable p w (Some v) = if clash p.problem.design w.accepted v.base v.judged.footprint then None else Some v
@@ -157,7 +161,8 @@ can_commit p w = nat_lt w.live.done (end p w)
 abbrev pub commit : Run → World → World
 commit p w = committed p w (answer p w (usable p w (verdict_here w)))
 
--- what happens to the world; what does not apply changes nothing
+-- what an event does; what does not apply changes nothing. A claim goes to a worker that holds none; a judgement uses the
+-- older placement; a commit makes the next move, before the end of the stage; a refresh renews the older placement
 abbrev pub happens : Run → World → Event → World
 happens p w (Claim worker) =
     claimed_by p w worker (claim_of worker w.claims)
@@ -170,7 +175,7 @@ abbrev pub run_through : Run → World → List Event → World
 run_through p w [] = w
 run_through p w (e ∷ events) = run_through p (happens p w e) events
 
--- how a commit got its answer
+-- how a commit got its answer, from the verdict that stood and the same one where it is usable
 abbrev pub way_of : Option Verdict → Option Verdict → Way
 way_of found (Some v) = Taken
 way_of None None = Late

@@ -91,3 +91,50 @@ a_worker_without_a_claim = refl
 pub the_older_placement_alone : happens two_moves after Refresh ≡ record after { older = after.live }
 unfolding judged proposal target change is_accepted cost_of net_cost net_box box_on half_perimeter cross_of clip next_range
 the_older_placement_alone = refl
+
+-- nor after the last one
+pub no_move_behind_the_last : ways two_moves after (Refresh ∷ Commit ∷ Claim 0 ∷ Commit ∷ []) ≡ []
+unfolding judged proposal target change is_accepted cost_of net_cost net_box box_on half_perimeter cross_of clip next_range
+no_move_behind_the_last = refl
+
+-- of two verdicts the later one is lost
+pub the_later_verdict_is_lost : outcome (Claim 0 ∷ Judge 0 ∷ Claim 0 ∷ Judge 0 ∷ Lose 0 ∷ Commit ∷ Commit ∷ []) ≡ both_made (Taken ∷ Late ∷ [])
+unfolding judged proposal target change is_accepted cost_of net_cost net_box box_on half_perimeter cross_of clip next_range
+the_later_verdict_is_lost = refl
+
+-- a claim that is lost is free for another worker
+pub a_lost_claim : outcome (Claim 0 ∷ Lose 0 ∷ Claim 1 ∷ Judge 1 ∷ Commit ∷ Commit ∷ []) ≡ both_made (Taken ∷ Late ∷ [])
+unfolding judged proposal target change is_accepted cost_of net_cost net_box box_on half_perimeter cross_of clip next_range
+a_lost_claim = refl
+
+-- a worker holds one claim
+pub a_second_claim : outcome (Claim 0 ∷ Claim 0 ∷ Claim 1 ∷ Judge 1 ∷ Commit ∷ Commit ∷ []) ≡ both_made (Late ∷ Redone ∷ [])
+unfolding judged proposal target change is_accepted cost_of net_cost net_box box_on half_perimeter cross_of clip next_range
+a_second_claim = refl
+
+-- one move a stage, a hot one and the frozen one
+abbrev two_stages : Run
+two_stages = record {
+  problem = two_moves.problem;
+  plan = plan_of 20000 20000 (Factor 500) 1;
+}
+
+abbrev stages_begin : World
+stages_begin = world (at_start two_stages (site 1 1 0 ∷ site 2 2 0 ∷ []))
+
+-- the next stage begins only on a fresh placement
+pub a_stage_ends : ways two_stages stages_begin (Commit ∷ Commit ∷ Claim 0 ∷ Judge 0 ∷ Refresh ∷ Commit ∷ []) ≡ Late ∷ Late ∷ []
+unfolding judged proposal target change is_accepted cost_of net_cost net_box box_on half_perimeter cross_of clip next_range
+a_stage_ends = refl
+
+-- the blocks stand apart, and the second is sent to its own site
+abbrev apart : Run
+apart = record {
+  problem = problem two_alone (shape 2 2 1) (None ∷ None ∷ []) (λ k. (if k == 0 then 0 else half) ∷ half ∷ (if k == 0 then 0 else half) ∷ 0 ∷ []);
+  plan = two_moves.plan;
+}
+
+-- a verdict of before an accepted move is taken where the two do not meet
+pub an_older_verdict_taken : ways apart (world (at_start apart (site 1 1 0 ∷ site 2 2 0 ∷ []))) judged_together ≡ Taken ∷ Taken ∷ []
+unfolding judged proposal target change is_accepted cost_of net_cost net_box box_on half_perimeter cross_of clip next_range
+an_older_verdict_taken = refl
