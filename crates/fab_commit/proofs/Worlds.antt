@@ -22,7 +22,7 @@ use Rattle.fab_cost.specs.Swapping.{swapped_by}
 use Rattle.fab_move.specs.Judge.{Problem, Judged, judged_as, judged, meet, touched, moved}
 use Rattle.fab_sched.specs.Annealing.{next_range, next_heat}
 use Rattle.fab_commit.specs.Serial.{Run, Standing, side, or_zero, after_move, judged_here, step, from, one_if}
-use Rattle.fab_commit.specs.World.{World, Verdict, Claimed, Accepted, world, stage_end, end, clash, claim_of, verdict_for, without_worker, without_number, is_claimed, is_judged, first_free, open_numbers, claimed, claimed_by, verdict, judged_claim, lost, above_all, usable, verdict_here, way_of, answer, accepted_as, accepted_now, committed, can_commit, commit, happens, run_through, ways, ways_now, stage_end_at}
+use Rattle.fab_commit.specs.World.{World, Verdict, Claimed, Accepted, world, stage_end, end, clash, claim_of, verdict_for, without_worker, without_number, is_claimed, is_judged, first_free, open_numbers, claimed, claimed_by, verdict, judged_claim, lost, is_last, usable, verdict_here, way_of, answer, accepted_as, accepted_now, committed, can_commit, commit, happens, run_through, ways, ways_now, stage_end_at}
 use Rattle.fab_commit.specs.EverySchedule.{TakesTheMove, EveryScheduleIsSerial}
 use Rattle.fab_commit.proofs.Sitings.{StandsSo}
 use Rattle.fab_commit.proofs.Noninterference.{IsLawful, propose_lawful, judged_kept}
@@ -200,7 +200,7 @@ lost_inv p w worker None inv = record {
   heat = inv.heat;
   claims = inv.claims;
   older = inv.older;
-  verdicts = All-filter (λ (v : Verdict). not (v.worker == worker && v.number + 1 == above_all worker w.verdicts)) (IsGood p w.live w.accepted (end p w)) w.verdicts inv.verdicts;
+  verdicts = All-filter (λ (v : Verdict). not (v.worker == worker && is_last worker w.verdicts v.number)) (IsGood p w.live w.accepted (end p w)) w.verdicts inv.verdicts;
 }
 lost_inv p w worker (Some k) inv = record {
   moves = inv.moves;

@@ -1,6 +1,6 @@
 -- Moves that are judged ahead on an older placement, by any number of workers, in any order (that moves whose sets do not
 -- interact may be made in any order is after Kravitz and Rutenbar; the rest our own).
-use Rattle.std.specs.Prelude.{ℕ, ◌+◌, ◌-◌, ◌*◌, ◌/◌, max, Bool, not, if◌then◌else◌, nat_lt, nat_le, ◌&&◌, ◌||◌, ◌==◌, List, [], ◌∷◌, ◌++◌, Option, Some, None}
+use Rattle.std.specs.Prelude.{ℕ, ◌+◌, ◌-◌, ◌*◌, ◌/◌, Bool, not, if◌then◌else◌, nat_lt, nat_le, ◌&&◌, ◌||◌, ◌==◌, List, [], ◌∷◌, ◌++◌, Option, Some, None}
 use Rattle.std.specs.List.{list_any, filter, range_with_len}
 use Rattle.fab_net.specs.Netlist.{Netlist}
 use Rattle.fab_site.specs.declared.pieces.Swap.{Swap}
@@ -110,14 +110,13 @@ judged_claim p w worker (Some k) =
       accepted = w.accepted;
     }
 
--- one more than the greatest number of the worker's verdicts, or 0
-abbrev pub above_all : ℕ → List Verdict → ℕ
-above_all worker [] = 0
-above_all worker (v ∷ rest) = if v.worker == worker then max (v.number + 1) (above_all worker rest) else above_all worker rest
+-- no verdict of the worker has a greater number
+abbrev pub is_last : ℕ → List Verdict → ℕ → Bool
+is_last worker verdicts k = not (list_any (λ (v : Verdict). v.worker == worker && nat_lt k v.number) verdicts)
 
+-- the last verdict of the worker is lost
 abbrev pub lost_verdict : World → ℕ → World
-lost_verdict w worker =
-    record w { verdicts = filter (λ (v : Verdict). not (v.worker == worker && v.number + 1 == above_all worker w.verdicts)) w.verdicts }
+lost_verdict w worker = record w { verdicts = filter (λ (v : Verdict). not (v.worker == worker && is_last worker w.verdicts v.number)) w.verdicts }
 
 abbrev pub lost : World → ℕ → Option ℕ → World
 lost w worker None = lost_verdict w worker
