@@ -56,8 +56,8 @@ pub record Taking (blocks : ℕ) (row : List Terminal) (j : ℕ) (before entries
   pub few : length entries ≤ length before + j
   pub rows : (b : ℕ) → b < blocks → row_of entries b ≡ row_of before b ++ cond (list_any (is_at b) (take j row)) (pins_at b row ∷ []) []
 
-pub none_taken : (blocks : ℕ) (row : List Terminal) (before : List (ℕ × ℕ)) (counts : List ℕ) → length counts ≡ blocks → ((b : ℕ) → b < blocks → get_or counts b 0 ≡ pins_at b row) → All (λ e. e.0 < blocks) before → Taking blocks row 0 before before counts
-none_taken blocks row before counts size counted within =
+pub none_taken : (blocks : ℕ) (terminals : List Terminal) (before : List (ℕ × ℕ)) (counts : List ℕ) → length counts ≡ blocks → ((b : ℕ) → b < blocks → get_or counts b 0 ≡ pins_at b terminals) → All (λ e. e.0 < blocks) before → Taking blocks terminals 0 before before counts
+none_taken blocks terminals before counts size counted within =
     record { size = size; left = counted; within = within; few = omega arith; rows = λ b bl. sym (append-nil (row_of before b)) }
 
 here : (row : List Terminal) (j : ℕ) (t : Terminal) → j < length row → t ≡ get_or row j t → 0 < pins_at t.block.0 row
