@@ -16,4 +16,4 @@ pub use header::place_size;
 pub use pinning::read_pins;
 pub use reading::read_place;
 pub use taking::PlaceLines;
-pub use writing::{Labels, write_place, written_texts_read_back};
+pub use writing::{Labels, are_labels, write_place, written_texts_read_back};

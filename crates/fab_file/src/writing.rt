@@ -63,7 +63,8 @@ fn is_label(label: &[u8]) -> bool
     (!label.is_empty() && !has_mark(label)) && !ends_with_backslash(label)
 }
 
-fn are_labels(labels: &Labels) -> bool
+/// Whether both names can stand in a header: each is one word without a `#`, whose last byte is no backslash.
+pub fn are_labels(labels: &Labels) -> bool
     ensures { result ≡ are_labels labels.now.net.now labels.now.arch.now }
 {
     is_label(labels.net) && is_label(labels.arch)

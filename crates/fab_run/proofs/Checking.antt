@@ -19,7 +19,7 @@ use Rattle.fab_file.specs.PlaceFaults.{FaultIs, first_fault}
 use Rattle.fab_run.specs.declared.fault.RunFault.{RunFault}
 use Rattle.fab_run.specs.declared.fault.RunFault.TheVariants as run_fault
 use Rattle.fab_run.specs.RunFaults.{of_arch, of_net, of_place}
-use Rattle.fab_run.specs.Check.{MeanDesign, FitsOn, AreChecked, FaultOf, IsTextFault, failed_with}
+use Rattle.fab_run.specs.Check.{MeanDesign, FitsOn, AreChecked, FaultOf, IsDesignFault, IsTextFault, failed_with}
 use Rattle.fab_net.specs.Netlist.{Netlist, is_logic, logic_count, pad_count}
 
 -- the fault of a reader is not that of a writer
@@ -53,9 +53,38 @@ pub failed_never : (e : RunFault) (n : ℕ) → IsTextFault e → failed_with e 
 failed_never (run_fault.Arch e) n h = refl
 failed_never (run_fault.Net e) n h = refl
 failed_never (run_fault.Place e) n h = refl
+failed_never (run_fault.Pads e) n h = refl
 failed_never (run_fault.Size e) n h = refl
+failed_never (run_fault.Schedule e) n h = refl
+failed_never run_fault.BatchOutOfRange n h = refl
+failed_never run_fault.WorkersOutOfRange n h = refl
 failed_never run_fault.Report n h = absurd h
 failed_never run_fault.NoMemory n h = refl
+
+-- the fault of one of the first two texts
+pub of_design : (arch net place : List ℕ) (e : RunFault) → IsDesignFault arch net e → FaultOf arch net place e
+of_design arch net place (run_fault.Arch e) h = h
+of_design arch net place (run_fault.Net e) h = h
+of_design arch net place (run_fault.Pads e) h = absurd h
+of_design arch net place (run_fault.Place e) h = absurd h
+of_design arch net place (run_fault.Size e) h = absurd h
+of_design arch net place (run_fault.Schedule e) h = absurd h
+of_design arch net place run_fault.BatchOutOfRange h = absurd h
+of_design arch net place run_fault.WorkersOutOfRange h = absurd h
+of_design arch net place run_fault.Report h = absurd h
+of_design arch net place run_fault.NoMemory h = tt
+
+pub design_text : (arch net : List ℕ) (e : RunFault) → IsDesignFault arch net e → IsTextFault e
+design_text arch net (run_fault.Arch e) h = tt
+design_text arch net (run_fault.Net e) h = tt
+design_text arch net (run_fault.Pads e) h = tt
+design_text arch net (run_fault.Place e) h = absurd h
+design_text arch net (run_fault.Size e) h = tt
+design_text arch net (run_fault.Schedule e) h = tt
+design_text arch net run_fault.BatchOutOfRange h = tt
+design_text arch net run_fault.WorkersOutOfRange h = tt
+design_text arch net run_fault.Report h = absurd h
+design_text arch net run_fault.NoMemory h = tt
 
 -- a fault of a placement text, behind its header
 pub placed : (arch net place : List ℕ) (io_rat : ℕ) (d : Netlist) (g : GridShape) (e : PlaceFault) → MeanDesign arch net io_rat d → g.io_rat ≡ io_rat → place_size_of (lines place) ≡ Some (g.nx, g.ny) → FitsOn d g → FaultIs e (first_fault d g (lines place)) → FaultOf arch net place (of_place e)

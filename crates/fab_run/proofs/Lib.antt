@@ -2,3 +2,6 @@ pub mod Checking
 pub mod Readers
 pub mod Pieces
 pub mod Telling
+pub mod Asked
+pub mod Whole
+pub mod Written

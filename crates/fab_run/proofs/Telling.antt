@@ -116,11 +116,11 @@ told_on r x y z a0 a b c0 c d old mid new n m t stands numbers values told =
           (appends_two old mid new (stage_lines r x n) (stage_lines r (from r x n) m) t.told (subst (λ s. Appends mid new (stage_lines r s m)) t.stands told));
     }
 
-take_whole : (xs : List ℕ) → take (length xs) xs ≡ xs
+pub take_whole : (xs : List ℕ) → take (length xs) xs ≡ xs
 take_whole [] = refl
 take_whole (x ∷ xs) = ap (λ l. x ∷ l) (take_whole xs)
 
-take_more : (xs ys : List ℕ) (k : ℕ) → take (length xs + k) (xs ++ ys) ≡ xs ++ take k ys
+pub take_more : (xs ys : List ℕ) (k : ℕ) → take (length xs + k) (xs ++ ys) ≡ xs ++ take k ys
 take_more [] ys k = (let e : 0 + k ≡ k = omega arith in ap (λ n. take n ys) e)
 take_more (x ∷ xs) ys k = (let e : suc (length xs) + k ≡ suc (length xs + k) = omega arith in ap (λ n. take n (x ∷ (xs ++ ys))) e ∙ ap (λ l. x ∷ l) (take_more xs ys k))
 

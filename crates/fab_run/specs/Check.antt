@@ -19,7 +19,7 @@ use Rattle.fab_file.specs.Place.{place_size_of, StandsFor}
 use Rattle.fab_file.specs.PlaceFaults.{size_fault, first_fault as first_place_fault}
 use Rattle.fab_cost.specs.Cost.{cost_of}
 use Rattle.fab_run.specs.declared.fault.RunFault.{RunFault}
-use Rattle.fab_run.specs.declared.fault.RunFault.TheVariants.{Arch, Net, Place, Size, Report, NoMemory}
+use Rattle.fab_run.specs.declared.fault.RunFault.TheVariants.{Arch, Net, Pads, Place, Size, Schedule, BatchOutOfRange, WorkersOutOfRange, Report, NoMemory}
 use Rattle.fab_run.specs.CheckReport.{check_report}
 
 -- the two texts mean this design, and that a position of the array takes so many pads (the io_rat)
@@ -57,15 +57,23 @@ IsPlaceFault place d io_rat e =
     (size_fault (place_size_of (lines place)) ≡ Some e)
     ⊎ ((g : GridShape) × (g.io_rat ≡ io_rat) × (place_size_of (lines place) ≡ Some (g.nx, g.ny)) × FitsOn d g × (first_place_fault d g (lines place) ≡ Some e))
 
+-- the fault of an architecture text, or of a netlist behind it
+abbrev pub IsDesignFault : List ℕ → List ℕ → RunFault → Type 0
+IsDesignFault arch net (Arch e) = first_arch_fault (lines arch) ≡ Some e
+IsDesignFault arch net (Net e) = (io_rat : ℕ) × (pins : List PinKind) × IsArch (lines arch) io_rat pins × (first_net_fault pins (lines net) ≡ Some e)
+IsDesignFault arch net NoMemory = Unit {0}
+IsDesignFault arch net e = ⊥
+
 -- the first check that fails; a report that cannot be written is told of checked texts alone, and want of memory may come
 -- for any texts
 abbrev pub FaultOf : List ℕ → List ℕ → List ℕ → RunFault → Type 0
-FaultOf arch net place (Arch e) = first_arch_fault (lines arch) ≡ Some e
-FaultOf arch net place (Net e) = (io_rat : ℕ) × (pins : List PinKind) × IsArch (lines arch) io_rat pins × (first_net_fault pins (lines net) ≡ Some e)
+FaultOf arch net place (Arch e) = IsDesignFault arch net (Arch e)
+FaultOf arch net place (Net e) = IsDesignFault arch net (Net e)
 FaultOf arch net place (Place e) = (io_rat : ℕ) × (d : Netlist) × MeanDesign arch net io_rat d × IsPlaceFault place d io_rat e
 FaultOf arch net place (Size e) = (d : Netlist) × (g : GridShape) × GiveArray arch net place d g × IsSizeFault d g e
 FaultOf arch net place Report = (d : Netlist) × (g : GridShape) × (sites : List Site) × AreChecked arch net place d g sites
 FaultOf arch net place NoMemory = Unit {0}
+FaultOf arch net place e = ⊥
 
 -- the texts are checked, and this is the cost and the report
 pub record IsReport (arch net place : List ℕ) (cost : ℕ) (report : List ℕ) : Type 0 where
@@ -86,19 +94,11 @@ IsCut arch net place old new = (cost : ℕ) × (report : List ℕ) × IsReport a
 
 -- the fault is not that of a writer
 abbrev pub IsTextFault : RunFault → Type 0
-IsTextFault (Arch e) = Unit {0}
-IsTextFault (Net e) = Unit {0}
 IsTextFault (Place PlaceWrite) = ⊥
-IsTextFault (Place e) = Unit {0}
-IsTextFault (Size e) = Unit {0}
 IsTextFault Report = ⊥
-IsTextFault NoMemory = Unit {0}
+IsTextFault e = Unit {0}
 
--- how often a report's writer has failed, where a check ended with a fault: once more only where the fault says so
+-- how often a report's writer has failed, where a check or a run ended with a fault: once more only where the fault says so
 abbrev pub failed_with : RunFault → ℕ → ℕ
-failed_with (Arch e) n = n
-failed_with (Net e) n = n
-failed_with (Place e) n = n
-failed_with (Size e) n = n
 failed_with Report n = grown n
-failed_with NoMemory n = n
+failed_with e n = n

@@ -10,8 +10,9 @@ use Rattle.fab_net.specs.declared.fault.NetFault.TheVariants.{MissingPinlist, Pi
 use Rattle.fab_net.specs.FaultTexts.{net_fault_text}
 use Rattle.fab_file.specs.declared.fault.PlaceFault.TheVariants.{Missing, Write as PlaceWrite, NoMemory as PlaceNoMemory}
 use Rattle.fab_file.specs.FaultTexts.{place_fault_text}
+use Rattle.fab_sched.specs.FaultTexts.{sched_fault_text}
 use Rattle.fab_run.specs.declared.fault.RunFault.{RunFault}
-use Rattle.fab_run.specs.declared.fault.RunFault.TheVariants.{Arch, Net, Place, Size, Report, NoMemory}
+use Rattle.fab_run.specs.declared.fault.RunFault.TheVariants.{Arch, Net, Pads, Place, Size, Schedule, BatchOutOfRange, WorkersOutOfRange, Report, NoMemory}
 
 -- a fault with its role
 abbrev pub run_fault_text : RunFault → List ℕ
@@ -19,10 +20,15 @@ run_fault_text (Arch ArchNoMemory) = codes "no memory"
 run_fault_text (Arch fault) = codes "arch: " ++ arch_fault_text fault
 run_fault_text (Net NetNoMemory) = codes "no memory"
 run_fault_text (Net fault) = codes "net: " ++ net_fault_text fault
+run_fault_text (Pads PlaceNoMemory) = codes "no memory"
+run_fault_text (Pads fault) = codes "pads: " ++ place_fault_text fault
 run_fault_text (Place PlaceNoMemory) = codes "no memory"
 run_fault_text (Place PlaceWrite) = codes "cannot write place"
 run_fault_text (Place fault) = codes "place: " ++ place_fault_text fault
 run_fault_text (Size fault) = codes "size: " ++ grid_fault_text fault
+run_fault_text (Schedule fault) = codes "schedule: " ++ sched_fault_text fault
+run_fault_text BatchOutOfRange = codes "option: O1 BatchOutOfRange"
+run_fault_text WorkersOutOfRange = codes "option: O2 WorkersOutOfRange"
 run_fault_text Report = codes "cannot write report"
 run_fault_text NoMemory = codes "no memory"
 

@@ -2,5 +2,8 @@ pub mod CheckReport
 pub mod RunFaults
 pub mod FaultLines
 pub mod Check
+pub mod Setting
+pub mod RunChecks
 pub mod RunReport
 pub mod Piece
+pub mod Placed

@@ -1,5 +1,7 @@
 -- A run from its first move to its last: what it reports of the moves made one at a time (our own).
-use Rattle.std.specs.Prelude.{ℕ, ◌≡◌, zero, suc, ◌+◌, ◌/◌, if◌then◌else◌, ◌==◌, List, [], ◌∷◌, ◌++◌, None}
+use Rattle.std.specs.Prelude.{ℕ, ◌≡◌, zero, suc, ◌+◌, ◌/◌, if◌then◌else◌, ◌==◌, List, [], ◌∷◌, ◌++◌, None, is_some}
+use Rattle.fab_arch.specs.Grid.{GridShape}
+use Rattle.fab_net.specs.Netlist.{Netlist}
 use Rattle.fab_cost.specs.Cost.{cost_of}
 use Rattle.fab_commit.specs.Serial.{Run, Standing, from, judged_here, moves_left, one_if, or_zero, step}
 use Rattle.fab_run.specs.RunReport.{blocks_line, start_line, stage_line, final_line}
@@ -32,11 +34,21 @@ stage_costs r x (suc n) = cost_here r x ++ stage_costs r (step r x) n
 abbrev pub IsOver : Run → Standing → ℕ → Type 0
 IsOver r x n = (from r x n).heat ≡ None
 
--- the report of a run from its first standing, which is over after n moves
+-- the first two lines
+abbrev pub head_text : Netlist → GridShape → ℕ → List ℕ
+head_text d g cost = blocks_line d g ++ start_line cost
+
+-- the last line of a run that ends so
+abbrev pub last_line : Run → Standing → List ℕ
+last_line r y = final_line (cost_at r y) y.total y.done
+
+-- it stands there where no move is left
+abbrev pub end_line : Run → Standing → List ℕ
+end_line r y = if is_some y.heat then [] else last_line r y
+
+-- the report of a run from its first standing, once n moves were made
 abbrev pub run_report : Run → Standing → ℕ → List ℕ
-run_report r x n =
-    blocks_line r.problem.design r.problem.grid ++ start_line (cost_at r x) ++ stage_lines r x n
-    ++ final_line (cost_at r (from r x n)) (from r x n).total (from r x n).done
+run_report r x n = head_text r.problem.design r.problem.grid (cost_at r x) ++ (stage_lines r x n ++ end_line r (from r x n))
 
 -- the cost at the start, and those at the ends of the stages
 abbrev pub run_costs : Run → Standing → ℕ → List ℕ

@@ -6,7 +6,7 @@ use Rattle.fab_net.specs.declared.fault.NetFault.TheVariants.{NoMemory as NetNoM
 use Rattle.fab_file.specs.declared.fault.PlaceFault.{PlaceFault}
 use Rattle.fab_file.specs.declared.fault.PlaceFault.TheVariants.{NoMemory as PlaceNoMemory}
 use Rattle.fab_run.specs.declared.fault.RunFault.{RunFault}
-use Rattle.fab_run.specs.declared.fault.RunFault.TheVariants.{Arch, Net, Place, NoMemory}
+use Rattle.fab_run.specs.declared.fault.RunFault.TheVariants.{Arch, Net, Pads, Place, NoMemory}
 
 abbrev pub of_arch : ArchFault → RunFault
 of_arch ArchNoMemory = NoMemory
@@ -19,3 +19,8 @@ of_net fault = Net fault
 abbrev pub of_place : PlaceFault → RunFault
 of_place PlaceNoMemory = NoMemory
 of_place fault = Place fault
+
+-- of a location text
+abbrev pub of_pads : PlaceFault → RunFault
+of_pads PlaceNoMemory = NoMemory
+of_pads fault = Pads fault

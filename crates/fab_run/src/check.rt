@@ -11,27 +11,15 @@ ghost use Rattle.fab_run.specs.CheckReport.{check_report};
 ghost use Rattle.fab_run.specs.Check.{MeanDesign, FitsOn, AreChecked, FaultOf, IsReport, IsReported, IsCut, IsTextFault, failed_with};
 ghost use Rattle.fab_run.specs.declared.fault.RunFault.TheVariants.{Report, NoMemory};
 
+use crate::designs::read_design;
 use crate::fault::RunFault;
-use fab_arch::{Grid, read_arch};
+use fab_arch::Grid;
 use fab_cost::Boxes;
 use fab_file::{place_size, read_place};
-use fab_net::{Design, read_net};
+use fab_net::Design;
 use fab_site::Placement;
 use fab_text::{Sink, push_fixed4, push_number, write_whole};
 use std::alloc::{AllocError, Global};
-
-/// The pads at a position of the array, and the design, that two texts mean; else the first fault of the first of
-/// them that has one.
-fn read_design(alloc: Global, arch: &[u8], net: &[u8]) -> Result<(u16, Design), RunFault>
-    ensures found { IfOk result (λ r. MeanDesign arch.now net.now r.0 r.1) }
-    ensures only { (io_rat : ℕ) (d : Netlist) → MeanDesign arch.now net.now io_rat d → MatchResult result (λ r. (r.0 ≡ io_rat) × (r.1 ≡ d)) (λ e. e ≡ NoMemory) }
-    ensures fault { (place : List ℕ) → IfErr result (λ e. FaultOf arch.now net.now place e) }
-    ensures text { IfErr result IsTextFault }
-{
-    let arch = read_arch(alloc, arch)?;
-    let design = read_net(alloc, net, &arch)?;
-    Ok((arch.io_rat, design))
-}
 
 /// The array that the header of a placement text gives, where it holds the design; else the header's fault, or that
 /// of the size.

@@ -2,12 +2,13 @@
 
 ghost use Rattle.std.specs.Prelude.{◌≡◌, ◌++◌, Some, IfOk, OnOk};
 ghost use Rattle.fab_run.specs.FaultLines.{run_fault_text, named_place, named_bytes, name_text, fault_line as line_of_fault};
-ghost use Rattle.fab_run.specs.RunFaults.{of_arch, of_net, of_place};
-ghost use Rattle.fab_run.specs.declared.fault.RunFault.TheVariants.{Size, Report, NoMemory};
+ghost use Rattle.fab_run.specs.RunFaults.{of_arch, of_net, of_pads, of_place};
+ghost use Rattle.fab_run.specs.declared.fault.RunFault.TheVariants.{Size, Schedule, Report, NoMemory};
 
 use fab_arch::{ArchFault, GridFault};
 use fab_file::PlaceFault;
 use fab_net::NetFault;
+use fab_sched::SchedFault;
 use fab_text::{Span, WriteFault};
 use std::alloc::{AllocError, AllocFailed, Global};
 use std::fmt;
@@ -20,10 +21,18 @@ pub enum RunFault {
     Arch(ArchFault),
     /// The netlist text is faulty.
     Net(NetFault),
-    /// The placement text is faulty.
+    /// The location text is faulty.
+    Pads(PlaceFault),
+    /// The placement text is faulty, a label cannot stand in it, or its writer failed.
     Place(PlaceFault),
     /// There is no such array, or the design does not fit on it.
     Size(GridFault),
+    /// The schedule is not lawful.
+    Schedule(SchedFault),
+    /// The batch is outside 1 to 4,096.
+    BatchOutOfRange,
+    /// The workers are outside 1 to 64.
+    WorkersOutOfRange,
     /// The writer of the report failed.
     Report,
     /// There was no memory to go on.
@@ -38,13 +47,18 @@ impl fmt::Display for RunFault {
             RunFault::NoMemory
             | RunFault::Arch(ArchFault::NoMemory)
             | RunFault::Net(NetFault::NoMemory)
+            | RunFault::Pads(PlaceFault::NoMemory)
             | RunFault::Place(PlaceFault::NoMemory) => f.write_str("no memory"),
             RunFault::Report => f.write_str("cannot write report"),
             RunFault::Place(PlaceFault::Write) => f.write_str("cannot write place"),
             RunFault::Arch(fault) => write!(f, "arch: {fault}"),
             RunFault::Net(fault) => write!(f, "net: {fault}"),
+            RunFault::Pads(fault) => write!(f, "pads: {fault}"),
             RunFault::Place(fault) => write!(f, "place: {fault}"),
             RunFault::Size(fault) => write!(f, "size: {fault}"),
+            RunFault::Schedule(fault) => write!(f, "schedule: {fault}"),
+            RunFault::BatchOutOfRange => f.write_str("option: O1 BatchOutOfRange"),
+            RunFault::WorkersOutOfRange => f.write_str("option: O2 WorkersOutOfRange"),
         }
     }
 }
@@ -95,6 +109,24 @@ impl From<PlaceFault> for RunFault {
             PlaceFault::NoMemory => RunFault::NoMemory,
             _ => RunFault::Place(fault),
         }
+    }
+}
+
+/// A fault of the location text.
+pub(crate) fn pads_fault(fault: PlaceFault) -> RunFault
+    ensures { result ≡ of_pads fault }
+{
+    match fault {
+        PlaceFault::NoMemory => RunFault::NoMemory,
+        _ => RunFault::Pads(fault),
+    }
+}
+
+impl From<SchedFault> for RunFault {
+    ghost from_gives = { λ fault e. e ≡ Schedule fault };
+
+    fn from(fault: SchedFault) -> RunFault {
+        RunFault::Schedule(fault)
     }
 }
 

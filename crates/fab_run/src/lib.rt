@@ -2,11 +2,19 @@
 #![tactic(auto)]
 
 pub mod check;
+mod designs;
 pub mod fault;
+pub mod inputs;
+pub mod placing;
+#[cfg(test)]
+mod placing_tests;
 mod report;
+mod setting;
 mod stages;
 #[cfg(test)]
 mod tests;
 
 pub use check::check_run;
 pub use fault::{RunFault, fault_line};
+pub use inputs::{Ending, Inputs, Moves, Options, Outcome};
+pub use placing::place_run;

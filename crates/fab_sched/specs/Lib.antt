@@ -1,3 +1,4 @@
 pub mod Annealing
 pub mod Examples
+pub mod FaultTexts
 pub mod Roots

@@ -1,11 +1,11 @@
 -- How a run of the program ends (our own): the number that the shell is told, and the end that each fault of a run
 -- leads to.
-use Rattle.std.specs.Prelude.{ℕ}
+use Rattle.std.specs.Prelude.{ℕ, ◌≡◌, ◌⊎◌}
 use Rattle.fab_arch.specs.declared.fault.ArchFault.TheVariants.{NoMemory as ArchNoMemory}
 use Rattle.fab_net.specs.declared.fault.NetFault.TheVariants.{NoMemory as NetNoMemory}
 use Rattle.fab_file.specs.declared.fault.PlaceFault.TheVariants.{NoMemory as PlaceNoMemory, Write as PlaceWrite}
 use Rattle.fab_run.specs.declared.fault.RunFault.{RunFault}
-use Rattle.fab_run.specs.declared.fault.RunFault.TheVariants.{Arch, Net, Place, Size, Report, NoMemory as RunNoMemory}
+use Rattle.fab_run.specs.declared.fault.RunFault.TheVariants.{Arch, Net, Pads, Place, Size, Schedule, BatchOutOfRange, WorkersOutOfRange, Report, NoMemory as RunNoMemory}
 use Rattle.vplace.specs.declared.status.Status.{Status}
 use Rattle.vplace.specs.declared.status.Status.TheVariants.{Done, Refused, CommandLine, NoMemory, Device}
 
@@ -16,15 +16,24 @@ code_of CommandLine = 2
 code_of NoMemory = 3
 code_of Device = 4
 
--- A text or a size is refused; want of memory is said to be that, whichever reader met it; a writer that failed is a device.
+-- A text or a size is refused, and so are numbers of the command line; want of memory is said to be that, whichever reader met it; a writer that failed is a device.
 abbrev pub status_of : RunFault → Status
 status_of (Arch ArchNoMemory) = NoMemory
 status_of (Arch _) = Refused
 status_of (Net NetNoMemory) = NoMemory
 status_of (Net _) = Refused
+status_of (Pads PlaceNoMemory) = NoMemory
+status_of (Pads _) = Refused
 status_of (Place PlaceNoMemory) = NoMemory
 status_of (Place PlaceWrite) = Device
 status_of (Place _) = Refused
 status_of (Size _) = Refused
+status_of (Schedule _) = CommandLine
+status_of BatchOutOfRange = CommandLine
+status_of WorkersOutOfRange = CommandLine
 status_of Report = Device
 status_of RunNoMemory = NoMemory
+
+-- a file or the command line was refused
+abbrev pub IsRefused : Status → Type 0
+IsRefused status = (status ≡ Refused) ⊎ (status ≡ CommandLine)

@@ -8,9 +8,10 @@ ghost use Rattle.fab_run.specs.Check.{AreChecked, FaultOf, IsReported};
 ghost use Rattle.fab_run.specs.declared.fault.RunFault.{RunFault as RunFaultOf};
 ghost use Rattle.vplace.specs.Status.{status_of};
 
-use crate::files::{NamedFiles, ReadFault};
+use crate::files::NamedFiles;
 use crate::messages;
 use crate::messages::Role;
+use crate::reading::read_role;
 use crate::status::Status;
 use fab_run::check_run;
 use fab_text::Sink;
@@ -22,24 +23,6 @@ pub struct CheckNames {
     pub arch: Vec<u8>,
     pub net: Vec<u8>,
     pub place: Vec<u8>,
-}
-
-/// Reads the file of a role, or says why it was not read.
-fn read_role<F: NamedFiles, E: Sink>(
-    alloc: Global,
-    files: &F,
-    role: Role,
-    name: &[u8],
-    err: &mut E,
-) -> Result<Vec<u8>, Status>
-    ensures read { OnOk result (E.contents err.new ≡ E.contents err.old) }
-    ensures fault { IfErr result (λ status. (status ≡ Status.Device) ⊎ (status ≡ Status.NoMemory)) }
-{
-    match files.read(alloc, name) {
-        Ok(text) => Ok(text),
-        Err(ReadFault::Unreadable) => Err(messages::unreadable(err, role)),
-        Err(ReadFault::NoMemory) => Err(messages::no_memory(err)),
-    }
 }
 
 /// Checks a placement that lies in files.

@@ -1,9 +1,13 @@
-//! Files by name, as the program reads them: the system's, or in a test those that lie in memory.
+//! Files by name, as the program reads and writes them: the system's, or in a test those that lie in memory.
 
 use std::alloc::Global;
-use std::io::ErrorKind;
+use std::fs::OpenOptions;
+use std::io::{ErrorKind, Write};
 use std::rt::Files;
 use std::{fs, str};
+
+// How many names are tried for a file beside another.
+const MOST_BESIDE: u32 = 100;
 
 /// Why a file was not read.
 #[derive(Clone, Copy, Debug, PartialEq, Eq)]
@@ -14,10 +18,17 @@ pub enum ReadFault {
     NoMemory,
 }
 
-/// Files that are read by their names. A name is any bytes.
+/// A file was not written: what lay there before still does.
+#[derive(Clone, Copy, Debug, PartialEq, Eq)]
+pub struct WriteFault;
+
+/// Files that are read and written by their names. A name is any bytes.
 pub trait NamedFiles {
     /// All bytes of a file.
     fn read(&self, alloc: Global, name: &[u8]) -> Result<Vec<u8>, ReadFault>;
+
+    /// Puts bytes in place of all that a file holds; one that is not there is made.
+    fn write(&self, alloc: Global, name: &[u8], bytes: &[u8]) -> Result<(), WriteFault>;
 }
 
 /// The files of the system.
@@ -46,5 +57,60 @@ impl<R: Files + AllocGlobal> NamedFiles for HostFiles<'_, R> {
                 _ => Err(ReadFault::Unreadable),
             },
         }
+    }
+
+    /// A file is written beside its place first and then renamed, so that a full disk spoils nothing. What is no plain file (a
+    /// device, a pipe, a link) is written as it stands.
+    fn write(&self, alloc: Global, name: &[u8], bytes: &[u8]) -> Result<(), WriteFault> {
+        let Ok(name) = str::from_utf8(name) else {
+            return Err(WriteFault);
+        };
+        if self.is_replaceable(name) {
+            self.replace(alloc, name, bytes)
+        } else {
+            fs::write(self.rt, name, bytes).map_err(|_| WriteFault)
+        }
+    }
+}
+
+impl<R: Files + AllocGlobal> HostFiles<'_, R> {
+    /// Whether the name is that of a plain file which may be written, or of none.
+    fn is_replaceable(&self, name: &str) -> bool {
+        match fs::symlink_metadata(self.rt, name) {
+            Ok(found) => {
+                found.is_file() && OpenOptions::new().write(true).open(self.rt, name).is_ok()
+            }
+            Err(error) => error.kind() == ErrorKind::NotFound,
+        }
+    }
+
+    fn replace(&self, alloc: Global, name: &str, bytes: &[u8]) -> Result<(), WriteFault> {
+        let beside = self.write_beside(alloc, name, bytes)?;
+        if fs::rename(self.rt, beside.as_str(), name).is_err() {
+            let _ = fs::remove_file(self.rt, beside.as_str());
+            return Err(WriteFault);
+        }
+        Ok(())
+    }
+
+    /// Writes a new file beside the named one, and gives its name.
+    fn write_beside(&self, alloc: Global, name: &str, bytes: &[u8]) -> Result<String, WriteFault> {
+        for number in 0..MOST_BESIDE {
+            let Ok(beside) = format!(in alloc; "{name}.{number}.part") else {
+                return Err(WriteFault);
+            };
+            match fs::File::create_new(self.rt, beside.as_str()) {
+                Ok(mut file) => {
+                    if file.write_all(bytes).is_err() {
+                        let _ = fs::remove_file(self.rt, beside.as_str());
+                        return Err(WriteFault);
+                    }
+                    return Ok(beside);
+                }
+                Err(error) if error.kind() == ErrorKind::AlreadyExists => {}
+                Err(_) => return Err(WriteFault),
+            }
+        }
+        Err(WriteFault)
     }
 }

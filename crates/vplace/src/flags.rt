@@ -1,6 +1,8 @@
 //! The command line: its subcommands and options, and what the words ask for.
 
 use crate::checking::CheckNames;
+use crate::place_flags::{place_command, place_words};
+use crate::placing::PlaceWords;
 use crate::words::{as_bytes, as_text};
 use clap::{Arg, ArgAction, ArgMatches, Command, Error};
 use std::alloc::{AllocError, Global};
@@ -12,12 +14,14 @@ pub enum Asked {
     Example,
     /// To check a placement that lies in files.
     Check(CheckNames),
+    /// To place a design that lies in files.
+    Place(PlaceWords),
 }
 
 const NAME: &str = "vplace";
 
 const ABOUT: &str =
-    "Check placements of FPGA designs, after VPR 4.30: is a placement legal, and what is its wire cost?";
+    "Place FPGA designs by simulated annealing, after VPR 4.30, and check placements";
 
 const AFTER: &str =
     "Without a command, a built-in example of four blocks on a 3 x 3 array is checked.
@@ -25,9 +29,9 @@ const AFTER: &str =
 Exit status:
   0  done
   1  a file is refused, or the design does not fit on the array
-  2  the command line is wrong
+  2  the command line is wrong, or one of its numbers is out of its range
   3  there is no memory
-  4  a file cannot be read, or the report cannot be written";
+  4  a file cannot be read or written, or the report cannot be written";
 
 const CHECK_ABOUT: &str = "Check a placement: legal or not, and its wire cost";
 
@@ -40,7 +44,7 @@ Example:
   vplace check --arch small.arch --net small.net --place small.place";
 
 // A required option with one value, the name of a file.
-fn file_option<'a>(alloc: Global, name: &'a str, help: &'a str) -> Arg<'a> {
+pub(crate) fn file_option<'a>(alloc: Global, name: &'a str, help: &'a str) -> Arg<'a> {
     Arg::new(alloc, name)
         .long(name)
         .value_name("FILE")
@@ -77,11 +81,16 @@ fn vplace_command<'a>(alloc: Global) -> Result<Command<'a>, AllocError> {
     Command::new(alloc, NAME)
         .about(ABOUT)
         .after_help(AFTER)
+        .subcommand(place_command(alloc)?)?
         .subcommand(check_command(alloc)?)
 }
 
 // The file name that an option was given.
-fn file_name(alloc: Global, matches: &ArgMatches<'_>, option: &str) -> Result<Vec<u8>, AllocError> {
+pub(crate) fn file_name(
+    alloc: Global,
+    matches: &ArgMatches<'_>,
+    option: &str,
+) -> Result<Vec<u8>, AllocError> {
     as_bytes(alloc, matches.get_str(option).unwrap_or(""))
 }
 
@@ -100,6 +109,9 @@ pub fn parse_words(alloc: Global, words: &[Vec<u8>]) -> Result<Asked, Error> {
         texts.push(as_text(alloc, word.as_slice())?)?;
     }
     let matches = vplace_command(alloc)?.try_get_matches_from(texts.as_slice())?;
+    if let Some(place) = matches.subcommand_matches("place") {
+        return Ok(Asked::Place(place_words(alloc, place)?));
+    }
     match matches.subcommand_matches("check") {
         Some(check) => Ok(Asked::Check(check_names(alloc, check)?)),
         None => Ok(Asked::Example),

@@ -6,7 +6,12 @@ mod example;
 mod files;
 mod flags;
 mod messages;
+mod place_flags;
+mod placing;
+#[cfg(test)]
+mod placing_tests;
 mod program;
+mod reading;
 mod status;
 #[cfg(test)]
 mod tests;

@@ -1,11 +1,11 @@
 //! What is said on standard error: one line for each fault, and the status that goes with it.
 
-ghost use Rattle.std.specs.Prelude.{◌≡◌, ◌⊎◌};
+ghost use Rattle.std.specs.Prelude.{◌≡◌, ◌≢◌, ◌⊎◌};
 ghost use Rattle.vplace.specs.Status.{status_of};
 
 use crate::status::{Status, status_after};
 use fab_run::{RunFault, fault_line};
-use fab_text::{Sink, write_whole};
+use fab_text::{NumFault, Sink, write_whole};
 use std::alloc::Global;
 
 /// Says that there is no memory. A standard error that fails too has nobody to be told.
@@ -21,7 +21,16 @@ pub fn no_memory<E: Sink>(err: &mut E) -> Status
 pub enum Role {
     Arch,
     Net,
+    Pads,
     Place,
+}
+
+/// Which of the options whose value is a decimal number.
+#[derive(Clone, Copy, Debug, PartialEq, Eq)]
+pub enum Number {
+    InitT,
+    ExitT,
+    AlphaT,
 }
 
 /// Says that the file of a role cannot be read.
@@ -31,6 +40,7 @@ pub fn unreadable<E: Sink>(err: &mut E, role: Role) -> Status
     let line: &[u8] = match role {
         Role::Arch => b"vplace: cannot read arch\n",
         Role::Net => b"vplace: cannot read net\n",
+        Role::Pads => b"vplace: cannot read pads\n",
         Role::Place => b"vplace: cannot read place\n",
     };
     let _ = write_whole(err, line);
@@ -45,9 +55,48 @@ pub fn unwritable_report<E: Sink>(err: &mut E) -> Status
     Status::Device
 }
 
+/// Says that the placement cannot be written.
+pub fn unwritable_place<E: Sink>(err: &mut E) -> Status
+    ensures { result ≡ Status.Device }
+{
+    let _ = write_whole(err, b"vplace: cannot write place\n");
+    Status::Device
+}
+
+/// Says that the columns were given without the rows, or the rows without the columns.
+pub fn size_in_part<E: Sink>(err: &mut E) -> Status
+    ensures { result ≡ Status.CommandLine }
+{
+    let _ = write_whole(err, b"vplace: --nx and --ny go together\n");
+    Status::CommandLine
+}
+
+fn option_name(option: Number) -> &'static str {
+    match option {
+        Number::InitT => "init-t",
+        Number::ExitT => "exit-t",
+        Number::AlphaT => "alpha-t",
+    }
+}
+
+/// Says what is wrong with the number of an option.
+pub fn bad_number<E: Sink>(alloc: Global, err: &mut E, option: Number, fault: NumFault) -> Status
+    ensures { (result ≡ Status.CommandLine) ⊎ (result ≡ Status.NoMemory) }
+{
+    let name = option_name(option);
+    match format!(in alloc; "vplace: option {name}: {fault}\n") {
+        Ok(line) => {
+            let _ = write_whole(err, line.as_bytes());
+            Status::CommandLine
+        }
+        Err(_) => no_memory(err),
+    }
+}
+
 /// Says why a run gave no answer. `net` is the netlist text in which the span of a fault lies.
 pub fn run_fault<E: Sink>(alloc: Global, err: &mut E, fault: &RunFault, net: &[u8]) -> Status
-    ensures { (result ≡ status_of fault.now) ⊎ (result ≡ Status.NoMemory) }
+    ensures status { (result ≡ status_of fault.now) ⊎ (result ≡ Status.NoMemory) }
+    ensures open { result ≢ Status.Done }
 {
     match fault_line(alloc, fault, net) {
         Ok(mut line) => {

@@ -1,10 +1,12 @@
 //! The whole program over its words, its files and its two outputs, so that a test can run it in memory.
 
 ghost use Rattle.std.specs.Prelude.{◌≡◌, ◌⊎◌};
+ghost use Rattle.vplace.specs.Status.{IsRefused};
 
 use crate::checking::{check_files, check_texts};
 use crate::files::NamedFiles;
 use crate::flags::{Asked, parse_words};
+use crate::placing::place_files;
 use crate::status::Status;
 use crate::words::as_bytes;
 use crate::{example, messages};
@@ -21,7 +23,7 @@ fn text_of(alloc: Global, error: &Error) -> Result<Vec<u8>, AllocError> {
 
 // Help that was asked for goes to the output, what is wrong with the words to the standard error.
 fn tell<O: Sink, E: Sink>(alloc: Global, error: &Error, out: &mut O, err: &mut E) -> Status
-    ensures silent { (result ≡ Status.Refused) ⊎ (result ≡ Status.CommandLine) → O.contents out.new ≡ O.contents out.old }
+    ensures silent { IsRefused result → O.contents out.new ≡ O.contents out.old }
     ensures written { result ≡ Status.Done → O.failed out.new ≡ O.failed out.old }
     ensures quiet { result ≡ Status.Done → E.contents err.new ≡ E.contents err.old }
 {
@@ -42,22 +44,24 @@ fn tell<O: Sink, E: Sink>(alloc: Global, error: &Error, out: &mut O, err: &mut E
 }
 
 // Does what the words ask for.
-fn run<F: NamedFiles, O: Sink, E: Sink>(
-    alloc: Global,
+fn run<R: AllocGlobal, F: NamedFiles, O: Sink, E: Sink>(
+    rt: &R,
     words: &[Vec<u8>],
     files: &F,
     out: &mut O,
     err: &mut E,
 ) -> Status
-    ensures silent { (result ≡ Status.Refused) ⊎ (result ≡ Status.CommandLine) → O.contents out.new ≡ O.contents out.old }
+    ensures silent { IsRefused result → O.contents out.new ≡ O.contents out.old }
     ensures written { result ≡ Status.Done → O.failed out.new ≡ O.failed out.old }
     ensures quiet { result ≡ Status.Done → E.contents err.new ≡ E.contents err.old }
 {
+    let alloc = rt.alloc();
     match parse_words(alloc, words) {
         Ok(Asked::Example) => {
             check_texts(alloc, example::ARCH, example::NET, example::PLACE, out, err)
         }
         Ok(Asked::Check(names)) => check_files(alloc, &names, files, out, err),
+        Ok(Asked::Place(words)) => place_files(rt, &words, files, out, err),
         Err(error) => tell(alloc, &error, out, err),
     }
 }
@@ -78,5 +82,5 @@ pub fn program<R: AllocGlobal, F: NamedFiles, O: Sink, E: Sink>(
     ensures written { result ≡ 0 → O.failed out.new ≡ O.failed out.old }
     ensures quiet { result ≡ 0 → E.contents err.new ≡ E.contents err.old }
 {
-    run(rt.alloc(), words, files, out, err).code()
+    run(rt, words, files, out, err).code()
 }

@@ -1,6 +1,6 @@
 //! How a run of the program ended, and the number that the shell is told.
 
-ghost use Rattle.std.specs.Prelude.{◌≡◌};
+ghost use Rattle.std.specs.Prelude.{◌≡◌, ◌≢◌};
 ghost use Rattle.vplace.specs.Status.{code_of, status_of};
 
 use fab_arch::ArchFault;
@@ -15,7 +15,7 @@ pub enum Status {
     Done,
     /// A file is refused, or the design does not fit.
     Refused,
-    /// The command line is wrong.
+    /// The command line is wrong, or its numbers are no schedule or out of their limits.
     CommandLine,
     /// There was no memory to go on.
     NoMemory,
@@ -40,16 +40,23 @@ impl Status {
 
 /// How a run ends that met this fault.
 pub fn status_after(fault: &RunFault) -> Status
-    ensures { result ≡ status_of fault.now }
+    ensures status { result ≡ status_of fault.now }
+    ensures open { result ≢ Status.Done }
 {
     match fault {
         RunFault::NoMemory
         | RunFault::Arch(ArchFault::NoMemory)
         | RunFault::Net(NetFault::NoMemory)
+        | RunFault::Pads(PlaceFault::NoMemory)
         | RunFault::Place(PlaceFault::NoMemory) => Status::NoMemory,
         RunFault::Report | RunFault::Place(PlaceFault::Write) => Status::Device,
-        RunFault::Arch(_) | RunFault::Net(_) | RunFault::Place(_) | RunFault::Size(_) => {
-            Status::Refused
+        RunFault::Schedule(_) | RunFault::BatchOutOfRange | RunFault::WorkersOutOfRange => {
+            Status::CommandLine
         }
+        RunFault::Arch(_)
+        | RunFault::Net(_)
+        | RunFault::Pads(_)
+        | RunFault::Place(_)
+        | RunFault::Size(_) => Status::Refused,
     }
 }

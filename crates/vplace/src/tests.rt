@@ -1,6 +1,6 @@
 // The program in memory: its words, the files that it reads, what it writes, and its status.
 
-use crate::files::{NamedFiles, ReadFault};
+use crate::files::{NamedFiles, ReadFault, WriteFault};
 use crate::program::program;
 use crate::words::{as_bytes, as_text};
 use fab_text::Counted;
@@ -52,6 +52,11 @@ impl NamedFiles for Shelf {
             Ok(bytes) => Ok(bytes),
             Err(_) => Err(ReadFault::NoMemory),
         }
+    }
+
+    // A check writes no file.
+    fn write(&self, _alloc: Global, _name: &[u8], _bytes: &[u8]) -> Result<(), WriteFault> {
+        Err(WriteFault)
     }
 }
 

@@ -4,7 +4,7 @@ use Rattle.fab_text.specs.Lines.{lines}
 use Rattle.fab_file.specs.Place.{StandsFor}
 use Rattle.fab_run.specs.Check.{FitsOn}
 use Rattle.fab_run.specs.RunFaults.{of_place}
-use Rattle.fab_run.proofs.Checking.{placed}
+use Rattle.fab_run.proofs.Checking.{of_design, placed}
 use Rattle.fab_run.proofs.Readers.{place_text, text_reads}
 use Rattle.fab_run.proofs.check.read_checked.Goals as goal
 
@@ -21,7 +21,7 @@ returns-in_err-io_rat-clause-only c d g sites k =
 pub returns-in_err-io_rat-clause-fault : goal.returns-in_err-io_rat-clause-fault
 returns-in_err-io_rat-clause-fault c =
     let p = err_from_is_err_and c.from_residual.result c.from_residual.ensures.1 in
-    rw (p.1, p.2) (c.in_err-io_rat.ensures.fault c.args.place.now)
+    rw (p.1, p.2) (of_design c.args.arch.now c.args.net.now c.args.place.now _ c.in_err-io_rat.ensures.fault)
 
 pub returns-in_err-grid-clause-only : goal.returns-in_err-grid-clause-only
 returns-in_err-grid-clause-only c d g sites k =

@@ -1,7 +1,7 @@
 use Rattle.std.proofs.Common.{◌∙◌, ap}
 use Rattle.std.proofs.lemmas.Result.{err_from_is_err_and}
 use Rattle.fab_run.specs.RunFaults.{of_arch}
-use Rattle.fab_run.proofs.check.read_design.Goals as goal
+use Rattle.fab_run.proofs.designs.read_design.Goals as goal
 
 pub returns-in_err-arch-clause-only : goal.returns-in_err-arch-clause-only
 returns-in_err-arch-clause-only c io_rat d m =

@@ -1,0 +1,167 @@
+-- The report of a whole run, and its beginnings.
+use Rattle.std.proofs.Common.{◌≡◌, ℕ, zero, suc, ◌+◌, ◌-◌, List, [], ◌∷◌, ◌++◌, length, take, cond, Option, None, is_some, refl, sym, ap, subst, ◌∙◌, arith}
+use Rattle.std.specs.Io.KnownBytes.{Appends}
+use Rattle.std.specs.Prelude.{Result, Ok, Err, IfOk, OnOk, OnErr}
+use Rattle.fab_site.specs.Placement.{IsLegal}
+use Rattle.fab_cost.specs.Cost.{cost_of}
+use Rattle.fab_move.specs.Stream.{stream_moves}
+use Rattle.fab_commit.specs.Serial.{Run, Standing, accepted_among, from}
+use Rattle.fab_commit.specs.Commits.{AnnealOf, IsSameRun, run_of}
+use Rattle.fab_run.specs.Piece.{IsOver, cost_at, end_line, head_text, last_line, run_costs, stage_costs, stage_lines}
+use Rattle.fab_run.specs.Setting.{Setting}
+use Rattle.fab_run.specs.Placed.{IsBegun, IsToldRun, report_by, run_by, start_by}
+use Rattle.fab_run.specs.declared.fault.RunFault.{RunFault}
+use Rattle.fab_run.specs.declared.inputs.Outcome.{Outcome}
+use Rattle.fab_run.proofs.Telling.{appends_none, appends_two, same_run, take_more}
+
+begins_head : (xs ys : List ℕ) (k : ℕ) → (j : ℕ) × (take k xs ≡ take j (xs ++ ys))
+begins_head [] ys zero = (0, refl)
+begins_head [] ys (suc k) = (0, refl)
+begins_head (x ∷ xs) ys zero = (0, refl)
+begins_head (x ∷ xs) ys (suc k) = (let r = begins_head xs ys k in (suc r.0, ap (λ l. x ∷ l) r.1))
+
+end_over : (r : Run) (y : Standing) → y.heat ≡ None → end_line r y ≡ last_line r y
+end_over r y e = ap (λ h. cond (is_some h) [] (last_line r y)) e
+
+-- its first two lines
+unfoldable pub head_by : Setting → ℕ → List ℕ
+head_by s seed = head_text s.design s.grid (cost_at (run_by s seed) (start_by s seed))
+
+-- what went out is a beginning of the report
+abbrev pub IsCutReport : Setting → ℕ → Option (List ℕ) → Option (List ℕ) → Type 0
+IsCutReport s seed old new = (n : ℕ) × IsBegun old new (report_by s seed n)
+
+pub cut_none : (s : Setting) (seed : ℕ) (old new : Option (List ℕ)) → new ≡ old → IsCutReport s seed old new
+unfolding report_by
+cut_none s seed old new e = (0, (0, subst (λ l. Appends old l []) (sym e) (appends_none old)))
+
+pub cut_head : (s : Setting) (seed : ℕ) (old new : Option (List ℕ)) → IsBegun old new (head_by s seed) → IsCutReport s seed old new
+unfolding head_by report_by
+cut_head s seed old new b =
+    let r = run_by s seed in
+    let x = start_by s seed in
+    let k = begins_head (head_by s seed) (stage_lines r x 0 ++ end_line r x) b.0 in
+    (0, (k.0, subst (λ l. Appends old new l) k.1 b.1))
+
+pub cut_stages : (s : Setting) (seed : ℕ) (old mid new : Option (List ℕ)) (n k : ℕ) → Appends old mid (head_by s seed) → Appends mid new (take k (stage_lines (run_by s seed) (start_by s seed) n)) → IsCutReport s seed old new
+unfolding head_by report_by
+cut_stages s seed old mid new n k told cut =
+    let r = run_by s seed in
+    let x = start_by s seed in
+    let head = head_by s seed in
+    let lines = stage_lines r x n in
+    let end = end_line r (from r x n) in
+    let a = begins_head lines end k in
+    let all : head ++ take k lines ≡ take (length head + a.0) (head ++ (lines ++ end)) = ap (λ l. head ++ l) a.1 ∙ sym (take_more head (lines ++ end) a.0) in
+    (n, (length head + a.0, subst (λ l. Appends old new l) all (appends_two old mid new head (take k lines) told cut)))
+
+pub cut_last : (s : Setting) (seed : ℕ) (old mid more new : Option (List ℕ)) (n : ℕ) → Appends old mid (head_by s seed) → Appends mid more (stage_lines (run_by s seed) (start_by s seed) n)
+    → IsOver (run_by s seed) (start_by s seed) n → IsBegun more new (last_line (run_by s seed) (from (run_by s seed) (start_by s seed) n)) → IsCutReport s seed old new
+unfolding head_by report_by
+cut_last s seed old mid more new n told lined over b =
+    let r = run_by s seed in
+    let x = start_by s seed in
+    let head = head_by s seed in
+    let lines = stage_lines r x n in
+    let y = from r x n in
+    let end = end_line r y in
+    let k = b.0 in
+    let last : take k (last_line r y) ≡ take k end = ap (take k) (sym (end_over r y over)) in
+    let two = appends_two mid more new lines (take k (last_line r y)) lined b.1 in
+    let three = appends_two old mid new head (lines ++ take k (last_line r y)) told two in
+    let all : head ++ (lines ++ take k (last_line r y)) ≡ take (length head + (length lines + k)) (head ++ (lines ++ end)) =
+    ap (λ l. head ++ (lines ++ l)) last ∙ ap (λ l. head ++ l) (sym (take_more lines end k)) ∙ sym (take_more head (lines ++ end) (length lines + k)) in
+    (n, (length head + (length lines + k), subst (λ l. Appends old new l) all three))
+
+pub told_whole : (s : Setting) (seed : ℕ) (old mid more new : Option (List ℕ)) (n : ℕ) → Appends old mid (head_by s seed) → Appends mid more (stage_lines (run_by s seed) (start_by s seed) n)
+    → IsOver (run_by s seed) (start_by s seed) n → Appends more new (last_line (run_by s seed) (from (run_by s seed) (start_by s seed) n)) → Appends old new (report_by s seed n)
+unfolding head_by report_by
+told_whole s seed old mid more new n told lined over last =
+    let r = run_by s seed in
+    let x = start_by s seed in
+    let head = head_by s seed in
+    let lines = stage_lines r x n in
+    let y = from r x n in
+    let two = appends_two mid more new lines (last_line r y) lined last in
+    let three = appends_two old mid new head (lines ++ last_line r y) told two in
+    subst (λ l. Appends old new (head ++ (lines ++ l))) (sym (end_over r y over)) three
+
+-- an annealer before its first move
+abbrev pub IsFresh : Setting → ℕ → AnnealOf ℕ → Type 0
+IsFresh s seed a = a ≡ record { design = s.design; grid = s.grid; fixed = s.fixed; plan = s.plan; words = seed; standing = start_by s seed; accepted = [] }
+
+-- what an annealer tells, from the standing before the first move
+pub record IsLined (s : Setting) (seed : ℕ) (y : Standing) (accepted costs : List ℕ) (mid more : Option (List ℕ)) : Type 0 where
+  pub stands : y ≡ from (run_by s seed) (start_by s seed) y.done
+  pub over : y.heat ≡ None
+  pub numbers : accepted ≡ accepted_among (run_by s seed) (start_by s seed) y.done
+  pub values : costs ≡ run_costs (run_by s seed) (start_by s seed) y.done
+  pub lined : Appends mid more (stage_lines (run_by s seed) (start_by s seed) y.done)
+
+pub lined_by : (s : Setting) (seed : ℕ) (a b : AnnealOf ℕ) (costs0 costs : List ℕ) (mid more : Option (List ℕ))
+    → IsFresh s seed a
+    → b.standing ≡ from (run_of stream_moves a) a.standing (b.standing.done - a.standing.done)
+    → b.standing.heat ≡ None
+    → b.accepted ≡ a.accepted ++ accepted_among (run_of stream_moves a) a.standing (b.standing.done - a.standing.done)
+    → costs0 ≡ cost_at (run_by s seed) (start_by s seed) ∷ []
+    → costs ≡ costs0 ++ stage_costs (run_of stream_moves a) a.standing (b.standing.done - a.standing.done)
+    → Appends mid more (stage_lines (run_of stream_moves a) a.standing (b.standing.done - a.standing.done))
+    → IsLined s seed b.standing b.accepted costs mid more
+lined_by s seed a b costs0 costs mid more e stands over numbers first values lined =
+    let n = b.standing.done in
+    let r = run_by s seed in
+    let x = start_by s seed in
+    let all : n - 0 ≡ n = omega arith in
+    record {
+      stands = stands ∙ ap (λ (q : AnnealOf ℕ). from (run_of stream_moves q) q.standing (n - q.standing.done)) e ∙ ap (from r x) all;
+      over = over;
+      numbers = numbers ∙ ap (λ (q : AnnealOf ℕ). q.accepted ++ accepted_among (run_of stream_moves q) q.standing (n - q.standing.done)) e ∙ ap (accepted_among r x) all;
+      values = values ∙ (λ i. first i ++ stage_costs (run_of stream_moves (e i)) (e i).standing (n - (e i).standing.done)) ∙ ap (run_costs r x) all;
+      lined = subst (λ k. Appends mid more (stage_lines r x k)) all (subst (λ (q : AnnealOf ℕ). Appends mid more (stage_lines (run_of stream_moves q) q.standing (n - q.standing.done))) e lined);
+    }
+
+pub over_there : (s : Setting) (seed : ℕ) (y : Standing) → y ≡ from (run_by s seed) (start_by s seed) y.done → y.heat ≡ None → IsOver (run_by s seed) (start_by s seed) y.done
+over_there s seed y stands over = sym (ap (λ q. q.heat) stands) ∙ over
+
+cost_is : (s : Setting) (seed : ℕ) (a : AnnealOf ℕ) (cost : ℕ) → IsFresh s seed a → cost ≡ cost_of a.design a.grid a.standing.sites → cost ≡ cost_at (run_by s seed) (start_by s seed)
+cost_is s seed a cost e k = k ∙ ap (λ q. cost_of q.design q.grid q.standing.sites) e
+
+pub head_is : (s : Setting) (seed : ℕ) (a : AnnealOf ℕ) (cost : ℕ) → IsFresh s seed a → cost ≡ cost_of a.design a.grid a.standing.sites → head_text s.design s.grid cost ≡ head_by s seed
+unfolding head_by
+head_is s seed a cost e k = ap (head_text s.design s.grid) (cost_is s seed a cost e k)
+
+pub cost_first : (s : Setting) (seed : ℕ) (a : AnnealOf ℕ) (cost : ℕ) → IsFresh s seed a → cost ≡ cost_of a.design a.grid a.standing.sites → cost ∷ [] ≡ cost_at (run_by s seed) (start_by s seed) ∷ []
+cost_first s seed a cost e k = ap (λ q. q ∷ []) (cost_is s seed a cost e k)
+
+run_is : (s : Setting) (seed : ℕ) (a b : AnnealOf ℕ) → IsFresh s seed a → IsSameRun a b → run_of stream_moves b ≡ run_by s seed
+run_is s seed a b e same = same_run stream_moves a b same ∙ ap (run_of stream_moves) e
+
+pub told_run : (s : Setting) (seed : ℕ) (old mid more new : Option (List ℕ)) (a b : AnnealOf ℕ) (costs : List ℕ) → IsFresh s seed a → IsSameRun a b → Appends old mid (head_by s seed) → IsLined s seed b.standing b.accepted costs mid more
+    → (r : Result Outcome RunFault) → IfOk r (λ out. out.placement.sites ≡ b.standing.sites) → IfOk r (λ out. IsLegal b.design b.grid b.fixed out.placement.sites) → IfOk r (λ out. out.accepted.items ≡ b.accepted)
+    → IfOk r (λ out. out.costs.items ≡ costs) → OnOk r (Appends more new (last_line (run_of stream_moves b) b.standing))
+    → IfOk r (λ out. IsToldRun s seed out.placement.sites out.accepted.items out.costs.items old new)
+told_run s seed old mid more new a b costs e same told lined (Err f) sites legal accepted values last = tt
+told_run s seed old mid more new a b costs e same told lined (Ok out) sites legal accepted values last =
+    let r = run_is s seed a b e same in
+    let over = over_there s seed b.standing lined.stands lined.over in
+    let here = subst (λ l. Appends more new l) (λ i. last_line (r i) (lined.stands i)) last in
+    record {
+      moves = b.standing.done;
+      annealed = record {
+        over = over;
+        stands = sites ∙ ap (λ y. y.sites) lined.stands;
+        legal = subst (λ (q : Run). IsLegal q.problem.design q.problem.grid q.problem.fixed out.placement.sites) r legal;
+        numbers = accepted ∙ lined.numbers;
+        values = values ∙ lined.values;
+      };
+      report = told_whole s seed old mid more new b.standing.done told lined.lined over here;
+    }
+
+pub cut_run : (s : Setting) (seed : ℕ) (old mid more new : Option (List ℕ)) (a b : AnnealOf ℕ) (costs : List ℕ) → IsFresh s seed a → IsSameRun a b → Appends old mid (head_by s seed) → IsLined s seed b.standing b.accepted costs mid more
+    → (r : Result Outcome RunFault) → OnErr r (IsBegun more new (last_line (run_of stream_moves b) b.standing)) → OnErr r (IsCutReport s seed old new)
+cut_run s seed old mid more new a b costs e same told lined (Ok out) cut = tt
+cut_run s seed old mid more new a b costs e same told lined (Err f) cut =
+    let r = run_is s seed a b e same in
+    let over = over_there s seed b.standing lined.stands lined.over in
+    let here = subst (λ l. IsBegun more new l) (λ i. last_line (r i) (lined.stands i)) cut in
+    cut_last s seed old mid more new b.standing.done told lined.lined over here

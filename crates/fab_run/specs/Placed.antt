@@ -1,0 +1,80 @@
+-- What a run answers and writes (our own): the annealing of its design one move at a time, from the start placement that the
+-- seed's words draw. No batch, worker or snapshot occurs here.
+use Rattle.std.specs.Prelude.{ℕ, ◌≡◌, ◌⊎◌, List, Option, take}
+use Rattle.std.specs.Io.KnownBytes.{Appends}
+use Rattle.fab_text.specs.Lines.{lines}
+use Rattle.fab_text.specs.Failures.{grown}
+use Rattle.fab_arch.specs.declared.array.Site.{Site}
+use Rattle.fab_site.specs.Placement.{IsLegal}
+use Rattle.fab_site.specs.Start.{start_sites}
+use Rattle.fab_file.specs.Place.{StandsFor}
+use Rattle.fab_file.specs.Written.{IsCut, place_text}
+use Rattle.fab_move.specs.Stream.{stream_moves, stream_starts}
+use Rattle.fab_commit.specs.Serial.{Run, Standing, accepted_among, at_start, from}
+use Rattle.fab_commit.specs.Commits.{run}
+use Rattle.fab_run.specs.declared.fault.RunFault.{RunFault}
+use Rattle.fab_run.specs.declared.fault.RunFault.TheVariants.{Report, NoMemory}
+use Rattle.fab_run.specs.declared.inputs.Options.{Options}
+use Rattle.fab_run.specs.Piece.{IsOver, run_costs, run_report}
+use Rattle.fab_run.specs.Setting.{IsSetting, Setting, Texts}
+
+-- the run of a seed
+abbrev pub run_by : Setting → ℕ → Run
+run_by s seed = run s.design s.grid s.fixed (stream_moves seed) s.plan
+
+-- its standing before the first move
+abbrev pub start_by : Setting → ℕ → Standing
+start_by s seed = at_start (run_by s seed) (start_sites s.design s.grid s.fixed s.begun (stream_starts seed))
+
+-- the report of a run once so many moves were made
+unfoldable pub report_by : Setting → ℕ → ℕ → List ℕ
+report_by s seed n = run_report (run_by s seed) (start_by s seed) n
+
+-- the text of a placement of the design, with the names that the run shows
+abbrev pub text_by : Texts → Setting → List Site → List ℕ
+text_by t s sites = place_text t.net_label t.arch_label s.design s.grid sites
+
+-- the annealing is over after so many moves, and ends with these sites, these accepted moves and these costs
+pub record IsAnnealed (s : Setting) (seed moves : ℕ) (sites : List Site) (accepted costs : List ℕ) : Type 0 where
+  pub over : IsOver (run_by s seed) (start_by s seed) moves
+  pub stands : sites ≡ (from (run_by s seed) (start_by s seed) moves).sites
+  pub legal : IsLegal s.design s.grid s.fixed sites
+  pub numbers : accepted ≡ accepted_among (run_by s seed) (start_by s seed) moves
+  pub values : costs ≡ run_costs (run_by s seed) (start_by s seed) moves
+
+-- the annealing ends so, and what went out is its report
+pub record IsToldRun (s : Setting) (seed : ℕ) (sites : List Site) (accepted costs : List ℕ) (old new : Option (List ℕ)) : Type 0 where
+  pub moves : ℕ
+  pub annealed : IsAnnealed s seed moves sites accepted costs
+  pub report : Appends old new (report_by s seed moves)
+
+-- the texts and numbers mean a setting, its annealing ends so, and what went to the report and to the place text is the
+-- report of it and the text of its placement, which reads back
+pub record IsPlaced (t : Texts) (o : Options) (sites : List Site) (accepted costs : List ℕ) (report_old report_new place_old place_new : Option (List ℕ)) : Type 0 where
+  pub setting : Setting
+  pub given : IsSetting t o setting
+  pub told : IsToldRun setting o.seed sites accepted costs report_old report_new
+  pub place : Appends place_old place_new (text_by t setting sites)
+  pub back : StandsFor setting.design setting.grid (lines (text_by t setting sites)) sites
+
+-- what went out is a beginning of a text
+abbrev pub IsBegun : Option (List ℕ) → Option (List ℕ) → List ℕ → Type 0
+IsBegun old new text = (k : ℕ) × Appends old new (take k text)
+
+-- memory ran out, or the writer of the report failed once more
+abbrev pub IsReportFault : ℕ → ℕ → RunFault → Type 0
+IsReportFault old new e = ((e ≡ NoMemory) × (new ≡ old)) ⊎ ((e ≡ Report) × (new ≡ grown old))
+
+-- what went out is a beginning of the run's report
+abbrev pub IsReportBegun : Texts → Options → Option (List ℕ) → Option (List ℕ) → Type 0
+IsReportBegun t o old new = (s : Setting) × IsSetting t o s × (n : ℕ) × IsBegun old new (report_by s o.seed n)
+
+-- what went out is the whole report, and a beginning of the place text, but not all of it
+pub record IsPlaceCut (t : Texts) (o : Options) (report_old report_new place_old place_new : Option (List ℕ)) : Type 0 where
+  pub setting : Setting
+  pub sites : List Site
+  pub accepted : List ℕ
+  pub costs : List ℕ
+  pub given : IsSetting t o setting
+  pub told : IsToldRun setting o.seed sites accepted costs report_old report_new
+  pub place : IsCut (text_by t setting sites) place_old place_new

@@ -1,0 +1,66 @@
+//! What a run is given, and what it answers.
+
+use fab_file::Labels;
+use fab_sched::Cooling;
+use fab_site::Placement;
+
+/// The texts of a run, and the names of their files that its place text shows.
+#[derive(Clone, Copy, Debug)]
+pub struct Inputs<'a> {
+    /// The architecture text.
+    pub arch: &'a [u8],
+    /// The netlist text.
+    pub net: &'a [u8],
+    /// The location text: blocks that are fixed at a site, or begin there.
+    pub pads: Option<&'a [u8]>,
+    pub labels: Labels<'a>,
+}
+
+/// How the moves of a stage are given.
+#[derive(Clone, Copy, Debug, PartialEq, Eq)]
+pub enum Moves {
+    /// So many, 1 to 1,073,741,824.
+    Given(u64),
+    /// By VPR's rule: so often the number of blocks to the power 4/3, where the factor is 1 to 10,000.
+    Inner(u64),
+}
+
+/// The numbers of a run. Temperatures are 1 to 1,073,741,824 ten-thousandths.
+#[derive(Clone, Copy, Debug, PartialEq, Eq)]
+pub struct Options {
+    /// Of the random words.
+    pub seed: u64,
+    /// The columns and rows of the array, 1 to 1,000 each; where none are given, the least square array is taken.
+    pub size: Option<(u16, u16)>,
+    /// The first temperature.
+    pub init_t: u64,
+    /// The least temperature that is run.
+    pub exit_t: u64,
+    /// How the temperature falls: a factor is 1 to 999 thousandths.
+    pub cooling: Cooling,
+    /// The moves of a stage.
+    pub moves: Moves,
+    /// How many moves are judged ahead, 1 to 4,096. What is placed does not depend on it.
+    pub batch: u64,
+    /// How many threads judge, 1 to 64. What is placed does not depend on it.
+    pub workers: u64,
+}
+
+/// How a run ended.
+#[derive(Clone, Copy, Debug, PartialEq, Eq)]
+pub enum Ending {
+    /// No move is left.
+    Finished,
+}
+
+/// What a run answers.
+#[derive(Drop)]
+pub struct Outcome {
+    pub ending: Ending,
+    /// Where the blocks stand at the end.
+    pub placement: Placement,
+    /// The numbers of the accepted moves, in order.
+    pub accepted: Vec<u64>,
+    /// The cost at the start, and after each stage, in ten-thousandths.
+    pub costs: Vec<u64>,
+}

@@ -1,0 +1,181 @@
+//! A whole run: from texts and numbers to a placement.
+
+ghost use Rattle.std.specs.Prelude.{◌≡◌, ◌≢◌, ◌⊎◌, ℕ, [], ◌∷◌, OnOk, OnErr, IfOk, IfErr};
+ghost use Rattle.std.specs.Io.KnownBytes.{Appends};
+ghost use Rattle.fab_arch.specs.Grid.{Holds};
+ghost use Rattle.fab_net.specs.Netlist.{logic_count, pad_count};
+ghost use Rattle.fab_site.specs.Pins.{ArePins};
+ghost use Rattle.fab_site.specs.Placement.{IsLegal};
+ghost use Rattle.fab_move.specs.Stream.{stream_moves};
+ghost use Rattle.fab_commit.specs.Commits.{run_of};
+ghost use Rattle.fab_run.specs.Piece.{head_text, last_line};
+ghost use Rattle.fab_run.specs.Check.{failed_with};
+ghost use Rattle.fab_run.specs.Setting.{IsSetting, Setting, setting_of, texts_of};
+ghost use Rattle.fab_run.specs.RunChecks.{IsNoRefusal, IsRefusal, IsRunFault, place_failed_with};
+ghost use Rattle.fab_run.specs.Placed.{IsBegun, IsPlaceCut, IsPlaced, IsReportBegun, IsReportFault, IsToldRun, report_by, start_by};
+ghost use Rattle.fab_run.specs.declared.fault.RunFault.TheVariants.{Place};
+ghost use Rattle.fab_file.specs.declared.fault.PlaceFault.TheVariants.{Write};
+
+use crate::fault::RunFault;
+use crate::inputs::{Ending, Inputs, Options, Outcome};
+use crate::report::{final_line, head_lines};
+use crate::setting::read_setting;
+use crate::stages::anneal_all;
+use fab_arch::Grid;
+use fab_commit::Anneal;
+use fab_file::write_place;
+use fab_move::StreamWords;
+use fab_net::Design;
+use fab_sched::Schedule;
+use fab_site::{Pins, start};
+use fab_text::{Sink, write_whole};
+use std::alloc::{AllocError, Global};
+
+/// An annealer before its first move, on the start placement that the seed draws.
+fn annealer<'a>(
+    alloc: Global,
+    design: &'a Design,
+    grid: &'a Grid,
+    pins: Pins,
+    schedule: Schedule,
+    seed: u64,
+) -> Result<Anneal<'a, StreamWords>, AllocError>
+    requires room { Holds grid.now (logic_count design.now) (pad_count design.now) }
+    requires pins { ArePins design.now grid.now pins.fixed pins.begun }
+    ensures stands { IfOk result (λ a. a ≡ record { design = design.now; grid = grid.now; fixed = pins.fixed; plan = schedule; words = seed; standing = start_by (setting_of design.now grid.now pins.fixed pins.begun schedule) seed; accepted = [] }) }
+{
+    let words = StreamWords::new(seed);
+    let placement = start(alloc, design, grid, &pins, &words)?;
+    Anneal::new(alloc, design, grid, placement, pins.fixed, schedule, words)
+}
+
+/// What a finished annealer answers.
+fn outcome(
+    alloc: Global,
+    anneal: &Anneal<'_, StreamWords>,
+    costs: Vec<u64>,
+) -> Result<Outcome, AllocError>
+    ensures sites { IfOk result (λ out. out.placement.sites ≡ anneal.now.standing.sites) }
+    ensures legal { IfOk result (λ out. IsLegal anneal.now.design anneal.now.grid anneal.now.fixed out.placement.sites) }
+    ensures accepted { IfOk result (λ out. out.accepted.items ≡ anneal.now.accepted) }
+    ensures costs { IfOk result (λ out. out.costs.items ≡ costs.items) }
+{
+    let placement = anneal.placement().copy()?;
+    let accepted = anneal.accepted().to_vec(alloc)?;
+    Ok(Outcome {
+        ending: Ending::Finished,
+        placement,
+        accepted,
+        costs,
+    })
+}
+
+/// The first two lines of a report go out. The answer is the cost, alone in a list.
+fn tell_start<W: Sink>(
+    alloc: Global,
+    design: &Design,
+    grid: &Grid,
+    cost: u64,
+    report: &mut W,
+) -> Result<Vec<u64>, RunFault>
+    ensures costs { IfOk result (λ v. v.items ≡ cost ∷ []) }
+    ensures told { OnOk result (Appends (W.contents report.old) (W.contents report.new) (head_text design.now grid.now cost)) }
+    ensures cut { OnErr result (IsBegun (W.contents report.old) (W.contents report.new) (head_text design.now grid.now cost)) }
+    ensures sound { OnOk result (W.failed report.new ≡ W.failed report.old) }
+    ensures fault { IfErr result (IsReportFault (W.failed report.old) (W.failed report.new)) }
+{
+    let mut costs = Vec::new(alloc);
+    costs.push(cost)?;
+    let lines = head_lines(alloc, design, grid, cost)?;
+    write_whole(report, &lines)?;
+    Ok(costs)
+}
+
+/// The last line of a report goes out. The answer is that of the run.
+fn tell_end<W: Sink>(
+    alloc: Global,
+    anneal: &Anneal<'_, StreamWords>,
+    costs: Vec<u64>,
+    report: &mut W,
+) -> Result<Outcome, RunFault>
+    ensures sites { IfOk result (λ out. out.placement.sites ≡ anneal.now.standing.sites) }
+    ensures legal { IfOk result (λ out. IsLegal anneal.now.design anneal.now.grid anneal.now.fixed out.placement.sites) }
+    ensures accepted { IfOk result (λ out. out.accepted.items ≡ anneal.now.accepted) }
+    ensures costs { IfOk result (λ out. out.costs.items ≡ costs.items) }
+    ensures told { OnOk result (Appends (W.contents report.old) (W.contents report.new) (last_line (run_of stream_moves anneal.now) anneal.now.standing)) }
+    ensures cut { OnErr result (IsBegun (W.contents report.old) (W.contents report.new) (last_line (run_of stream_moves anneal.now) anneal.now.standing)) }
+    ensures sound { OnOk result (W.failed report.new ≡ W.failed report.old) }
+    ensures fault { IfErr result (IsReportFault (W.failed report.old) (W.failed report.new)) }
+{
+    let outcome = outcome(alloc, anneal, costs)?;
+    let line = final_line(alloc, anneal.cost(), anneal.total(), anneal.done())?;
+    write_whole(report, &line)?;
+    Ok(outcome)
+}
+
+/// Anneals from the start placement to the last move, and tells of it.
+fn anneal_told<W: Sink>(
+    alloc: Global,
+    design: &Design,
+    grid: &Grid,
+    pins: Pins,
+    schedule: Schedule,
+    seed: u64,
+    report: &mut W,
+) -> Result<Outcome, RunFault>
+    requires room { Holds grid.now (logic_count design.now) (pad_count design.now) }
+    requires pins { ArePins design.now grid.now pins.fixed pins.begun }
+    ensures annealed { IfOk result (λ out. IsToldRun (setting_of design.now grid.now pins.fixed pins.begun schedule) seed out.placement.sites out.accepted.items out.costs.items (W.contents report.old) (W.contents report.new)) }
+    ensures cut { OnErr result ((n : ℕ) × IsBegun (W.contents report.old) (W.contents report.new) (report_by (setting_of design.now grid.now pins.fixed pins.begun schedule) seed n)) }
+    ensures sound { OnOk result (W.failed report.new ≡ W.failed report.old) }
+    ensures fault { IfErr result (IsReportFault (W.failed report.old) (W.failed report.new)) }
+{
+    let moves = schedule.moves();
+    let mut anneal = annealer(alloc, design, grid, pins, schedule, seed)?;
+    let mut costs = tell_start(alloc, design, grid, anneal.cost(), report)?;
+    anneal_all(alloc, &mut anneal, moves, report, &mut costs)?;
+    tell_end(alloc, &anneal, costs, report)
+}
+
+/// Places the design of a run: anneals it one move after another from a start placement, by random words of the seed. The
+/// report's lines go out as their stages end, and the place text once the report is whole. What is answered and written does not
+/// depend on batch and workers.
+///
+/// An error is the first check that fails, in the order architecture, netlist, size (range, logic sites, pad sites), location
+/// text, labels, schedule, batch, workers: then nothing is written. Else it is want of memory, or the writer's that failed.
+pub fn place_run<R: AllocGlobal, W: Sink, P: Sink>(
+    rt: &R,
+    inputs: &Inputs,
+    options: &Options,
+    report: &mut W,
+    place: &mut P,
+) -> Result<Outcome, RunFault>
+    // The headline: placement, accepted moves, costs, report and place text are those of annealing one move at a time.
+    ensures headline { IfOk result (λ out. IsPlaced (texts_of inputs.now) options.now out.placement.sites out.accepted.items out.costs.items (W.contents report.old) (W.contents report.new) (P.contents place.old) (P.contents place.new)) }
+    // Where no check fails, it is answered, unless memory or a writer fails.
+    ensures only { (s : Setting) → IsSetting (texts_of inputs.now) options.now s → IfErr result IsNoRefusal }
+    // An error is the first check that fails, or want of memory, or that of the writer that failed.
+    ensures fault { IfErr result (IsRunFault (texts_of inputs.now) options.now) }
+    // A run that is refused writes nothing; at any other fault a beginning of the report may have gone out.
+    ensures silent { IfErr result (λ e. IsRefusal e → W.contents report.new ≡ W.contents report.old) }
+    ensures cut { OnErr result ((W.contents report.new ≡ W.contents report.old) ⊎ IsReportBegun (texts_of inputs.now) options.now (W.contents report.old) (W.contents report.new)) }
+    // The place text goes out behind the whole report, and only its own writer can cut it off.
+    ensures unplaced { IfErr result (λ e. e ≢ Place Write → P.contents place.new ≡ P.contents place.old) }
+    ensures place_cut { IfErr result (λ e. e ≡ Place Write → IsPlaceCut (texts_of inputs.now) options.now (W.contents report.old) (W.contents report.new) (P.contents place.old) (P.contents place.new)) }
+    // A writer failed only where the answer says so.
+    ensures sound { OnOk result ((W.failed report.new ≡ W.failed report.old) × (P.failed place.new ≡ P.failed place.old)) }
+    ensures failed { IfErr result (λ e. (W.failed report.new ≡ failed_with e (W.failed report.old)) × (P.failed place.new ≡ place_failed_with e (P.failed place.old))) }
+{
+    let alloc = rt.alloc();
+    let (design, grid, pins, schedule) = read_setting(alloc, inputs, options)?;
+    let outcome = anneal_told(alloc, &design, &grid, pins, schedule, options.seed, report)?;
+    write_place(
+        alloc,
+        place,
+        &inputs.labels,
+        &design,
+        &grid,
+        &outcome.placement,
+    )?;
+    Ok(outcome)
+}

@@ -1,0 +1,163 @@
+//! The options of `place`.
+
+use crate::flags::{file_name, file_option};
+use crate::placing::PlaceWords;
+use clap::{Arg, ArgAction, ArgMatches, Command, value_parser};
+use std::alloc::{AllocError, Global};
+
+const ABOUT: &str = "Place a design by simulated annealing, and write its placement";
+
+const AFTER: &str =
+    "Anneals stage by stage: each stage makes the same number of moves at one temperature, and the next is colder.
+Temperatures are in units of cost, with at most four places; the last stage, at 0, takes no move that costs more.
+Prints the design and its array, the cost at the start, a line for each stage as it ends, and the final cost;
+then writes the placement. The same files and numbers give the same bytes on every machine, whatever --batch and
+--workers are.
+
+Example:
+  vplace place --arch small.arch --net small.net --out small.place --seed 7";
+
+const PADS: &str =
+    "The locations: a line `NAME X Y SUB` fixes a block there, a last word `free` only begins it there";
+
+const NX: &str =
+    "The columns of the array, 1 to 1000, with --ny; without both, the least square array that holds the design is taken";
+
+const NY: &str = "The rows of the array, 1 to 1000, with --nx";
+
+const SEED: &str = "The seed of the random words, 0 to 18446744073709551615";
+
+const INIT_T: &str = "The first temperature, in units of cost, 0.0001 to 107374.1824";
+
+const EXIT_T: &str = "The least temperature that is run, in units of cost, 0.0001 to 107374.1824";
+
+const ALPHA_T: &str =
+    "The factor from one temperature to the next, 0.001 to 0.999, or `adaptive` for VPR's own, by the share of accepted moves";
+
+const INNER: &str =
+    "The moves of a stage, in parts of the number of blocks to the power 4/3, 1 to 10000";
+
+const MOVES: &str = "The moves of a stage, 1 to 1073741824; --inner is not used then";
+
+const BATCH: &str =
+    "How many moves are judged ahead, 1 to 4096; the placement does not depend on it";
+
+const WORKERS: &str = "How many threads judge, 1 to 64; the placement does not depend on it";
+
+// An option with one value, the name of a file.
+fn named_file<'a>(alloc: Global, name: &'a str, help: &'a str) -> Arg<'a> {
+    Arg::new(alloc, name)
+        .long(name)
+        .value_name("FILE")
+        .action(ArgAction::Set)
+        .help(help)
+}
+
+// An option with one value, a decimal number.
+fn decimal_option<'a>(alloc: Global, name: &'a str, default: &'a str, help: &'a str) -> Arg<'a> {
+    Arg::new(alloc, name)
+        .long(name)
+        .value_name("NUMBER")
+        .action(ArgAction::Set)
+        .default_value(default)
+        .help(help)
+}
+
+// An option with one value, a whole number.
+fn whole_option<'a>(alloc: Global, name: &'a str, help: &'a str) -> Arg<'a> {
+    Arg::new(alloc, name)
+        .long(name)
+        .value_name("NUMBER")
+        .action(ArgAction::Set)
+        .value_parser(value_parser!(u64))
+        .help(help)
+}
+
+// An option with one value, a side of the array.
+fn side_option<'a>(alloc: Global, name: &'a str, help: &'a str) -> Arg<'a> {
+    Arg::new(alloc, name)
+        .long(name)
+        .value_name("NUMBER")
+        .action(ArgAction::Set)
+        .value_parser(value_parser!(u16))
+        .help(help)
+}
+
+fn with_files<'a>(alloc: Global, command: Command<'a>) -> Result<Command<'a>, AllocError> {
+    let arch = file_option(
+        alloc,
+        "arch",
+        "The architecture: pads for each position, and the pins of a logic block",
+    );
+    let net = file_option(
+        alloc,
+        "net",
+        "The netlist: the blocks, and the nets on their pins",
+    );
+    let out = file_option(
+        alloc,
+        "out",
+        "Where the placement is written, once the run is over",
+    );
+    command
+        .arg(arch)?
+        .arg(net)?
+        .arg(out)?
+        .arg(named_file(alloc, "pads", PADS))
+}
+
+fn with_schedule<'a>(alloc: Global, command: Command<'a>) -> Result<Command<'a>, AllocError> {
+    command
+        .arg(decimal_option(alloc, "init-t", "100", INIT_T))?
+        .arg(decimal_option(alloc, "exit-t", "0.01", EXIT_T))?
+        .arg(decimal_option(alloc, "alpha-t", "0.8", ALPHA_T))?
+        .arg(whole_option(alloc, "inner", INNER).default_value("10"))?
+        .arg(whole_option(alloc, "moves", MOVES))
+}
+
+pub fn place_command<'a>(alloc: Global) -> Result<Command<'a>, AllocError> {
+    let command = Command::new(alloc, "place").about(ABOUT).after_help(AFTER);
+    let command = with_files(alloc, command)?
+        .arg(side_option(alloc, "nx", NX))?
+        .arg(side_option(alloc, "ny", NY))?
+        .arg(whole_option(alloc, "seed", SEED).default_value("1"))?;
+    with_schedule(alloc, command)?
+        .arg(whole_option(alloc, "batch", BATCH).default_value("64"))?
+        .arg(whole_option(alloc, "workers", WORKERS).default_value("4"))
+}
+
+// The file name that an option was given, if it was.
+fn optional_name(
+    alloc: Global,
+    matches: &ArgMatches<'_>,
+    option: &str,
+) -> Result<Option<Vec<u8>>, AllocError> {
+    if matches.get_str(option).is_none() {
+        return Ok(None);
+    }
+    Ok(Some(file_name(alloc, matches, option)?))
+}
+
+// The number of an option that has a default.
+fn number(matches: &ArgMatches<'_>, option: &str) -> u64 {
+    matches.get_one::<u64>(option).unwrap_or(0)
+}
+
+pub fn place_words(alloc: Global, matches: &ArgMatches<'_>) -> Result<PlaceWords, AllocError> {
+    Ok(PlaceWords {
+        arch: file_name(alloc, matches, "arch")?,
+        net: file_name(alloc, matches, "net")?,
+        out: file_name(alloc, matches, "out")?,
+        pads: optional_name(alloc, matches, "pads")?,
+        nx: matches.get_one::<u16>("nx"),
+        ny: matches.get_one::<u16>("ny"),
+        seed: number(matches, "seed"),
+        init_t: file_name(alloc, matches, "init-t")?,
+        exit_t: file_name(alloc, matches, "exit-t")?,
+        alpha_t: file_name(alloc, matches, "alpha-t")?,
+        inner: number(matches, "inner"),
+        moves: matches.get_one::<u64>("moves"),
+        batch: number(matches, "batch"),
+        workers: number(matches, "workers"),
+    })
+}

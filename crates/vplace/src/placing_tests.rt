@@ -1,0 +1,132 @@
+// The subcommand `place` in memory: a design of two pads and one logic block, whose every move finds its block's own site.
+
+use crate::files::{NamedFiles, ReadFault, WriteFault};
+use crate::program::program;
+use fab_text::Counted;
+use std::alloc::{AllocError, Global};
+use std::cell::RefCell;
+use std::test::*;
+
+const ARCH: &[u8] = b"io_rat 1\ninpin class: 0 left\noutpin class: 1 right\n";
+
+const NET: &[u8] =
+    b".input a\npinlist: n1\n.output z\npinlist: n2\n.clb b\npinlist: n1 n2\nsubblock: b 0 1\n";
+
+const PADS: &[u8] = b"a 0 1 0\nz 2 1 0\n";
+
+const REPORT: &[u8] = b"blocks 3 logic 1 pads 2 nets 2 array 1 x 1
+start cost 4.0000
+stage 0 t 10.0000 range 1.000 moves 3 accepted 0 cost 4.0000
+stage 1 t 5.0000 range 1.000 moves 3 accepted 0 cost 4.0000
+stage 2 t 2.5000 range 1.000 moves 3 accepted 0 cost 4.0000
+stage 3 t 1.2500 range 1.000 moves 3 accepted 0 cost 4.0000
+frozen range 1.000 moves 3 accepted 0 cost 4.0000
+final cost 4.0000 accepted 0 of 15
+";
+
+const PLACE: &[u8] = b"Netlist file: t.net   Architecture file: t.arch
+Array size: 1 x 1 logic blocks
+
+#block name\tx\ty\tsubblk\tblock number
+#----------\t--\t--\t------\t------------
+a\t0\t1\t0\t#0
+z\t2\t1\t0\t#1
+b\t1\t1\t0\t#2
+";
+
+// The files of the design; what is written to `t.place` is kept, and any other file is refused.
+#[derive(Drop)]
+struct Desk {
+    placed: RefCell<Option<Vec<u8>>>,
+}
+
+impl NamedFiles for Desk {
+    fn read(&self, alloc: Global, name: &[u8]) -> Result<Vec<u8>, ReadFault> {
+        let text = if name == b"t.arch".as_slice() {
+            ARCH
+        } else if name == b"t.net".as_slice() {
+            NET
+        } else if name == b"t.pads".as_slice() {
+            PADS
+        } else {
+            return Err(ReadFault::Unreadable);
+        };
+        Vec::from_slice(alloc, text).map_err(|_| ReadFault::NoMemory)
+    }
+
+    fn write(&self, alloc: Global, name: &[u8], bytes: &[u8]) -> Result<(), WriteFault> {
+        if name != b"t.place".as_slice() {
+            return Err(WriteFault);
+        }
+        match Vec::from_slice(alloc, bytes) {
+            Ok(bytes) => match self.placed.try_replace(Some(bytes)) {
+                Ok(_) => Ok(()),
+                Err(_) => Err(WriteFault),
+            },
+            Err(_) => Err(WriteFault),
+        }
+    }
+}
+
+// What a run left, in one text: its status, its two outputs, and the placement.
+fn run(rt: &impl AllocGlobal, words: &[&[u8]]) -> Result<Vec<u8>, AllocError> {
+    let alloc = rt.alloc();
+    let desk = Desk {
+        placed: RefCell::new(None),
+    };
+    let mut given = Vec::new(alloc);
+    for word in words {
+        given.push(Vec::from_slice(alloc, word)?)?;
+    }
+    let mut out = Counted::new(Vec::new(alloc));
+    let mut err = Counted::new(Vec::new(alloc));
+    let status = program(rt, given.as_slice(), &desk, &mut out, &mut err);
+    let mut left = Vec::new(alloc);
+    left.push(b'0'.saturating_add(status))?;
+    left.push(b'\n')?;
+    left.extend_from_slice(&out.into_inner())?;
+    left.extend_from_slice(&err.into_inner())?;
+    if let Some(placed) = desk.placed.into_inner() {
+        left.extend_from_slice(&placed)?;
+    }
+    Ok(left)
+}
+
+const WORDS: [&[u8]; 17] = [
+    b"place",
+    b"--arch",
+    b"t.arch",
+    b"--net",
+    b"t.net",
+    b"--pads",
+    b"t.pads",
+    b"--out",
+    b"t.place",
+    b"--init-t",
+    b"10",
+    b"--exit-t",
+    b"1",
+    b"--alpha-t",
+    b"0.5",
+    b"--moves",
+    b"3",
+];
+
+#[test]
+fn a_design_is_placed(rt: HostRuntime) -> Result<(), Fail> {
+    let left = run(&rt, WORDS.as_slice())?;
+    let wanted = [b"0\n".as_slice(), REPORT, PLACE].concat(rt.alloc())?;
+    assert_eq!(rt; left, wanted);
+    Ok(())
+}
+
+#[test]
+fn a_word_without_its_value_places_nothing(rt: HostRuntime) -> Result<(), Fail> {
+    let words: [&[u8]; 6] = [
+        b"place", b"--arch", b"t.arch", b"--out", b"t.place", b"--net",
+    ];
+    let left = run(&rt, words.as_slice())?;
+    assert_eq!(rt; &left[..2], b"2\n".as_slice());
+    assert!(rt; !left.ends_with(PLACE));
+    Ok(())
+}

@@ -1,0 +1,28 @@
+//! Files of a run, read whole.
+
+ghost use Rattle.std.specs.Prelude.{◌≡◌, ◌⊎◌, OnOk, IfErr};
+
+use crate::files::{NamedFiles, ReadFault};
+use crate::messages;
+use crate::messages::Role;
+use crate::status::Status;
+use fab_text::Sink;
+use std::alloc::Global;
+
+/// Reads the file of a role, or says why it was not read.
+pub fn read_role<F: NamedFiles, E: Sink>(
+    alloc: Global,
+    files: &F,
+    role: Role,
+    name: &[u8],
+    err: &mut E,
+) -> Result<Vec<u8>, Status>
+    ensures read { OnOk result (E.contents err.new ≡ E.contents err.old) }
+    ensures fault { IfErr result (λ status. (status ≡ Status.Device) ⊎ (status ≡ Status.NoMemory)) }
+{
+    match files.read(alloc, name) {
+        Ok(text) => Ok(text),
+        Err(ReadFault::Unreadable) => Err(messages::unreadable(err, role)),
+        Err(ReadFault::NoMemory) => Err(messages::no_memory(err)),
+    }
+}
