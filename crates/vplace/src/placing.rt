@@ -185,14 +185,16 @@ fn placed<R: AllocGlobal, F: NamedFiles, O: Sink, E: Sink>(
     let arch = read_role(alloc, files, Role::Arch, words.arch.as_slice(), err)?;
     let net = read_role(alloc, files, Role::Net, words.net.as_slice(), err)?;
     let pads = read_pads(alloc, files, words.pads.as_deref(), err)?;
+    let labels = Labels {
+        net: words.net.as_slice(),
+        arch: words.arch.as_slice(),
+    };
+    let pads = pads.as_deref();
     let inputs = Inputs {
         arch: arch.as_slice(),
         net: net.as_slice(),
-        pads: pads.as_deref(),
-        labels: Labels {
-            net: words.net.as_slice(),
-            arch: words.arch.as_slice(),
-        },
+        pads,
+        labels,
     };
     place_texts(rt, &inputs, &options, out, err)
 }
