@@ -18,6 +18,11 @@ function one_of(list,    words) {
     return words[1 + below(split(list, words, " "))]
 }
 
+# The same of numbers below 2^53, to be compared as numbers.
+function number_of(list) {
+    return one_of(list) + 0
+}
+
 # The faults that the design is to have go to `faulty`.
 function draw_faults(    list, names) {
     split("", faulty)
@@ -275,7 +280,7 @@ function draw_locations(    text, b, line, wants_fault, share) {
     wants_fault = ("BadHeader" in faulty) + ("WrongSize" in faulty) + ("UnknownBlock" in faulty) + ("Repeated" in faulty) \
         + ("NoSuchSite" in faulty) + ("WrongKind" in faulty) + ("Taken" in faulty) + ("BadLine" in faulty)
     if (!wants_fault && !chance(50)) return
-    share = one_of("0 20 50 100")
+    share = number_of("0 20 50 100")
     if (wants_fault) share = 30
     for (b = 1 + (wants_fault > 0); b <= blocks; b++) {
         if ("Taken" in faulty && b == like(1)) continue
@@ -313,7 +318,7 @@ function draw_moves(    inner) {
         if (chance(50)) give("moves", one_of("0 1073741825 18446744073709551615")); else give("inner", one_of("0 10001 18446744073709551615"))
         most = 1
     } else if (chance(50)) {
-        most = one_of("1 2 3 7 20 64 65 130")
+        most = number_of("1 2 3 7 20 64 65 130")
         give("moves", most)
         if (chance(20)) give("inner", one_of("0 5 20000"))
     } else {
@@ -336,9 +341,9 @@ function exit_after(hot, start, factor,    t, next_t) {
 
 # Temperatures and the factor, with few enough stages.
 function draw_schedule(    start, factor, hot, last) {
-    start = one_of("1 50 9000 20000 100000 1000000 1073741824")
+    start = number_of("1 50 9000 20000 100000 1000000 1073741824")
     if (start > 100 && start < 1073741824) start += below(start)
-    factor = one_of("1 300 500 800 950 999")
+    factor = number_of("1 300 500 800 950 999")
     hot = chance(15) ? 0 : 1 + below(12)
     if (hot * most > 2000) hot = int(2000 / most)
     last = exit_after(hot, start, factor)
@@ -348,9 +353,9 @@ function draw_schedule(    start, factor, hot, last) {
     }
     if (last > 1073741824) last = 1073741824
     spoiled = ("BadDigit" in faulty) ? "init-t" : (("TooManyPlaces" in faulty) ? "exit-t" : "alpha-t")
-    if ("InitOutOfRange" in faulty) start = one_of("0 1073741825")
-    if ("ExitOutOfRange" in faulty) last = one_of("0 1073741825")
-    if ("AlphaOutOfRange" in faulty) factor = one_of("0 1000 1200")
+    if ("InitOutOfRange" in faulty) start = number_of("0 1073741825")
+    if ("ExitOutOfRange" in faulty) last = number_of("0 1073741825")
+    if ("AlphaOutOfRange" in faulty) factor = number_of("0 1000 1200")
     give("init-t", spoil("init-t", decimal(start, 10000)))
     give("exit-t", spoil("exit-t", decimal(last, 10000)))
     give("alpha-t", spoil("alpha-t", factor == "adaptive" ? factor : decimal(factor, 1000)))
