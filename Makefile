@@ -10,7 +10,8 @@ test:
 # Places a shipped circuit with its pads at given sites, prints the report, and says where the placement lies.
 place: program
 	@mkdir -p out
-	@cd examples && ../crates/vplace/out/vplace place --arch rs232_cl4.arch --net rs232_cl4.net --pads rs232_cl4.pads --out ../out/rs232_cl4.place
+	@cd examples && ../crates/vplace/out/vplace place --arch rs232_cl4.arch --net rs232_cl4.net \
+		--pads rs232_cl4.pads --out ../out/rs232_cl4.place
 	@echo 'the placement lies at out/rs232_cl4.place'
 
 # Moves a second with one worker, at four sizes; with BASELINE=PROGRAM also those of another placer, in the same run.

@@ -41,7 +41,8 @@ for design in "$@"; do
     done
     # The last runs made the same moves, if they end in the same bytes.
     if [ -n "$baseline" ]; then
-        cmp -s "$work/ours.place" "$work/theirs.place" && cmp -s "$work/ours.report" "$work/theirs.report" || echo "differ $design"
+        cmp -s "$work/ours.place" "$work/theirs.place" && cmp -s "$work/ours.report" "$work/theirs.report" \
+            || echo "differ $design"
     fi
 done > "$work/times"
 awk -v many="$moves" '
@@ -61,8 +62,10 @@ awk -v many="$moves" '
     END {
         for (i = 1; i <= n; i++) {
             name = order[i]
-            printf "%s: %d blocks, %.3f million moves a second, %.2f of the rate at %d blocks", name, blocks[name], rate("ours", name), rate("ours", name) / rate("ours", order[1]), blocks[order[1]]
-            if (compared) printf "; the baseline %.3f million, ratio %.2f%s", rate("theirs", name), rate("ours", name) / rate("theirs", name), (name in differ ? ", BUT IT ENDS OTHERWISE" : "")
-            printf "\n"
+            ours = rate("ours", name)
+            printf "%s: %d blocks, %.3f million moves a second, ", name, blocks[name], ours
+            printf "%.2f of the rate at %d blocks", ours / rate("ours", order[1]), blocks[order[1]]
+            if (compared) printf "; the baseline %.3f million, ratio %.2f", rate("theirs", name), ours / rate("theirs", name)
+            print name in differ ? ", BUT IT ENDS OTHERWISE" : ""
         }
     }' "$work/times"

@@ -27,7 +27,8 @@ function number_of(list) {
 function draw_faults(    list, names) {
     split("", faulty)
     names = "NoIoRat RepeatedIoRat BadNumber BadPinLine NoPins NumberTooLarge " \
-        "UnknownWord NoName PinlistWithoutBlock MissingPinlist PinCount SubblockWithoutLogic DuplicateBlock NoDriver TwoDrivers " \
+        "UnknownWord NoName PinlistWithoutBlock MissingPinlist PinCount SubblockWithoutLogic DuplicateBlock " \
+        "NoDriver TwoDrivers " \
         "TooFewLogicSites TooFewPadSites SizeOutOfRange " \
         "BadHeader WrongSize UnknownBlock Repeated NoSuchSite WrongKind Taken BadLine BadLabel " \
         "InitOutOfRange ExitOutOfRange AlphaOutOfRange MovesOutOfRange BatchOutOfRange WorkersOutOfRange " \
@@ -90,14 +91,22 @@ function draw_pins(    text, i, inputs, outputs) {
     outputs = chance(8) ? 0 : 1 + below(2)
     pins = 0
     while (inputs + outputs > 0) {
-        if (below(inputs + outputs) < inputs) { inputs--; pin_kind[++pins] = "inpin" } else { outputs--; pin_kind[++pins] = "outpin" }
+        if (below(inputs + outputs) < inputs) {
+            inputs--
+            pin_kind[++pins] = "inpin"
+        } else {
+            outputs--
+            pin_kind[++pins] = "outpin"
+        }
     }
     for (i = 1; i <= pins; i++) {
         text = text line_of(pin_kind[i] gap() "class:" gap() below(10) (chance(15) ? gap() "global" : "") sides()) idle_line()
     }
     if ("NoPins" in faulty) text = ""
     if ("BadNumber" in faulty) text = text line_of("inpin class: " one_of("left -1 1.5 0x2") " top")
-    if ("BadPinLine" in faulty) text = text line_of(one_of("inpin outpin") " " one_of("class class:") " 1 " one_of("up global leftright"))
+    if ("BadPinLine" in faulty) {
+        text = text line_of(one_of("inpin outpin") " " one_of("class class:") " 1 " one_of("up global leftright"))
+    }
     if ("NumberTooLarge" in faulty) text = text line_of("outpin class: " one_of("65536 99999999999999999999") " top")
     return text
 }
@@ -165,7 +174,9 @@ function driving_pin(    p) {
 
 function pinlist(b,    text, p) {
     text = "pinlist:"
-    for (p = 1; p <= (kind[b] == "clb" ? pins : 1); p++) text = text gap() (((b, p) in net_on) ? net_on[b, p] : "open")
+    for (p = 1; p <= (kind[b] == "clb" ? pins : 1); p++) {
+        text = text gap() (((b, p) in net_on) ? net_on[b, p] : "open")
+    }
     if ("PinCount" in faulty && b == 3) text = text gap() "open"
     return line_of(text)
 }
@@ -315,7 +326,8 @@ function spoil(option, text,    fault) {
 # Moves for each temperature: `most` is a bound on them.
 function draw_moves(    inner) {
     if ("MovesOutOfRange" in faulty) {
-        if (chance(50)) give("moves", one_of("0 1073741825 18446744073709551615")); else give("inner", one_of("0 10001 18446744073709551615"))
+        if (chance(50)) give("moves", one_of("0 1073741825 18446744073709551615"))
+        else give("inner", one_of("0 10001 18446744073709551615"))
         most = 1
     } else if (chance(50)) {
         most = number_of("1 2 3 7 20 64 65 130")
