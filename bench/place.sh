@@ -1,0 +1,71 @@
+#!/bin/sh
+# How many moves a second `vplace place` makes with one worker, on designs of 200, 770, 1,585 and 9,583 blocks, and the ratios
+# of these. Timed from outside: a run of many moves less a run of few, so that reading and writing cancel; the best of each.
+# usage: [PROGRAM=PROGRAM] [BASELINE=PROGRAM] [MOVES=N] [RUNS=N] bench/place.sh [DESIGN..]
+# The designs are of examples. PROGRAM is the one that `make test` built, where none is named. BASELINE is another placer that
+# takes the same words: it makes the same moves in the same run, turn about. A stage has MOVES moves, 60,000 where none are
+# given, or one in the run of few; there are 11 stages. Each run is made RUNS times, 5 where none are given.
+set -eu
+top=$(cd "$(dirname "$0")/.." && pwd)
+program=${PROGRAM:+$(realpath "$PROGRAM")}
+program=${program:-$top/crates/vplace/out/vplace}
+baseline=${BASELINE:+$(realpath "$BASELINE")}
+moves=${MOVES:-60000}
+if [ ! -x "$program" ]; then
+    echo "there is no program $program: make test builds it" >&2
+    exit 2
+fi
+[ $# -gt 0 ] || set -- c880_ble grom_ble picorv32_cl4 duo_ble
+work=$(mktemp -d)
+trap 'rm -rf "$work"' EXIT
+cd "$top/examples"
+
+# One run: whose it is, the program, the design, the moves of a stage. Prints these without the program, then the
+# microseconds, the moves of all stages, and the number of blocks.
+timed() {
+    from=$(date +%s%N)
+    "$2" place --arch "$3.arch" --net "$3.net" --out "$work/$1.place" --init-t 10 --exit-t 0.01 --alpha-t 0.5 \
+        --workers 1 --moves "$4" > "$work/$1.report"
+    taken=$((($(date +%s%N) - from) / 1000))
+    echo "$1 $3 $4 $taken $(awk 'NR == 1 { blocks = $2 } END { print $NF, blocks }' "$work/$1.report")"
+}
+
+for design in "$@"; do
+    run=0
+    while [ "$run" -lt "${RUNS:-5}" ]; do
+        for count in 1 "$moves"; do
+            timed ours "$program" "$design" "$count"
+            [ -z "$baseline" ] || timed theirs "$baseline" "$design" "$count"
+        done
+        run=$((run + 1))
+    done
+    # The last runs made the same moves, if they end in the same bytes.
+    if [ -n "$baseline" ]; then
+        cmp -s "$work/ours.place" "$work/theirs.place" && cmp -s "$work/ours.report" "$work/theirs.report" \
+            || echo "differ $design"
+    fi
+done > "$work/times"
+awk -v many="$moves" '
+    $1 == "differ" { differ[$2] = 1; next }
+    {
+        key = $1 " " $2 ($3 == many ? " many" : " few")
+        if (!(key in least) || $4 < least[key]) least[key] = $4
+        made[key] = $5
+        if (!($2 in blocks)) { order[++n] = $2; blocks[$2] = $6 }
+        if ($1 == "theirs") compared = 1
+    }
+    # Millions of moves a second.
+    function rate(who, name,    key) {
+        key = who " " name
+        return (made[key " many"] - made[key " few"]) / (least[key " many"] - least[key " few"])
+    }
+    END {
+        for (i = 1; i <= n; i++) {
+            name = order[i]
+            ours = rate("ours", name)
+            printf "%s: %d blocks, %.3f million moves a second, ", name, blocks[name], ours
+            printf "%.2f of the rate at %d blocks", ours / rate("ours", order[1]), blocks[order[1]]
+            if (compared) printf "; the baseline %.3f million, ratio %.2f", rate("theirs", name), ours / rate("theirs", name)
+            print name in differ ? ", BUT IT ENDS OTHERWISE" : ""
+        }
+    }' "$work/times"
