@@ -42,7 +42,7 @@ pub(crate) fn count_of_nets(design: &Design, block: BlockId) -> usize
 
 #[tactic(auto, using(crate::proofs::Shares::own, crate::proofs::Shares::pins_within))]
 /// How many terminals of one of a block's nets are the block's.
-fn own_pins(design: &Design, block: BlockId, i: usize) -> u32
+pub(crate) fn own_pins(design: &Design, block: BlockId, i: usize) -> u32
     requires block { block.0 < length design.now.kinds }
     requires within { i < length (nets_of design.now block.0) }
     ensures { result ≡ times block.0 (blocks_of design.now (slice_index (nets_of design.now block.0) i)) }
@@ -85,7 +85,25 @@ fn pins_at(design: &Design, block: BlockId, net: NetId, at: usize) -> u32
     }
 }
 
-#[tactic(auto, using(crate::proofs::Shares::none_below, crate::proofs::Shares::is_on, crate::proofs::Shares::is_off))]
+#[tactic(auto, using(crate::proofs::Shares::not_yet, crate::proofs::Shares::found_more, crate::proofs::Shares::found_all))]
+#[inline(always)]
+/// Whether the net is among a block's nets. All of them are looked at: they are few, and a way out on the way would be
+/// guessed wrong.
+fn has_net(design: &Design, block: BlockId, net: NetId) -> bool
+    requires block { block.0 < length design.now.kinds }
+    requires net { Counts design.now net.0 }
+    ensures { result ≡ has_number block.0 (blocks_of design.now net.0) }
+{
+    let nets = count_of_nets(design, block);
+    let mut found = false;
+    'nets: for i in 0..nets {
+        let same = net_of(design, block, i).0 == net.0;
+        found = found || same;
+    }
+    found
+}
+
+#[inline(always)]
 /// Whether the block, if there is one, has a terminal on the net.
 pub(crate) fn is_on(design: &Design, block: Option<BlockId>, net: NetId) -> bool
     requires block { (b : Block) → block ≡ Some b → b.0 < length design.now.kinds }
@@ -94,16 +112,13 @@ pub(crate) fn is_on(design: &Design, block: Option<BlockId>, net: NetId) -> bool
 {
     match block {
         None => false,
-        Some(block) => {
-            let at = first_from(design, block, net, 0);
-            pins_at(design, block, net, at) != 0
-        }
+        Some(block) => has_net(design, block, net),
     }
 }
 
 /// The block beside whose nets those of a block of the swap are read: the swap's other block beside the first, and
 /// the first, `but`, beside the other.
-fn partner(swap: &Swap, but: Option<BlockId>) -> Option<BlockId>
+pub(crate) fn partner(swap: &Swap, but: Option<BlockId>) -> Option<BlockId>
     ensures { result ≡ partner_of swap.now but }
 {
     match but {
