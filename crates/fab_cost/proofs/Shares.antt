@@ -160,3 +160,13 @@ found_more d b n i m found h em ef =
 
 pub found_all : (d : Netlist) (b n i : ℕ) (found : Bool) → Counts d n → length (nets_of d b) ≤ i → found ≡ has_number n (take i (nets_of d b)) → found ≡ has_number b (blocks_of d n)
 found_all d b n i found c h e = e ∙ ap (has_number n) (take_all i (nets_of d b) h) ∙ same_nets d b n c
+
+pub not_beside : (o : Option BlockId) (n : ℕ) (d : Netlist) (r : Bool) → r ≡ has_block o (blocks_of d n) → r ≡ false → 0 ≡ times_other o (blocks_of d n)
+not_beside None n d r e f = refl
+not_beside (Some b) n d r e f = sym (times_if_absent b.0 (blocks_of d n) (sym e ∙ f))
+
+pub shares_first : (s : Swap) (b : BlockId) (but : Option BlockId) (own beside : ℕ) → IsPart s b but → but ≡ None → (bs : List ℕ) → own ≡ times b.0 bs → beside ≡ times_other (partner s but) bs → (own ≡ times s.block.0 bs) × (beside ≡ times_other s.other bs)
+shares_first s b but own beside part e bs eo eb = (mine_first s b but bs own part e eo, others_first s but bs beside e eb)
+
+pub shares_other : (s : Swap) (b c : BlockId) (but : Option BlockId) (own beside : ℕ) → IsPart s b but → but ≡ Some c → (bs : List ℕ) → own ≡ times b.0 bs → beside ≡ times_other (partner s but) bs → (beside ≡ times s.block.0 bs) × (own ≡ times_other s.other bs)
+shares_other s b c but own beside part e bs eo eb = (mine_other s b c but bs beside part e eb, others_other s b c but bs own part e eo)

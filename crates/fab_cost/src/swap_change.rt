@@ -15,7 +15,7 @@ ghost use Rattle.fab_cost.specs.Edges.{times, counted_box as box_counted};
 ghost use Rattle.fab_cost.specs.Swapping.{HaveBoxes, IsPart, blocks_of, cost_unless, times_other};
 
 use crate::block_nets::{
-    Shares, count_of_nets, is_left_out, is_on, net_of, place_beside, shares_of,
+    Shares, count_of_nets, is_left_out, is_on, net_of, own_pins, partner_pins, shares_with,
 };
 use crate::edge_boxes::{NO_TALLY, Tally, cost_of_counted, kept_box, plus};
 use crate::edge_counts::{CountedBox, ends_after};
@@ -175,7 +175,7 @@ fn change_of_few(
     tally_of_boxes(design, net, old, new)
 }
 
-#[tactic(auto, using(crate::proofs::Shares::none_below, crate::proofs::Changes::left_out, crate::proofs::Changes::still, crate::proofs::Changes::changed))]
+#[tactic(auto, using(crate::proofs::Changes::left_out, crate::proofs::Changes::still, crate::proofs::Changes::changed))]
 /// What the swap makes of the cost of net `i` of a block; nothing where it is also one of the block `but`.
 fn change_of_many(
     old: CountedBox,
@@ -197,8 +197,9 @@ fn change_of_many(
 {
     let _nets = design.nets();
     let net = net_of(design, block, i);
-    let at = place_beside(design, placement, swap, block, but, i, 0);
-    let shares = shares_of(design, placement, swap, block, but, i, at);
+    let own = own_pins(design, block, i);
+    let beside = partner_pins(design, placement, swap, block, but, i);
+    let shares = shares_with(swap, block, but, own, beside);
     if is_left_out(but, shares) {
         return NO_TALLY;
     }
