@@ -8,7 +8,8 @@ use Rattle.std.proofs.lemmas.List.Sums.{sum_by_more, sum_by_more_le}
 use Rattle.fab_arch.specs.declared.array.Site.{Site}
 use Rattle.fab_arch.specs.Grid.{GridShape}
 use Rattle.fab_net.specs.declared.pieces.BlockId.{BlockId}
-use Rattle.fab_net.specs.Netlist.{Netlist, nets_of, IsLawful}
+use Rattle.fab_net.specs.declared.pieces.Terminal.{Terminal}
+use Rattle.fab_net.specs.Netlist.{Netlist, block_on, nets_of, IsLawful}
 use Rattle.fab_site.specs.declared.pieces.Swap.{Swap}
 use Rattle.fab_site.specs.Placement.{site_of, swapped, IsSwapOf}
 use Rattle.fab_site.proofs.Swapping.{ready}
@@ -245,6 +246,19 @@ changed d g before after but n r gained lost e f eg el =
     let p : cond (has_block but (blocks_of d n)) 0 (net_cost d g before n) ≡ net_cost d g before n = λ i. cond ((sym e ∙ f) i) 0 (net_cost d g before n) in
     let q : cond (has_block but (blocks_of d n)) 0 (net_cost d g after n) ≡ net_cost d g after n = λ i. cond ((sym e ∙ f) i) 0 (net_cost d g after n) in
     record { balance = omega (arith, p, q, eg, el); gained_within = omega (arith, q, eg); lost_within = omega (arith, p, el) }
+
+-- a net of one terminal covers one column and one row wherever it stands
+half_of_one : (g : GridShape) (f h : ℕ → Site) (bs : List ℕ) → length bs ≤ 1 → half_perimeter (box_on g (map f bs)) ≡ half_perimeter (box_on g (map h bs))
+unfolding half_perimeter box_on
+half_of_one g f h [] few = refl
+half_of_one g f h (b ∷ []) few = omega arith
+half_of_one g f h (b ∷ c ∷ bs) few = absurd (omega arith)
+
+pub alone : (d : Netlist) (g : GridShape) (before after : List Site) (but : Option BlockId) (n : ℕ) (ts : List Terminal) → ts ≡ get_or d.terminals n [] → length ts ≤ 1 → IsChange (cost_unless d g before but n) (cost_unless d g after but n) 0 0
+unfolding net_cost net_box
+alone d g before after but n ts e few =
+    let l : length (blocks_of d n) ≤ 1 = omega (arith, ap length e, length-map (get_or d.terminals n []) block_on) in
+    unless_same d g before after but n (ap (λ v. cross_of (length (blocks_of d n)) * v) (half_of_one g (site_of after) (site_of before) (blocks_of d n) l))
 
 -- sums of changes
 

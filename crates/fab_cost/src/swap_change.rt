@@ -210,7 +210,7 @@ fn change_of_many(
     tally_of_boxes(design, net, old, new)
 }
 
-#[tactic(auto, using(crate::proofs::Changes::passed, crate::proofs::Changes::old_is))]
+#[tactic(auto, using(crate::proofs::Changes::passed, crate::proofs::Changes::alone, crate::proofs::Changes::old_is))]
 #[inline(always)]
 /// What the swap makes of the cost of net `i` of a block; nothing where it is also one of the block `but`.
 fn change_of_net(
@@ -237,9 +237,12 @@ fn change_of_net(
     let _nets = design.nets();
     let net = net_of(design, block, i);
     let old = kept_box(boxes, net);
+    let terminals = design.terminals(net).len();
     if surrounds(old, reach) {
         NO_TALLY
-    } else if design.terminals(net).len() <= FEW {
+    } else if terminals <= 1 {
+        NO_TALLY
+    } else if terminals <= FEW {
         change_of_few(old, design, grid, placement, swap, but, net)
     } else {
         change_of_many(old, design, grid, placement, swap, block, but, i)
