@@ -6,6 +6,7 @@ pub mod BoxMoves
 pub mod Numbers
 pub mod Split
 pub mod Nets
+pub mod Changes
 pub mod Shares
 pub mod Renewals
 pub mod PlainRenewals

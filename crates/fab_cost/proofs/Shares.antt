@@ -1,8 +1,8 @@
 -- How many terminals of a net are of a block, read from the block's own nets.
-use Rattle.std.proofs.Common.{◌≡◌, ◌≢◌, ℕ, zero, suc, ◌+◌, ◌<◌, ◌≤◌, true, false, not, ltb, eqb, List, [], ◌∷◌, length, map, get_or, Option, Some, None, sym, ap, ◌∙◌, arith, inl, inr}
+use Rattle.std.proofs.Common.{◌≡◌, ◌≢◌, ℕ, zero, suc, ◌+◌, ◌<◌, ◌≤◌, Bool, true, false, not, ltb, eqb, ◌||◌, List, [], ◌∷◌, ◌++◌, length, map, take, get_or, Option, Some, None, refl, sym, ap, ◌∙◌, arith, inl, inr}
 use Rattle.std.proofs.lemmas.Bool.{cases_Bool, cases_eq, ltb-true, eq-eqb, ne_eqb}
 use Rattle.std.proofs.lemmas.Bool.Decides.{nat_tests}
-use Rattle.std.proofs.lemmas.List.{length-map, get_or-map}
+use Rattle.std.proofs.lemmas.List.{length-map, get_or-map, take_all, take_more}
 use Rattle.fab_arch.specs.declared.array.Site.{Site}
 use Rattle.fab_arch.specs.Grid.{GridShape}
 use Rattle.fab_net.specs.declared.pieces.BlockId.{BlockId}
@@ -133,3 +133,40 @@ is_left_out but c m e s b bs part em = elim (cases_eq m 0) [
   | inl z ↦ ap not (eq-eqb m 0 z) ∙ not_left_out but c m e z s b bs part em
   | inr ne ↦ ap not (ne_eqb m 0 ne) ∙ left_out but c m e ne s b bs part em
 ]
+
+-- whether a net is among those of a block, found by a look at each
+
+or_last : (b : Bool) → (b || false) ≡ b
+or_last true = refl
+or_last false = refl
+
+has_push : (v x : ℕ) (xs : List ℕ) → has_number v (xs ++ x ∷ []) ≡ (has_number v xs || eqb v x)
+has_push v x [] = or_last (eqb v x)
+has_push v x (y ∷ xs) = elim (eqb v y) as (λ b. (b || has_number v (xs ++ x ∷ [])) ≡ ((b || has_number v xs) || eqb v x)) [ true ↦ refl | false ↦ has_push v x xs ]
+
+pub not_yet : (d : Netlist) (b n : ℕ) → false ≡ has_number n (take 0 (nets_of d b))
+not_yet d b n = refl
+
+same_way : (v x : ℕ) → eqb x v ≡ eqb v x
+same_way v x = elim (cases_eq x v) [
+  | inl e ↦ eq-eqb x v e ∙ sym (eq-eqb v x (sym e))
+  | inr ne ↦ ne_eqb x v ne ∙ sym (ne_eqb v x (λ e. ne (sym e)))
+]
+
+pub found_more : (d : Netlist) (b n i m : ℕ) (found : Bool) → i < length (nets_of d b) → m ≡ get_or (nets_of d b) i 0 → found ≡ has_number n (take i (nets_of d b)) → (found || eqb m n) ≡ has_number n (take (i + 1) (nets_of d b))
+found_more d b n i m found h em ef =
+    (λ j. ef j || eqb m n) ∙ ap (λ v. has_number n (take i (nets_of d b)) || v) (same_way n m) ∙ sym (has_push n m (take i (nets_of d b)))
+    ∙ (λ j. has_number n (take i (nets_of d b) ++ em j ∷ [])) ∙ ap (has_number n) (sym (take_more (nets_of d b) i 0 h))
+
+pub found_all : (d : Netlist) (b n i : ℕ) (found : Bool) → Counts d n → length (nets_of d b) ≤ i → found ≡ has_number n (take i (nets_of d b)) → found ≡ has_number b (blocks_of d n)
+found_all d b n i found c h e = e ∙ ap (has_number n) (take_all i (nets_of d b) h) ∙ same_nets d b n c
+
+pub not_beside : (o : Option BlockId) (n : ℕ) (d : Netlist) (r : Bool) → r ≡ has_block o (blocks_of d n) → r ≡ false → 0 ≡ times_other o (blocks_of d n)
+not_beside None n d r e f = refl
+not_beside (Some b) n d r e f = sym (times_if_absent b.0 (blocks_of d n) (sym e ∙ f))
+
+pub shares_first : (s : Swap) (b : BlockId) (but : Option BlockId) (own beside : ℕ) → IsPart s b but → but ≡ None → (bs : List ℕ) → own ≡ times b.0 bs → beside ≡ times_other (partner s but) bs → (own ≡ times s.block.0 bs) × (beside ≡ times_other s.other bs)
+shares_first s b but own beside part e bs eo eb = (mine_first s b but bs own part e eo, others_first s but bs beside e eb)
+
+pub shares_other : (s : Swap) (b c : BlockId) (but : Option BlockId) (own beside : ℕ) → IsPart s b but → but ≡ Some c → (bs : List ℕ) → own ≡ times b.0 bs → beside ≡ times_other (partner s but) bs → (beside ≡ times s.block.0 bs) × (own ≡ times_other s.other bs)
+shares_other s b c but own beside part e bs eo eb = (mine_other s b c but bs beside part e eb, others_other s b c but bs own part e eo)

@@ -2,3 +2,4 @@ pub mod Cost
 pub mod Boxes
 pub mod Edges
 pub mod Swapping
+pub mod Changes

@@ -30,6 +30,11 @@ abbrev pub swapped_by : List Site → Option Swap → List Site
 swapped_by sites None = sites
 swapped_by sites (Some s) = swapped sites s
 
+-- the block that goes to where the swap's first block stood: the other, or where there is none the first itself
+abbrev pub ComesBack : BlockId → Option BlockId → BlockId → Type 0
+ComesBack block None b = b ≡ block
+ComesBack block (Some other) b = b ≡ other
+
 abbrev pub IsSwapIfAny : PlacementOf → Option Swap → Type 0
 IsSwapIfAny p None = Unit {0}
 IsSwapIfAny p (Some s) = IsSwapOf p.grid p.sites s

@@ -14,6 +14,7 @@ ghost use Rattle.fab_cost.specs.Swapping.{AreRenewed, CountedStandsFor, HaveBoxe
 use crate::block_nets::{Shares, count_of_nets, is_left_out, net_of, place_beside, shares_of};
 use crate::counting::{counted_box, swapped_box};
 use crate::edge_counts::{CountedBox, EdgeCounts, NOTHING};
+use crate::swap_change::whole_change;
 use crate::wire::WireCost;
 use fab_arch::Grid;
 use fab_net::{BlockId, Design, NetId};
@@ -28,10 +29,10 @@ pub(crate) struct Tally {
     pub(crate) lost: u64,
 }
 
-const NO_TALLY: Tally = Tally { gained: 0, lost: 0 };
+pub(crate) const NO_TALLY: Tally = Tally { gained: 0, lost: 0 };
 
 /// Both tallies together.
-fn plus(one: Tally, other: Tally) -> Tally
+pub(crate) fn plus(one: Tally, other: Tally) -> Tally
     requires gained { one.gained + other.gained < 2 ^ 64 }
     requires lost { one.lost + other.lost < 2 ^ 64 }
     ensures gained { result.gained ≡ one.gained + other.gained }
@@ -89,7 +90,7 @@ fn renewed(
 
 #[tactic(auto, using(crate::proofs::Nets::counted_cost_from, crate::proofs::Making::terminals_some, crate::proofs::Bounds::terminals_few))]
 /// What a net costs, in ten-thousandths, on the sites of which this is its box.
-fn cost_of_counted(design: &Design, net: NetId, kept: CountedBox) -> u64
+pub(crate) fn cost_of_counted(design: &Design, net: NetId, kept: CountedBox) -> u64
     requires { Counts design.now net.0 }
     ensures { (g : GridShape) (sites : List Site) → kept ≡ box_counted design.now g sites net.0 → result ≡ net_cost design.now g sites net.0 }
 {
@@ -100,7 +101,7 @@ fn cost_of_counted(design: &Design, net: NetId, kept: CountedBox) -> u64
 
 #[tactic(auto, unfolding(crate::specs::Swapping::counted_at))]
 /// The box that is kept of the net.
-fn kept_box(boxes: &Vec<CountedBox>, net: NetId) -> CountedBox
+pub(crate) fn kept_box(boxes: &Vec<CountedBox>, net: NetId) -> CountedBox
     requires { net.0 < length boxes.now.items }
     ensures { result ≡ counted_at boxes.now.items net.0 }
 {
@@ -116,105 +117,6 @@ fn tally_between(design: &Design, net: NetId, old: CountedBox, new: CountedBox) 
     Tally {
         gained: cost_of_counted(design, net, new),
         lost: cost_of_counted(design, net, old),
-    }
-}
-
-#[tactic(auto, using(crate::proofs::Nets::unless_on, crate::proofs::Nets::unless_off))]
-/// What net `i` of a block costs after the swap and before it, or nothing where it is also one of the block `but`.
-fn tally_of_net(
-    boxes: &Vec<CountedBox>,
-    design: &Design,
-    grid: &Grid,
-    placement: &Placement,
-    swap: &Swap,
-    block: BlockId,
-    but: Option<BlockId>,
-    i: usize,
-    at: usize,
-) -> Tally
-    requires have { HaveBoxes boxes.now.items design.now grid.now placement.now.sites }
-    requires part { IsPart swap.now block but }
-    requires block { block.0 < length design.now.kinds }
-    requires within { i < length (nets_of design.now block.0) }
-    requires place { IsPlaceOf design.now (partner swap.now but) at (slice_index (nets_of design.now block.0) i) }
-    requires lawful { IsSwapOf placement.now.grid placement.now.sites swap.now }
-    requires whole { length design.now.kinds ≡ length placement.now.sites }
-    ensures gained { result.gained ≡ cost_unless design.now grid.now (swapped placement.now.sites swap.now) but (slice_index (nets_of design.now block.0) i) }
-    ensures lost { result.lost ≡ cost_unless design.now grid.now placement.now.sites but (slice_index (nets_of design.now block.0) i) }
-{
-    let net = net_of(design, block, i);
-    let shares = shares_of(design, placement, swap, block, but, i, at);
-    if is_left_out(but, shares) {
-        return NO_TALLY;
-    }
-    let old = kept_box(boxes, net);
-    let new = renewed(old, design, grid, placement, swap, net, shares);
-    tally_between(design, net, old, new)
-}
-
-#[tactic(auto, using(crate::proofs::Nets::sum_more, crate::proofs::Nets::sum_all, crate::proofs::Nets::sum_fits, crate::proofs::Shares::none_below, crate::proofs::Shares::below_rising))]
-/// What the nets of a block cost after the swap and before it, those of the block `but` left out.
-fn tally_of(
-    boxes: &Vec<CountedBox>,
-    design: &Design,
-    grid: &Grid,
-    placement: &Placement,
-    swap: &Swap,
-    block: BlockId,
-    but: Option<BlockId>,
-) -> Tally
-    requires have { HaveBoxes boxes.now.items design.now grid.now placement.now.sites }
-    requires part { IsPart swap.now block but }
-    requires block { block.0 < length design.now.kinds }
-    requires lawful { IsSwapOf placement.now.grid placement.now.sites swap.now }
-    requires whole { length design.now.kinds ≡ length placement.now.sites }
-    ensures gained { result.gained ≡ sum_by (cost_unless design.now grid.now (swapped placement.now.sites swap.now) but) (nets_of design.now block.0) }
-    ensures lost { result.lost ≡ sum_by (cost_unless design.now grid.now placement.now.sites but) (nets_of design.now block.0) }
-{
-    let _nx = grid.nx();
-    let _ny = grid.ny();
-    let _nets = design.nets();
-    let nets = count_of_nets(design, block);
-    let mut gained: u64 = 0;
-    let mut lost: u64 = 0;
-    let mut at = 0;
-    'nets: for i in 0..nets {
-        at = place_beside(design, placement, swap, block, but, i, at);
-        let one = tally_of_net(boxes, design, grid, placement, swap, block, but, i, at);
-        gained += one.gained;
-        lost += one.lost;
-    }
-    Tally { gained, lost }
-}
-
-#[tactic(auto, using(crate::proofs::Sited::block_below, crate::proofs::Split::balance_none, crate::proofs::Split::balance_some, crate::proofs::Nets::sum_low, crate::proofs::Nets::cost_low))]
-/// What the nets of the swap's blocks cost, each net once.
-fn whole_tally(
-    boxes: &Vec<CountedBox>,
-    design: &Design,
-    grid: &Grid,
-    placement: &Placement,
-    swap: &Swap,
-) -> Tally
-    requires have { HaveBoxes boxes.now.items design.now grid.now placement.now.sites }
-    requires lawful { IsSwapOf placement.now.grid placement.now.sites swap.now }
-    requires whole { length design.now.kinds ≡ length placement.now.sites }
-    ensures balance { cost_of design.now grid.now (swapped placement.now.sites swap.now) + result.lost ≡ cost_of design.now grid.now placement.now.sites + result.gained }
-    ensures gained { result.gained < 2 ^ 43 }
-    ensures lost { result.lost < 2 ^ 43 }
-    ensures below { (sites : List Site) → cost_of design.now grid.now sites < 2 ^ 42 }
-{
-    let _nx = grid.nx();
-    let _ny = grid.ny();
-    let _nets = design.nets();
-    let first = tally_of(boxes, design, grid, placement, swap, swap.block, None);
-    match swap.other {
-        None => first,
-        Some(other) => {
-            let but = Some(swap.block);
-            let second = tally_of(boxes, design, grid, placement, swap, other, but);
-            plus(first, second)
-        }
     }
 }
 
@@ -408,7 +310,7 @@ impl WireCost for EdgeBoxes {
     }
 
     fn delta(&self, design: &Design, grid: &Grid, placement: &Placement, swap: &Swap) -> i64 {
-        let tally = whole_tally(&self.boxes, design, grid, placement, swap);
+        let tally = whole_change(&self.boxes, design, grid, placement, swap);
         tally.gained as i64 - tally.lost as i64
     }
 

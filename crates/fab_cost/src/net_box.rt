@@ -2,11 +2,12 @@
 
 ghost use Rattle.std.specs.Prelude.{◌≡◌, ◌<◌, ◌≤◌, ◌*◌, [], ◌∷◌, map, length};
 ghost use Rattle.std.specs.List.{All};
+ghost use Rattle.fab_arch.specs.Grid.{GridShape};
 ghost use Rattle.fab_net.specs.Netlist.{block_on};
 ghost use Rattle.fab_site.specs.Placement.{site_of, swapped, IsSwapOf};
 ghost use Rattle.fab_cost.specs.Cost.{clip, box_on, cross_of, half_perimeter};
 
-use crate::counting::site_after;
+use crate::counting::{comes_back, site_swapped};
 use crate::crossings::cross;
 use fab_arch::{Grid, Site};
 use fab_net::Terminal;
@@ -40,38 +41,65 @@ pub(crate) fn clipped(side: u16, at: u16) -> u16
     at.min(side).max(1)
 }
 
+/// The columns and rows from the first to the last of some sites, pads where they stand.
+#[derive(Clone, Copy)]
+struct Hull {
+    xmin: u16,
+    xmax: u16,
+    ymin: u16,
+    ymax: u16,
+    ghost columns: { xmin ≤ xmax },
+    ghost rows: { ymin ≤ ymax },
+}
+
+impl Hull {
+    ghost use Rattle.fab_cost.specs.Boxes.{hull_of, clipped_box, box_of, IsBoxWith};
+
+    #[tactic(auto, using(crate::proofs::Edges::hull_one))]
+    /// The hull of one site.
+    fn one(site: Site) -> Hull
+        ensures { (g : GridShape) → clipped_box g (hull_of result) ≡ box_on g (site ∷ []) }
+    {
+        Hull {
+            xmin: site.x,
+            xmax: site.x,
+            ymin: site.y,
+            ymax: site.y,
+        }
+    }
+
+    #[tactic(auto, using(crate::proofs::Edges::hull_with))]
+    #[inline(always)]
+    /// The hull with one more site.
+    fn with(self, site: Site) -> Hull
+        ensures { (g : GridShape) → IsBoxWith g (clipped_box g (hull_of self)) site (clipped_box g (hull_of result)) }
+    {
+        Hull {
+            xmin: self.xmin.min(site.x),
+            xmax: self.xmax.max(site.x),
+            ymin: self.ymin.min(site.y),
+            ymax: self.ymax.max(site.y),
+        }
+    }
+
+    #[tactic(auto, unfolding(crate::specs::Cost::clip, crate::specs::Boxes::clipped_box))]
+    /// The box of the sites: pads brought into the columns and rows of logic sites.
+    fn clipped(self, grid: &Grid) -> NetBox
+        ensures { box_of result ≡ clipped_box grid.now (hull_of self) }
+    {
+        let nx = grid.nx();
+        let ny = grid.ny();
+        NetBox {
+            xmin: clipped(nx, self.xmin),
+            xmax: clipped(nx, self.xmax),
+            ymin: clipped(ny, self.ymin),
+            ymax: clipped(ny, self.ymax),
+        }
+    }
+}
+
 impl NetBox {
-    ghost use Rattle.fab_cost.specs.Boxes.{box_of, IsBoxWith};
-
-    #[tactic(auto, using(crate::proofs::Edges::box_one))]
-    /// The box of one site.
-    fn one(grid: &Grid, site: Site) -> NetBox
-        ensures { box_of result ≡ box_on grid.now (site ∷ []) }
-    {
-        let x = clipped(grid.nx(), site.x);
-        let y = clipped(grid.ny(), site.y);
-        NetBox {
-            xmin: x,
-            xmax: x,
-            ymin: y,
-            ymax: y,
-        }
-    }
-
-    #[tactic(auto, using(crate::proofs::Edges::box_with))]
-    /// The box with one more site.
-    fn with(self, grid: &Grid, site: Site) -> NetBox
-        ensures { IsBoxWith grid.now (box_of self) site (box_of result) }
-    {
-        let x = clipped(grid.nx(), site.x);
-        let y = clipped(grid.ny(), site.y);
-        NetBox {
-            xmin: self.xmin.min(x),
-            xmax: self.xmax.max(x),
-            ymin: self.ymin.min(y),
-            ymax: self.ymax.max(y),
-        }
-    }
+    ghost use Rattle.fab_cost.specs.Boxes.{box_of};
 
     #[tactic(auto, using(crate::proofs::Edges::box_first, crate::proofs::Edges::box_more, crate::proofs::Edges::box_whole))]
     /// The box of a net with these terminals.
@@ -80,11 +108,11 @@ impl NetBox {
         requires within { All (λ t. t.block.0 < length placement.now.sites) terminals.now }
         ensures { box_of result ≡ box_on grid.now (map (site_of placement.now.sites) (map block_on terminals.now)) }
     {
-        let mut found = NetBox::one(grid, placement.site_of(terminals[0].block));
+        let mut found = Hull::one(placement.site_of(terminals[0].block));
         'terminals: for i in 1..terminals.len() {
-            found = found.with(grid, placement.site_of(terminals[i].block));
+            found = found.with(placement.site_of(terminals[i].block));
         }
-        found
+        found.clipped(grid)
     }
 
     #[tactic(auto, using(crate::proofs::Edges::box_first, crate::proofs::Edges::box_more, crate::proofs::Edges::box_whole))]
@@ -100,12 +128,13 @@ impl NetBox {
         requires lawful { IsSwapOf placement.now.grid placement.now.sites swap.now }
         ensures { box_of result ≡ box_on grid.now (map (site_of (swapped placement.now.sites swap.now)) (map block_on terminals.now)) }
     {
-        let swap = Some(*swap);
-        let mut found = NetBox::one(grid, site_after(placement, swap, terminals[0].block));
+        let swap = *swap;
+        let back = comes_back(&swap);
+        let mut found = Hull::one(site_swapped(placement, &swap, back, terminals[0].block));
         'moved: for i in 1..terminals.len() {
-            found = found.with(grid, site_after(placement, swap, terminals[i].block));
+            found = found.with(site_swapped(placement, &swap, back, terminals[i].block));
         }
-        found
+        found.clipped(grid)
     }
 
     #[tactic(auto, unfolding(crate::specs::Cost::half_perimeter))]
