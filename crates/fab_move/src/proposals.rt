@@ -11,6 +11,7 @@ ghost use Rattle.fab_move.specs.Propose.{movable, near as near_one, logic_target
 ghost use Rattle.fab_move.specs.Chosen.{holder_is_fixed, number_of};
 
 use crate::runs::Window;
+use crate::windows::bounds_near;
 use fab_arch::{Grid, Site};
 use fab_net::{BlockId, BlockKind, Design};
 use fab_site::{Fixed, Placement, Swap, pick};
@@ -74,8 +75,7 @@ fn near(here: u16, reach: u64, n: u16, word: u32) -> u16
     ensures low { 1 ≤ result }
     ensures high { result ≤ n }
 {
-    let low = u64::from(here).saturating_sub(reach).max(1);
-    let high = (u64::from(here) + reach).min(u64::from(n));
+    let (low, high) = bounds_near(here, reach, n);
     (low as u32 + pick(word, (high - low + 1) as u32)) as u16
 }
 

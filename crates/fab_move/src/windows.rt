@@ -1,12 +1,24 @@
 //! The pad positions near one: at most one run of positions on each side of the array, counted and indexed by arithmetic.
 
-ghost use Rattle.std.specs.Prelude.{◌≡◌, ℕ, ◌+◌, ◌<◌, ◌≤◌, ◌^◌, ◌&&◌, filter, length, slice_index_or};
+ghost use Rattle.std.specs.Prelude.{◌≡◌, ℕ, ◌+◌, ◌-◌, ◌<◌, ◌≤◌, ◌^◌, ◌&&◌, min, max, filter, length, slice_index_or};
 ghost use Rattle.std.specs.List.{range_with_len};
 ghost use Rattle.fab_move.specs.Propose.{near_positions, within};
 ghost use Rattle.fab_move.specs.Sides.{positions};
 
 use crate::runs::{Run, Window};
 use fab_arch::{Grid, Site};
+
+/// The least and the greatest number from 1 to `n` that are at most `reach` from `here`; where there is none, the least is above
+/// the greatest.
+pub(crate) fn bounds_near(here: u16, reach: u64, n: u16) -> (u64, u64)
+    requires { reach < 2 ^ 63 }
+    ensures least { result.0 ≡ max 1 (here - reach) }
+    ensures greatest { result.1 ≡ min n (here + reach) }
+{
+    let least = u64::from(here).saturating_sub(reach).max(1);
+    let greatest = (u64::from(here) + reach).min(u64::from(n));
+    (least, greatest)
+}
 
 /// The numbers from 1 to `n` that are at most `reach` from `here`.
 fn run_near(here: u16, reach: u64, n: u16) -> Run
@@ -15,8 +27,7 @@ fn run_near(here: u16, reach: u64, n: u16) -> Run
     requires reach { reach < 2 ^ 63 }
     ensures { range_with_len result.first result.count ≡ filter (within reach here) (range_with_len 1 n) }
 {
-    let low = u64::from(here).saturating_sub(reach).max(1);
-    let high = (u64::from(here) + reach).min(u64::from(n));
+    let (low, high) = bounds_near(here, reach, n);
     Run {
         first: low as u16,
         count: (high + 1).saturating_sub(low) as u16,
