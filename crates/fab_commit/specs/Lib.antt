@@ -3,3 +3,4 @@ pub mod Commits
 pub mod World
 pub mod WorldExamples
 pub mod EverySchedule
+pub mod Worlds
