@@ -77,6 +77,28 @@ def row(seed):
     return seed, net, plan, alpha, text, wanted
 
 
+HEAD = """//! Lists of events on random small designs, with what comes of them: written by `tests/tables/worlds.py`, from what an
+//! independent slow placer makes of each, which adds up all nets for each move.
+
+/// A design with a seed of its words, a schedule, and what happens.
+#[derive(Clone, Copy)]
+pub(crate) struct Row {
+    pub(crate) seed: u64,
+    pub(crate) net: &'static [u8],
+    pub(crate) init_t: u64,
+    /// Thousandths, 0 where it cools by acceptance.
+    pub(crate) alpha: u64,
+    pub(crate) moves: u64,
+    /// A letter and the digit of a worker for a claim, a judgement and a loss, + for a commit, = for a refresh.
+    pub(crate) events: &'static [u8],
+    /// The first letters of the ways, the accepted moves, and the sites of the blocks.
+    pub(crate) wanted: &'static str,
+}
+
+pub(crate) const ROWS: [Row; %d] = [
+"""
+
+
 def rust(row):
     seed, net, plan, alpha, text, wanted = row
     net = net.replace("\n", "\\n")
@@ -88,4 +110,4 @@ def rust(row):
 rows = [row(seed) for seed in range(1, ROWS + 1)]
 ways = "".join(wanted.split()[0] for *_, wanted in rows)
 print("taken, redone, late:", *(ways.count(letter) for letter in "TRL"), file=sys.stderr)
-print("".join(rust(row) for row in rows), end="")
+print(HEAD % ROWS + "".join(rust(row) for row in rows) + "];")

@@ -62,7 +62,7 @@ reached_on r w told e is =
           ∙ sym (ways-append r start is.events (e ∷ []));
     }
 
-run_inv : (p : Run) (w : World) (events : List Event) → Inv p w → Inv p (run_through p w events)
+pub run_inv : (p : Run) (w : World) (events : List Event) → Inv p w → Inv p (run_through p w events)
 run_inv p w [] inv = inv
 run_inv p w (e ∷ events) inv = run_inv p (happens p w e) events (happens_inv p w e inv)
 

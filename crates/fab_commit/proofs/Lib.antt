@@ -11,3 +11,6 @@ pub mod Noninterference
 pub mod Schedules
 pub mod Listing
 pub mod Happening
+pub mod History
+pub mod Stamps
+pub mod Reasons

@@ -4,3 +4,6 @@ pub mod World
 pub mod WorldExamples
 pub mod EverySchedule
 pub mod Worlds
+pub mod History
+pub mod Stamps
+pub mod Laws
