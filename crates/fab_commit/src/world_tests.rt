@@ -1,10 +1,10 @@
+use crate::tests::{Setting, list_words, read_setting, started};
 use crate::world_tables::{ROWS, Row};
 use crate::{Event, Way, World};
-use fab_arch::{Grid, read_arch};
 use fab_move::StreamWords;
-use fab_net::{BlockId, Design, read_net};
+use fab_net::BlockId;
 use fab_sched::{SchedFault, Schedule};
-use fab_site::{Fixed, ListWords, Pins, Words, is_legal, start};
+use fab_site::{Fixed, Words, is_legal};
 use std::alloc::{AllocError, Global};
 use std::test::*;
 
@@ -13,22 +13,18 @@ const HALF: u32 = 2_147_483_648;
 /// A world at the start placement, where no block is fixed.
 fn world_of<'a, W: Words + Drop>(
     alloc: Global,
-    design: &'a Design,
-    grid: &'a Grid,
+    of: &'a Setting,
     schedule: Schedule,
     words: W,
 ) -> Result<World<'a, W>, Fail> {
-    grid.holds(design.logic_blocks(), design.pads())?;
-    let pins = Pins {
-        fixed: Fixed::none(alloc),
-        begun: Fixed::none(alloc),
-    };
-    let placement = start(alloc, design, grid, &pins, &words)?;
+    let placement = started(alloc, of, &words)?;
     let fixed = Fixed::none(alloc);
-    if !is_legal(design, grid, &fixed, &placement) {
+    if !is_legal(&of.design, &of.grid, &fixed, &placement) {
         return Err(Fail::from("the start placement is not legal"));
     }
-    Ok(World::new(alloc, design, grid, placement, fixed, schedule, words)?)
+    Ok(World::new(
+        alloc, &of.design, &of.grid, placement, fixed, schedule, words,
+    )?)
 }
 
 /// What a letter says of a worker.
@@ -79,18 +75,27 @@ fn told<W: Words + Drop>(alloc: Global, world: &World<'_, W>) -> Result<String, 
     Ok(text)
 }
 
+/// What is told once all this has happened.
+fn told_after<W: Words + Drop>(
+    alloc: Global,
+    world: &mut World<'_, W>,
+    events: &[u8],
+) -> Result<String, AllocError> {
+    happen(alloc, world, events)?;
+    told(alloc, world)
+}
+
 /// Two blocks without a common net, both sent to one empty site in a frozen stage of two moves.
 fn two_blocks(alloc: Global, events: &[u8]) -> Result<String, Fail> {
-    let arch = read_arch(alloc, b"io_rat 1\noutpin class: 0 top\n")?;
-    let design = read_net(alloc, b".clb b1\npinlist: x\n.clb b2\npinlist: y\n", &arch)?;
-    let grid = Grid::fit(design.logic_blocks(), design.pads(), arch.io_rat)?;
-    let words = ListWords {
-        starts: Vec::new(alloc),
-        moves: Vec::from_slice(alloc, &[[0, HALF, 0, 0], [HALF, HALF, 0, 0]])?,
-    };
-    let mut world = world_of(alloc, &design, &grid, Schedule::new(1, 2, 500, 2)?, words)?;
-    happen(alloc, &mut world, events)?;
-    Ok(told(alloc, &world)?)
+    let schedule = Schedule::new(1, 2, 500, 2)?;
+    let of = read_setting(
+        alloc,
+        b"io_rat 1\noutpin class: 0 top\n",
+        b".clb b1\npinlist: x\n.clb b2\npinlist: y\n",
+    )?;
+    let words = list_words(alloc, &[], &[[0, HALF, 0, 0], [HALF, HALF, 0, 0]])?;
+    let mut world = world_of(alloc, &of, schedule, words)?;
+    Ok(told_after(alloc, &mut world, events)?)
 }
 
 #[test]
@@ -120,18 +125,14 @@ fn schedule_of(row: &Row) -> Result<Schedule, SchedFault> {
     }
 }
 
+const ARCH: &[u8] = b"io_rat 2\ninpin class: 0 left\ninpin class: 0 top\noutpin class: 1 right\n";
+
 /// What comes of a row.
 fn outcome(alloc: Global, row: &Row) -> Result<String, Fail> {
-    let arch = read_arch(
-        alloc,
-        b"io_rat 2\ninpin class: 0 left\ninpin class: 0 top\noutpin class: 1 right\n",
-    )?;
-    let design = read_net(alloc, row.net, &arch)?;
-    let grid = Grid::fit(design.logic_blocks(), design.pads(), arch.io_rat)?;
-    let words = StreamWords::new(row.seed);
-    let mut world = world_of(alloc, &design, &grid, schedule_of(row)?, words)?;
-    happen(alloc, &mut world, row.events)?;
-    Ok(told(alloc, &world)?)
+    let schedule = schedule_of(row)?;
+    let of = read_setting(alloc, ARCH, row.net)?;
+    let mut world = world_of(alloc, &of, schedule, StreamWords::new(row.seed))?;
+    Ok(told_after(alloc, &mut world, row.events)?)
 }
 
 /// The seed of the first row from which something else comes than the reference says.
