@@ -8,4 +8,9 @@ pub mod Marked
 pub mod Sitings
 pub mod Changes
 pub mod Noninterference
-pub mod Worlds
+pub mod Schedules
+pub mod Listing
+pub mod Happening
+pub mod History
+pub mod Stamps
+pub mod Reasons

@@ -2,7 +2,8 @@
 use Rattle.std.specs.Prelude.{◌≡◌, ◌+◌, ◌<◌, List, length, Some}
 use Rattle.fab_commit.specs.declared.events.Event.{Event}
 use Rattle.fab_commit.specs.Serial.{Run, Standing, judged_here, from}
-use Rattle.fab_commit.specs.World.{World, Verdict, world, run_through, ways, usable, verdict_here}
+use Rattle.fab_commit.specs.declared.verdicts.Verdict.{Verdict}
+use Rattle.fab_commit.specs.World.{World, world, run_through, ways, usable, verdict_here}
 
 -- the verdict that a commit would take here is the next move on the live placement; as the law below holds for every list,
 -- it holds at each commit of a list, by what stands before it

@@ -3,3 +3,7 @@ pub mod Commits
 pub mod World
 pub mod WorldExamples
 pub mod EverySchedule
+pub mod Worlds
+pub mod History
+pub mod Stamps
+pub mod Laws

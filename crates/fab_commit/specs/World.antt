@@ -6,28 +6,14 @@ use Rattle.fab_net.specs.Netlist.{Netlist}
 use Rattle.fab_site.specs.declared.pieces.Swap.{Swap}
 use Rattle.fab_move.specs.declared.marks.Mark.{Mark}
 use Rattle.fab_move.specs.Judge.{Judged, meet, touched}
+use Rattle.fab_commit.specs.declared.verdicts.Claimed.{Claimed}
+use Rattle.fab_commit.specs.declared.verdicts.Verdict.{Verdict}
+use Rattle.fab_commit.specs.declared.verdicts.Accepted.{Accepted}
 use Rattle.fab_commit.specs.declared.events.Way.{Way}
 use Rattle.fab_commit.specs.declared.events.Way.TheVariants.{Taken, Redone, Late}
 use Rattle.fab_commit.specs.declared.events.Event.{Event}
 use Rattle.fab_commit.specs.declared.events.Event.TheVariants.{Claim, Judge, Lose, Commit, Refresh}
 use Rattle.fab_commit.specs.Serial.{Run, Standing, after_move, judged_here}
-
--- a worker holds this move
-pub record Claimed : Type 0 where
-  pub worker : ℕ
-  pub number : ℕ
-
--- what a worker answered for a move
-pub record Verdict : Type 0 where
-  pub worker : ℕ
-  pub number : ℕ
-  pub base : ℕ  -- the moves done in the placement that it was judged on
-  pub judged : Judged
-
--- a swap that was accepted, and the number of its move
-pub record Accepted : Type 0 where
-  pub number : ℕ
-  pub swap : Swap
 
 pub record World : Type 0 where
   pub live : Standing

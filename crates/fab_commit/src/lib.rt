@@ -2,12 +2,27 @@
 #![tactic(auto)]
 
 pub mod annealers;
+mod claims;
+mod clashes;
 pub mod events;
+pub mod laws;
 mod states;
 #[cfg(test)]
 mod tests;
 pub mod turns;
+mod verdicts;
+mod world_states;
+#[cfg(test)]
+mod world_tables;
+#[cfg(test)]
+mod world_tests;
+pub mod worlds;
 
 pub use annealers::Anneal;
 pub use events::{Event, Way, every_schedule_is_serial};
+pub use laws::{
+    moves_compose, placements_stay_legal, spoiled_verdicts_are_serial, stamps_tell,
+    verdicts_are_of_their_base,
+};
 pub use turns::Turn;
+pub use worlds::World;

@@ -124,7 +124,7 @@ fn count(accepted: &mut Vec<u64>, total: &mut u64, number: u64, took: bool)
 }
 
 /// Commits a verdict on the next move.
-fn commit<W: Words>(given: &Given<'_, W>, state: &mut State, verdict: &Verdict)
+pub(crate) fn commit<W: Words>(given: &Given<'_, W>, state: &mut State, verdict: &Verdict)
     requires sound { IsSound (run given.now.design.now given.now.grid.now given.now.fixed.now (W.moves given.now.words.now) given.now.schedule.now) state.old }
     requires going { state.old.ended ≡ false }
     requires room { vec_len state.old.accepted < vec_capacity state.old.accepted }
@@ -155,16 +155,17 @@ fn commit<W: Words>(given: &Given<'_, W>, state: &mut State, verdict: &Verdict)
     state.done += 1;
 }
 
-/// Judges the next move on the placement as it stands.
-fn judge_next<W: Words>(
+/// Judges a move of the running stage on the placement as it stands.
+pub(crate) fn judge_on<W: Words>(
     alloc: Global,
     given: &Given<'_, W>,
     state: &State,
+    number: u64,
 ) -> Result<Verdict, AllocError>
     requires sound { IsSound (run given.now.design.now given.now.grid.now given.now.fixed.now (W.moves given.now.words.now) given.now.schedule.now) state.now }
     requires going { state.now.ended ≡ false }
     ensures lawful { IfOk result (λ v. (s : Swap) → v.swap ≡ Some s → IsSwapOf state.now.placement.grid state.now.placement.sites s) }
-    ensures says { IfOk result (λ v. says v ≡ judged_here (run given.now.design.now given.now.grid.now given.now.fixed.now (W.moves given.now.words.now) given.now.schedule.now) (standing_of state.now) state.now.done) }
+    ensures says { IfOk result (λ v. says v ≡ judged_here (run given.now.design.now given.now.grid.now given.now.fixed.now (W.moves given.now.words.now) given.now.schedule.now) (standing_of state.now) number) }
 {
     let view = View {
         design: given.design,
@@ -176,7 +177,7 @@ fn judge_next<W: Words>(
         t: state.stage.t,
         range: state.stage.range,
     };
-    judge(alloc, &view, state.done)
+    judge(alloc, &view, number)
 }
 
 /// Makes the next move. Where memory is short, all stays as it was.
@@ -192,7 +193,7 @@ fn make_move<W: Words>(
     ensures accepted { OnOk result (state.new.accepted.items ≡ state.old.accepted.items ++ accepted_here (run given.now.design.now given.now.grid.now given.now.fixed.now (W.moves given.now.words.now) given.now.schedule.now) (standing_of state.old)) }
     ensures same { OnErr result ((standing_of state.new ≡ standing_of state.old) × (state.new.accepted.items ≡ state.old.accepted.items)) }
 {
-    let verdict = judge_next(alloc, given, state)?;
+    let verdict = judge_on(alloc, given, state, state.done)?;
     state.accepted.reserve(1)?;
     commit(given, state, &verdict);
     Ok(())
@@ -256,6 +257,22 @@ pub(crate) fn first_state(
         ended: false,
         done: 0,
         total: 0,
+        accepted: Vec::new(alloc),
+    })
+}
+
+/// A second value that stands at the same place. What the first one accepted is not told again.
+pub(crate) fn copy_of(alloc: Global, state: &State) -> Result<State, AllocError>
+    ensures stands { IfOk result (λ s. standing_of s ≡ standing_of state.now) }
+    ensures sound { IfOk result (λ s. (r : Run) → IsSound r state.now → IsSound r s) }
+{
+    Ok(State {
+        placement: state.placement.copy()?,
+        cost: state.cost.copy()?,
+        stage: state.stage,
+        ended: state.ended,
+        done: state.done,
+        total: state.total,
         accepted: Vec::new(alloc),
     })
 }

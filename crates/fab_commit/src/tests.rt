@@ -13,7 +13,11 @@ const HALF: u32 = 2_147_483_648;
 
 const MOST: u32 = 4_294_967_295;
 
-fn list_words(alloc: Global, starts: &[u32], moves: &[[u32; 4]]) -> Result<ListWords, AllocError> {
+pub(crate) fn list_words(
+    alloc: Global,
+    starts: &[u32],
+    moves: &[[u32; 4]],
+) -> Result<ListWords, AllocError> {
     Ok(ListWords {
         starts: Vec::from_slice(alloc, starts)?,
         moves: Vec::from_slice(alloc, moves)?,
@@ -22,12 +26,12 @@ fn list_words(alloc: Global, starts: &[u32], moves: &[[u32; 4]]) -> Result<ListW
 
 /// What is placed, and the least array that holds it.
 #[derive(Drop)]
-struct Setting {
-    design: Design,
-    grid: Grid,
+pub(crate) struct Setting {
+    pub(crate) design: Design,
+    pub(crate) grid: Grid,
 }
 
-fn read_setting(alloc: Global, arch: &[u8], net: &[u8]) -> Result<Setting, Fail> {
+pub(crate) fn read_setting(alloc: Global, arch: &[u8], net: &[u8]) -> Result<Setting, Fail> {
     let arch = read_arch(alloc, arch)?;
     let design = read_net(alloc, net, &arch)?;
     let grid = Grid::fit(design.logic_blocks(), design.pads(), arch.io_rat)?;
@@ -35,7 +39,7 @@ fn read_setting(alloc: Global, arch: &[u8], net: &[u8]) -> Result<Setting, Fail>
 }
 
 /// The start placement where no block is given.
-fn started<W: Words>(alloc: Global, of: &Setting, words: &W) -> Result<Placement, Fail>
+pub(crate) fn started<W: Words>(alloc: Global, of: &Setting, words: &W) -> Result<Placement, Fail>
     ensures { IfOk result (λ p. p.grid ≡ of.now.grid) }
 {
     of.grid.holds(of.design.logic_blocks(), of.design.pads())?;

@@ -22,7 +22,10 @@ use Rattle.fab_cost.specs.Swapping.{swapped_by}
 use Rattle.fab_move.specs.Judge.{Problem, Judged, judged_as, judged, meet, touched, moved}
 use Rattle.fab_sched.specs.Annealing.{next_range, next_heat}
 use Rattle.fab_commit.specs.Serial.{Run, Standing, side, or_zero, after_move, judged_here, step, from, one_if}
-use Rattle.fab_commit.specs.World.{World, Verdict, Claimed, Accepted, world, stage_end, end, clash, claim_of, verdict_for, without_worker, without_number, is_claimed, is_judged, first_free, open_numbers, claimed, claimed_by, verdict, judged_claim, lost, is_last, usable, verdict_here, way_of, answer, accepted_as, accepted_now, committed, can_commit, commit, happens, run_through, ways, ways_now, stage_end_at}
+use Rattle.fab_commit.specs.declared.verdicts.Claimed.{Claimed}
+use Rattle.fab_commit.specs.declared.verdicts.Verdict.{Verdict}
+use Rattle.fab_commit.specs.declared.verdicts.Accepted.{Accepted}
+use Rattle.fab_commit.specs.World.{World, world, stage_end, end, clash, claim_of, verdict_for, without_worker, without_number, is_claimed, is_judged, first_free, open_numbers, claimed, claimed_by, verdict, judged_claim, lost, is_last, usable, verdict_here, way_of, answer, accepted_as, accepted_now, committed, can_commit, commit, happens, run_through, ways, ways_now, stage_end_at}
 use Rattle.fab_commit.specs.EverySchedule.{TakesTheMove, EveryScheduleIsSerial}
 use Rattle.fab_commit.proofs.Sitings.{StandsSo}
 use Rattle.fab_commit.proofs.Noninterference.{IsLawful, propose_lawful, judged_kept}
@@ -278,6 +281,12 @@ running : (p : Run) (o n : ℕ) (heat : Option ℕ) → o ≤ n → n < stage_en
 running p o n None h l = absurd (omega arith)
 running p o n (Some t) h l = refl
 
+-- a worker that holds a move of the stage judges within it
+pub claim_open : (p : Run) (w : World) (worker k : ℕ) → Inv p w → claim_of worker w.claims ≡ Some k → w.live.done ≤ k → is_some w.older.heat ≡ true
+claim_open p w worker k inv e due =
+    let below : k < end p w = subst (Below (end p w)) e (claim_of_below (end p w) worker w.claims (recursion_from_All (λ (c : Claimed). c.number < end p w) w.claims inv.claims)) in
+    running p w.older.done w.live.done w.older.heat inv.past (omega (arith, below, due))
+
 in_stage_still : (p : Run) (o n : ℕ) (heat : Option ℕ) → o ≤ n → n + 1 < stage_end_at p o heat → ((n + 1) % p.plan.moves == 0) ≡ false
 in_stage_still p o n None h l = absurd (omega arith)
 in_stage_still p o n (Some t) h l = within_stage p.plan.moves o n h l
@@ -401,7 +410,7 @@ from-add p x (suc m) n =
     let e : suc (m + n) ≡ suc m + n = omega arith in
     from-add p (step p x) m n ∙ ap (from p x) e
 
-takes_the_move : (p : Run) (w : World) → Inv p w → TakesTheMove p w
+pub takes_the_move : (p : Run) (w : World) → Inv p w → TakesTheMove p w
 takes_the_move p w inv = λ v e. subst (OptTakes p w) e (takes p w inv)
 
 pub run_serial : (p : Run) (w : World) (events : List Event) → Inv p w

@@ -1,0 +1,5 @@
+use Rattle.fab_commit.proofs.Reasons.{moves_compose}
+use Rattle.fab_commit.proofs.laws.moves_compose.Goals as goal
+
+pub returns : goal.returns
+returns c = moves_compose

@@ -1,0 +1,13 @@
+use Rattle.fab_commit.specs.Commits.{run}
+use Rattle.fab_commit.proofs.world_states.refresh.Goals as goal
+
+pub returns-clause-whole : goal.returns-clause-whole
+returns-clause-whole g c =
+    let r = run c.args.given.now.design.now c.args.given.now.grid.now c.args.given.now.fixed.now (g.W.Words.moves c.args.given.now.words.now) c.args.given.now.schedule.now in
+    record {
+      plan = c.requires.whole.plan;
+      live = c.requires.whole.live;
+      older = c.in_ok-state.ensures.sound r c.requires.whole.live;
+      blocks = c.requires.whole.blocks;
+      kinds = c.requires.whole.kinds;
+    }

@@ -1,0 +1,33 @@
+//! Laws about moves one at a time, and about moves that are judged ahead, for whoever builds on them. A function whose
+//! contract is a law has nothing to do.
+
+ghost use Rattle.fab_commit.specs.Laws.{AcceptedSwapsAreSerial, MovesCompose, PlacementsStayLegal, RedoneIsSerial, StampsTell, VerdictsAreOfTheirBase};
+
+/// The law that so many moves and then more are all of them together.
+pub fn moves_compose()
+    ensures { MovesCompose }
+{}
+
+/// The law that moves lead from a legal placement to legal ones alone, where words propose lawful swaps: each block on a
+/// site of its kind, no two on one, and each fixed block at its site.
+pub fn placements_stay_legal()
+    ensures { PlacementsStayLegal }
+{}
+
+/// The law that whatever happens, a verdict that stands is its move on the placement of its base, which moves one at a
+/// time lead through, and is for a move of the stage that is not made yet.
+pub fn verdicts_are_of_their_base()
+    ensures { VerdictsAreOfTheirBase }
+{}
+
+/// The law that whatever happens, the swaps that were accepted, and which verdicts they spoil, are told by moves one at
+/// a time and the verdicts' bases.
+pub fn spoiled_verdicts_are_serial()
+    ensures accepted { AcceptedSwapsAreSerial }
+    ensures redone { RedoneIsSerial }
+{}
+
+/// The law that the number of the last accepted move that touched a mark tells what the list of accepted swaps tells.
+pub fn stamps_tell()
+    ensures { StampsTell }
+{}

@@ -1,0 +1,328 @@
+//! What a world keeps, and how each event changes it.
+
+ghost use Rattle.std.specs.Prelude.{◌≡◌, ◌+◌, ◌*◌, ◌^◌, ◌<◌, ◌≤◌, ◌∷◌, ◌++◌, [], false, Some, vec_len, vec_capacity, IfOk, OnOk, OnErr};
+ghost use Rattle.std.specs.List.{All};
+ghost use Rattle.fab_net.specs.Netlist.{Netlist};
+ghost use Rattle.fab_site.specs.Placement.{IsLegal, IsSwapOf};
+ghost use Rattle.fab_sched.specs.Annealing.{IsLawful};
+ghost use Rattle.fab_move.specs.Judge.{says};
+ghost use Rattle.fab_commit.specs.declared.events.Event.TheVariants.{Claim, Judge, Lose, Commit, Refresh};
+ghost use Rattle.fab_commit.specs.Serial.{Run, after_move, at_start, judged_here};
+ghost use Rattle.fab_commit.specs.Commits.{IsSound, run, standing_of};
+ghost use Rattle.fab_commit.specs.World.{accepted_now, commit as commit_of, end, happens, stage_end, usable, verdict_here, way_of, ways_now, without_number, world};
+ghost use Rattle.fab_commit.specs.Worlds.{HasBlocks, IsReached, IsWhole, KeepsKind, world_of};
+
+use crate::claims::{
+    claim_of, drop_claim, drop_last_verdict, drop_verdict_for, first_free, verdict_for,
+};
+use crate::clashes::clash;
+use crate::events::{Event, Way};
+use crate::states::{Given, State, commit, copy_of, judge_on, moves_left};
+use crate::verdicts::{Accepted, Claimed, Judgement, Verdict};
+use fab_move::Verdict as Answer;
+use fab_sched::Schedule;
+use fab_site::{Swap, Words};
+use std::alloc::{AllocError, Global};
+
+/// Where all stands.
+#[derive(Drop)]
+pub(crate) struct WorldState {
+    pub(crate) live: State,
+    /// What workers judge on.
+    pub(crate) older: State,
+    pub(crate) claims: Vec<Claimed>,
+    pub(crate) verdicts: Vec<Verdict>,
+    pub(crate) accepted: Vec<Accepted>,
+    /// Of each move that was committed.
+    pub(crate) ways: Vec<Way>,
+}
+
+/// The number behind the last move of the stage that runs in a state.
+fn end_of<W: Words>(given: &Given<'_, W>, state: &State) -> u64
+    requires plan { IsLawful given.now.schedule.now }
+    requires sound { IsSound (run given.now.design.now given.now.grid.now given.now.fixed.now (W.moves given.now.words.now) given.now.schedule.now) state.now }
+    ensures { result ≡ stage_end (run given.now.design.now given.now.grid.now given.now.fixed.now (W.moves given.now.words.now) given.now.schedule.now) (standing_of state.now) }
+{
+    state.done + moves_left(given.schedule, state)
+}
+
+/// A worker without a claim takes the first move that is free.
+fn claim<W: Words>(
+    given: &Given<'_, W>,
+    state: &mut WorldState,
+    worker: u64,
+) -> Result<(), AllocError>
+    requires whole { IsWhole (run given.now.design.now given.now.grid.now given.now.fixed.now (W.moves given.now.words.now) given.now.schedule.now) state.old }
+    ensures whole { IsWhole (run given.now.design.now given.now.grid.now given.now.fixed.now (W.moves given.now.words.now) given.now.schedule.now) state.new }
+    ensures ways { state.new.ways.items ≡ state.old.ways.items }
+    ensures ok { OnOk result (world_of state.new ≡ happens (run given.now.design.now given.now.grid.now given.now.fixed.now (W.moves given.now.words.now) given.now.schedule.now) (world_of state.old) (Claim worker)) }
+    ensures err { OnErr result (world_of state.new ≡ world_of state.old) }
+{
+    if claim_of(&state.claims, worker).is_some() {
+        return Ok(());
+    }
+    let end = end_of(given, &state.older);
+    if let Some(number) = first_free(&state.claims, &state.verdicts, state.live.done, end) {
+        state.claims.push(Claimed { worker, number })?;
+    }
+    Ok(())
+}
+
+/// A worker judges the move that it holds, on the older placement; a move that is done by then is dropped.
+fn judge<W: Words>(
+    alloc: Global,
+    given: &Given<'_, W>,
+    state: &mut WorldState,
+    worker: u64,
+) -> Result<(), AllocError>
+    requires whole { IsWhole (run given.now.design.now given.now.grid.now given.now.fixed.now (W.moves given.now.words.now) given.now.schedule.now) state.old }
+    requires reached { IsReached (run given.now.design.now given.now.grid.now given.now.fixed.now (W.moves given.now.words.now) given.now.schedule.now) (world_of state.old) state.old.ways.items }
+    ensures whole { IsWhole (run given.now.design.now given.now.grid.now given.now.fixed.now (W.moves given.now.words.now) given.now.schedule.now) state.new }
+    ensures ways { state.new.ways.items ≡ state.old.ways.items }
+    ensures ok { OnOk result (world_of state.new ≡ happens (run given.now.design.now given.now.grid.now given.now.fixed.now (W.moves given.now.words.now) given.now.schedule.now) (world_of state.old) (Judge worker)) }
+    ensures err { OnErr result (world_of state.new ≡ world_of state.old) }
+{
+    let Some(number) = claim_of(&state.claims, worker) else {
+        return Ok(());
+    };
+    if number < state.live.done {
+        drop_claim(&mut state.claims, worker);
+        return Ok(());
+    }
+    let answer = judge_on(alloc, given, &state.older, number)?;
+    state.verdicts.push(Verdict {
+        worker,
+        number,
+        base: state.older.done,
+        judged: Judgement::of(answer),
+    })?;
+    drop_claim(&mut state.claims, worker);
+    Ok(())
+}
+
+/// A worker's claim is lost, or else its verdict of the greatest number.
+fn lose<W: Words>(given: &Given<'_, W>, state: &mut WorldState, worker: u64)
+    requires whole { IsWhole (run given.now.design.now given.now.grid.now given.now.fixed.now (W.moves given.now.words.now) given.now.schedule.now) state.old }
+    ensures whole { IsWhole (run given.now.design.now given.now.grid.now given.now.fixed.now (W.moves given.now.words.now) given.now.schedule.now) state.new }
+    ensures ways { state.new.ways.items ≡ state.old.ways.items }
+    ensures lost { world_of state.new ≡ happens (run given.now.design.now given.now.grid.now given.now.fixed.now (W.moves given.now.words.now) given.now.schedule.now) (world_of state.old) (Lose worker) }
+{
+    if claim_of(&state.claims, worker).is_some() {
+        drop_claim(&mut state.claims, worker);
+    } else {
+        drop_last_verdict(&mut state.verdicts, worker);
+    }
+}
+
+/// The older placement becomes the live one.
+fn refresh<W: Words>(
+    alloc: Global,
+    given: &Given<'_, W>,
+    state: &mut WorldState,
+) -> Result<(), AllocError>
+    requires whole { IsWhole (run given.now.design.now given.now.grid.now given.now.fixed.now (W.moves given.now.words.now) given.now.schedule.now) state.old }
+    ensures whole { IsWhole (run given.now.design.now given.now.grid.now given.now.fixed.now (W.moves given.now.words.now) given.now.schedule.now) state.new }
+    ensures ways { state.new.ways.items ≡ state.old.ways.items }
+    ensures ok { OnOk result (world_of state.new ≡ happens (run given.now.design.now given.now.grid.now given.now.fixed.now (W.moves given.now.words.now) given.now.schedule.now) (world_of state.old) Refresh) }
+    ensures err { OnErr result (world_of state.new ≡ world_of state.old) }
+{
+    state.older = copy_of(alloc, &state.live)?;
+    Ok(())
+}
+
+/// Enters the swap of the next move, if it is accepted.
+fn enter(accepted: &mut Vec<Accepted>, number: u64, answer: &Answer)
+    requires room { vec_len accepted.old < vec_capacity accepted.old }
+    ensures { accepted.new.items ≡ accepted.old.items ++ accepted_now number (says answer.now) }
+{
+    if answer.accepted {
+        if let Some(swap) = answer.swap {
+            accepted.push_reserved(Accepted { number, swap });
+        }
+    }
+}
+
+/// Makes the next move as it was judged.
+fn make<W: Words>(
+    given: &Given<'_, W>,
+    live: &mut State,
+    accepted: &mut Vec<Accepted>,
+    answer: &Answer,
+)
+    requires sound { IsSound (run given.now.design.now given.now.grid.now given.now.fixed.now (W.moves given.now.words.now) given.now.schedule.now) live.old }
+    requires going { live.old.ended ≡ false }
+    requires blocks { All (HasBlocks given.now.design.now) accepted.old.items }
+    requires room { vec_len live.old.accepted < vec_capacity live.old.accepted }
+    requires swap_room { vec_len accepted.old < vec_capacity accepted.old }
+    requires lawful { (s : Swap) → answer.now.swap ≡ Some s → IsSwapOf live.old.placement.grid live.old.placement.sites s }
+    requires says { says answer.now ≡ judged_here (run given.now.design.now given.now.grid.now given.now.fixed.now (W.moves given.now.words.now) given.now.schedule.now) (standing_of live.old) live.old.done }
+    ensures sound { IsSound (run given.now.design.now given.now.grid.now given.now.fixed.now (W.moves given.now.words.now) given.now.schedule.now) live.new }
+    ensures blocks { All (HasBlocks given.now.design.now) accepted.new.items }
+    ensures stands { standing_of live.new ≡ after_move (run given.now.design.now given.now.grid.now given.now.fixed.now (W.moves given.now.words.now) given.now.schedule.now) (standing_of live.old) (says answer.now) }
+    ensures accepted { accepted.new.items ≡ accepted.old.items ++ accepted_now live.old.done (says answer.now) }
+{
+    enter(accepted, live.done, answer);
+    commit(given, live, answer);
+}
+
+/// Judges the next move on the live placement, and makes it.
+fn judge_and_make<W: Words>(
+    alloc: Global,
+    given: &Given<'_, W>,
+    live: &mut State,
+    accepted: &mut Vec<Accepted>,
+) -> Result<(), AllocError>
+    requires sound { IsSound (run given.now.design.now given.now.grid.now given.now.fixed.now (W.moves given.now.words.now) given.now.schedule.now) live.old }
+    requires going { live.old.ended ≡ false }
+    requires blocks { All (HasBlocks given.now.design.now) accepted.old.items }
+    requires room { vec_len live.old.accepted < vec_capacity live.old.accepted }
+    requires swap_room { vec_len accepted.old < vec_capacity accepted.old }
+    ensures sound { IsSound (run given.now.design.now given.now.grid.now given.now.fixed.now (W.moves given.now.words.now) given.now.schedule.now) live.new }
+    ensures blocks { All (HasBlocks given.now.design.now) accepted.new.items }
+    ensures stands { OnOk result (standing_of live.new ≡ after_move (run given.now.design.now given.now.grid.now given.now.fixed.now (W.moves given.now.words.now) given.now.schedule.now) (standing_of live.old) (judged_here (run given.now.design.now given.now.grid.now given.now.fixed.now (W.moves given.now.words.now) given.now.schedule.now) (standing_of live.old) live.old.done)) }
+    ensures accepted { OnOk result (accepted.new.items ≡ accepted.old.items ++ accepted_now live.old.done (judged_here (run given.now.design.now given.now.grid.now given.now.fixed.now (W.moves given.now.words.now) given.now.schedule.now) (standing_of live.old) live.old.done)) }
+    ensures err { OnErr result ((standing_of live.new ≡ standing_of live.old) × (accepted.new.items ≡ accepted.old.items)) }
+{
+    let answer = judge_on(alloc, given, live, live.done)?;
+    make(given, live, accepted, &answer);
+    Ok(())
+}
+
+/// Keeps the way of a move that is made, and drops its verdict.
+fn settle(state: &mut WorldState, number: u64, way: Way)
+    requires room { vec_len state.old.ways < vec_capacity state.old.ways }
+    ensures live { state.new.live ≡ state.old.live }
+    ensures older { state.new.older ≡ state.old.older }
+    ensures claims { state.new.claims.items ≡ state.old.claims.items }
+    ensures accepted { state.new.accepted.items ≡ state.old.accepted.items }
+    ensures verdicts { state.new.verdicts.items ≡ without_number number state.old.verdicts.items }
+    ensures ways { state.new.ways.items ≡ state.old.ways.items ++ way ∷ [] }
+{
+    state.ways.push_reserved(way);
+    drop_verdict_for(&mut state.verdicts, number);
+}
+
+/// Makes the next move of the stage: by its verdict, where that still holds, and else judged anew.
+fn commit_next<W: Words>(
+    alloc: Global,
+    given: &Given<'_, W>,
+    state: &mut WorldState,
+) -> Result<(), AllocError>
+    requires whole { IsWhole (run given.now.design.now given.now.grid.now given.now.fixed.now (W.moves given.now.words.now) given.now.schedule.now) state.old }
+    requires reached { IsReached (run given.now.design.now given.now.grid.now given.now.fixed.now (W.moves given.now.words.now) given.now.schedule.now) (world_of state.old) state.old.ways.items }
+    requires before { state.old.live.done < end (run given.now.design.now given.now.grid.now given.now.fixed.now (W.moves given.now.words.now) given.now.schedule.now) (world_of state.old) }
+    requires room { vec_len state.old.live.accepted < vec_capacity state.old.live.accepted }
+    requires swap_room { vec_len state.old.accepted < vec_capacity state.old.accepted }
+    requires way_room { vec_len state.old.ways < vec_capacity state.old.ways }
+    ensures whole { IsWhole (run given.now.design.now given.now.grid.now given.now.fixed.now (W.moves given.now.words.now) given.now.schedule.now) state.new }
+    ensures ways { OnOk result (state.new.ways.items ≡ state.old.ways.items ++ way_of (verdict_here (world_of state.old)) (usable (run given.now.design.now given.now.grid.now given.now.fixed.now (W.moves given.now.words.now) given.now.schedule.now) (world_of state.old) (verdict_here (world_of state.old))) ∷ []) }
+    ensures ok { OnOk result (world_of state.new ≡ commit_of (run given.now.design.now given.now.grid.now given.now.fixed.now (W.moves given.now.words.now) given.now.schedule.now) (world_of state.old)) }
+    ensures err { OnErr result ((world_of state.new ≡ world_of state.old) × (state.new.ways.items ≡ state.old.ways.items)) }
+{
+    let number = state.live.done;
+    match verdict_for(&state.verdicts, number) {
+        None => {
+            judge_and_make(alloc, given, &mut state.live, &mut state.accepted)?;
+            settle(state, number, Way::Late);
+        }
+        Some(verdict) => {
+            let footprint = verdict.judged.footprint();
+            if clash(given.design, &state.accepted, verdict.base, footprint) {
+                judge_and_make(alloc, given, &mut state.live, &mut state.accepted)?;
+                settle(state, number, Way::Redone);
+            } else {
+                make(
+                    given,
+                    &mut state.live,
+                    &mut state.accepted,
+                    verdict.judged.answer(),
+                );
+                settle(state, number, Way::Taken);
+            }
+        }
+    }
+    Ok(())
+}
+
+/// The next move of the running stage, if one is left, is committed.
+fn commit_one<W: Words>(
+    alloc: Global,
+    given: &Given<'_, W>,
+    state: &mut WorldState,
+) -> Result<(), AllocError>
+    requires whole { IsWhole (run given.now.design.now given.now.grid.now given.now.fixed.now (W.moves given.now.words.now) given.now.schedule.now) state.old }
+    requires reached { IsReached (run given.now.design.now given.now.grid.now given.now.fixed.now (W.moves given.now.words.now) given.now.schedule.now) (world_of state.old) state.old.ways.items }
+    ensures whole { IsWhole (run given.now.design.now given.now.grid.now given.now.fixed.now (W.moves given.now.words.now) given.now.schedule.now) state.new }
+    ensures ways { OnOk result (state.new.ways.items ≡ state.old.ways.items ++ ways_now (run given.now.design.now given.now.grid.now given.now.fixed.now (W.moves given.now.words.now) given.now.schedule.now) (world_of state.old) Commit) }
+    ensures ok { OnOk result (world_of state.new ≡ happens (run given.now.design.now given.now.grid.now given.now.fixed.now (W.moves given.now.words.now) given.now.schedule.now) (world_of state.old) Commit) }
+    ensures err { OnErr result ((world_of state.new ≡ world_of state.old) × (state.new.ways.items ≡ state.old.ways.items)) }
+{
+    if state.live.done >= end_of(given, &state.older) {
+        return Ok(());
+    }
+    state.live.accepted.reserve(1)?;
+    state.accepted.reserve(1)?;
+    state.ways.reserve(1)?;
+    commit_next(alloc, given, state)
+}
+
+/// One event.
+fn one_event<W: Words>(
+    alloc: Global,
+    given: &Given<'_, W>,
+    state: &mut WorldState,
+    event: Event,
+) -> Result<(), AllocError>
+    requires whole { IsWhole (run given.now.design.now given.now.grid.now given.now.fixed.now (W.moves given.now.words.now) given.now.schedule.now) state.old }
+    requires reached { IsReached (run given.now.design.now given.now.grid.now given.now.fixed.now (W.moves given.now.words.now) given.now.schedule.now) (world_of state.old) state.old.ways.items }
+    ensures whole { IsWhole (run given.now.design.now given.now.grid.now given.now.fixed.now (W.moves given.now.words.now) given.now.schedule.now) state.new }
+    ensures ways { OnOk result (state.new.ways.items ≡ state.old.ways.items ++ ways_now (run given.now.design.now given.now.grid.now given.now.fixed.now (W.moves given.now.words.now) given.now.schedule.now) (world_of state.old) event) }
+    ensures ok { OnOk result (world_of state.new ≡ happens (run given.now.design.now given.now.grid.now given.now.fixed.now (W.moves given.now.words.now) given.now.schedule.now) (world_of state.old) event) }
+    ensures err { OnErr result ((world_of state.new ≡ world_of state.old) × (state.new.ways.items ≡ state.old.ways.items)) }
+{
+    match event {
+        Event::Claim(worker) => claim(given, state, worker),
+        Event::Judge(worker) => judge(alloc, given, state, worker),
+        Event::Lose(worker) => {
+            lose(given, state, worker);
+            Ok(())
+        }
+        Event::Commit => commit_one(alloc, given, state),
+        Event::Refresh => refresh(alloc, given, state),
+    }
+}
+
+/// One event, which leads on from where the world stands.
+pub(crate) fn step<W: Words>(
+    alloc: Global,
+    given: &Given<'_, W>,
+    state: &mut WorldState,
+    event: Event,
+) -> Result<(), AllocError>
+    requires whole { IsWhole (run given.now.design.now given.now.grid.now given.now.fixed.now (W.moves given.now.words.now) given.now.schedule.now) state.old }
+    requires reached { IsReached (run given.now.design.now given.now.grid.now given.now.fixed.now (W.moves given.now.words.now) given.now.schedule.now) (world_of state.old) state.old.ways.items }
+    ensures whole { IsWhole (run given.now.design.now given.now.grid.now given.now.fixed.now (W.moves given.now.words.now) given.now.schedule.now) state.new }
+    ensures reached { IsReached (run given.now.design.now given.now.grid.now given.now.fixed.now (W.moves given.now.words.now) given.now.schedule.now) (world_of state.new) state.new.ways.items }
+    ensures ways { OnOk result (state.new.ways.items ≡ state.old.ways.items ++ ways_now (run given.now.design.now given.now.grid.now given.now.fixed.now (W.moves given.now.words.now) given.now.schedule.now) (world_of state.old) event) }
+    ensures ok { OnOk result (world_of state.new ≡ happens (run given.now.design.now given.now.grid.now given.now.fixed.now (W.moves given.now.words.now) given.now.schedule.now) (world_of state.old) event) }
+    ensures err { OnErr result ((world_of state.new ≡ world_of state.old) × (state.new.ways.items ≡ state.old.ways.items)) }
+{
+    one_event(alloc, given, state, event)
+}
+
+/// Nothing is claimed or judged before the first move.
+pub(crate) fn first_world(alloc: Global, live: State) -> Result<WorldState, AllocError>
+    ensures whole { IfOk result (λ s. (r : Run) → IsLawful r.plan → IsSound r live → IsWhole r s) }
+    ensures stands { IfOk result (λ s. world_of s ≡ world (standing_of live)) }
+    ensures ways { IfOk result (λ s. s.ways.items ≡ []) }
+{
+    let older = copy_of(alloc, &live)?;
+    Ok(WorldState {
+        live,
+        older,
+        claims: Vec::new(alloc),
+        verdicts: Vec::new(alloc),
+        accepted: Vec::new(alloc),
+        ways: Vec::new(alloc),
+    })
+}

@@ -1,0 +1,134 @@
+//! Moves that are judged ahead and committed, one event at a time.
+
+ghost use Rattle.std.specs.Prelude.{◌≡◌, ◌++◌, [], slice_get, IfOk, OnOk, OnErr};
+ghost use Rattle.fab_site.specs.Placement.{IsLegal};
+ghost use Rattle.fab_commit.specs.Serial.{at_start};
+ghost use Rattle.fab_commit.specs.Commits.{run};
+ghost use Rattle.fab_commit.specs.World.{happens, ways_now, world};
+ghost use Rattle.fab_commit.specs.Worlds.{IsReached, IsSameGiven, IsSerial, run_in};
+
+use crate::events::{Event, Way};
+use crate::states::{Given, first_state};
+use crate::world_states::{WorldState, first_world, step};
+use fab_arch::Grid;
+use fab_net::Design;
+use fab_sched::Schedule;
+use fab_site::{Fixed, Placement, Words};
+use std::alloc::{AllocError, Global};
+use std::marker::Model;
+
+/// Anneals a placement as workers do that judge moves ahead, though it has no worker: whoever holds it says what happens
+/// next. Whatever that is, the placement is that of one move at a time.
+#[derive(Drop)]
+pub struct World<'a, W: Words + Drop> {
+    design: &'a Design,
+    grid: &'a Grid,
+    fixed: Fixed,
+    schedule: Schedule,
+    words: W,
+    state: WorldState,
+}
+
+impl<'a, W: Words + Drop> Model for World<'a, W> {
+    ghost use Rattle.fab_commit.specs.Commits.{run};
+    ghost use Rattle.fab_commit.specs.Worlds.{IsReached, IsWhole, WorldOf, world_of};
+
+    ghost Value = { WorldOf W };
+
+    ghost view = { λ w. record {
+      design = w.design.now;
+      grid = w.grid.now;
+      fixed = w.fixed;
+      plan = w.schedule;
+      words = w.words;
+      world = world_of w.state;
+      ways = w.state.ways.items;
+    } };
+
+    ghost invariant = { λ w. IsWhole (run w.design.now w.grid.now w.fixed (W.moves w.words) w.schedule) w.state × IsReached (run w.design.now w.grid.now w.fixed (W.moves w.words) w.schedule) (world_of w.state) w.state.ways.items };
+}
+
+impl<'a, W: Words + Drop> World<'a, W> {
+    /// Stands before the first move, with this placement, which is a legal one of the array by condition. The older
+    /// placement is the same one, and nothing is claimed, judged or accepted.
+    pub fn new(
+        alloc: Global,
+        design: &'a Design,
+        grid: &'a Grid,
+        placement: Placement,
+        fixed: Fixed,
+        schedule: Schedule,
+        words: W,
+    ) -> Result<World<'a, W>, AllocError>
+        requires legal { IsLegal design.now grid.now fixed placement.sites }
+        requires array { placement.grid ≡ grid.now }
+        ensures { IfOk result (λ w. w ≡ record { design = design.now; grid = grid.now; fixed = fixed; plan = schedule; words = words; world = world (at_start (run design.now grid.now fixed (W.moves words) schedule) placement.sites); ways = [] }) }
+    {
+        let _moves = schedule.moves();
+        let live = first_state(alloc, design, grid, &fixed, &schedule, placement)?;
+        let state = first_world(alloc, live)?;
+        Ok(World {
+            design,
+            grid,
+            fixed,
+            schedule,
+            words,
+            state,
+        })
+    }
+
+    /// Something happens. What does not apply changes nothing. Where memory is short, all stays as it was.
+    pub fn step(&mut self, alloc: Global, event: Event) -> Result<(), AllocError>
+        ensures same { IsSameGiven self.old self.new }
+        ensures step { OnOk result (self.new.world ≡ happens (run_in W.moves self.old) self.old.world event) }
+        ensures ways { OnOk result (self.new.ways ≡ self.old.ways ++ ways_now (run_in W.moves self.old) self.old.world event) }
+        ensures unchanged { OnErr result (self.new ≡ self.old) }
+    {
+        let given = Given {
+            design: self.design,
+            grid: self.grid,
+            fixed: &self.fixed,
+            schedule: &self.schedule,
+            words: &self.words,
+        };
+        step(alloc, &given, &mut self.state, event)
+    }
+
+    /// How many moves are made.
+    pub fn done(&self) -> u64
+        ensures value { result ≡ self.now.world.live.done }
+        // Some list of events leads here from a first placement.
+        ensures reached { IsReached (run_in W.moves self.now) self.now.world self.now.ways }
+        // Where it stands is where one move at a time leads.
+        ensures serial { IsSerial (run_in W.moves self.now) self.now.world.live self.now.ways }
+    {
+        self.state.live.done
+    }
+
+    /// How many moves were accepted in all.
+    pub fn total(&self) -> u64
+        ensures { result ≡ self.now.world.live.total }
+    {
+        self.state.live.total
+    }
+
+    /// The placement as it stands.
+    pub fn placement(&self) -> &Placement
+        ensures grid { result.now.grid ≡ self.now.grid }
+        ensures sites { result.now.sites ≡ self.now.world.live.sites }
+        ensures legal { IsLegal self.now.design self.now.grid self.now.fixed self.now.world.live.sites }
+    {
+        &self.state.live.placement
+    }
+
+    /// How a move got its answer, `None` where it is not made yet.
+    pub fn committed(&self, number: u64) -> Option<Way>
+        ensures { result ≡ slice_get self.now.ways number }
+    {
+        if number < self.state.ways.len() as u64 {
+            Some(self.state.ways[number as usize])
+        } else {
+            None
+        }
+    }
+}
