@@ -18,14 +18,13 @@ use Rattle.fab_cost.specs.declared.edge_counts.Edge.{Edge}
 use Rattle.fab_cost.specs.declared.edge_counts.Edges.{Edges}
 use Rattle.fab_cost.specs.declared.edge_counts.CountedBox.{CountedBox}
 use Rattle.fab_cost.specs.Boxes.{Counts}
-use Rattle.fab_cost.specs.Changes.{reach_between, Surrounds, IsLeastEnd, IsGreatestEnd, AreEndsAfter, IsAmong, IsPlainAfter, IsPlainSwapped, IsChange}
+use Rattle.fab_cost.specs.Changes.{reach_between, Surrounds, IsLeastEnd, IsGreatestEnd, AreEndsAfter, IsPlainAfter, IsPlainSwapped, IsChange}
 use Rattle.fab_cost.specs.Cost.{Box, clip, least, greatest, xs_of, ys_of, box_on, net_box, net_cost, cost_of, cross_of, half_perimeter}
-use Rattle.fab_cost.specs.Edges.{times, edges_of, counted_on, counted_box, plain, Moved, IsLeast, IsGreatest, AreEdgesAfter}
-use Rattle.fab_cost.specs.Swapping.{blocks_of, has_block, cost_unless, counted_at, times_other, SitesMoved, IsBoxAfter, IsBoxSwapped, HaveBoxes}
+use Rattle.fab_cost.specs.Edges.{times, edges_of, counted_on, counted_box, plain, Moved, AreEdgesAfter}
+use Rattle.fab_cost.specs.Swapping.{blocks_of, has_block, cost_unless, counted_at, times_other, IsBoxAfter, IsBoxSwapped, HaveBoxes}
 use Rattle.fab_cost.proofs.BoxMoves.{coordinates, sites_on as moved_on, sites_back as moved_back, length_xs, length_ys, swapped_still}
 use Rattle.fab_cost.proofs.Moves.{least_is, greatest_is, least_only, greatest_only, some_entry, least_given, greatest_given, least_kept, greatest_kept, edges_after, edges_same}
-use Rattle.fab_cost.proofs.Nets.{plain_is, unless_le, sum_below, sum_low}
-use Rattle.fab_cost.proofs.Bounds.{AreSides}
+use Rattle.fab_cost.proofs.Nets.{plain_is, sum_below}
 use Rattle.fab_cost.proofs.Sited.{other_within}
 use Rattle.fab_cost.proofs.Split.{balance_none, balance_some, sum_on}
 use Rattle.fab_cost.proofs.Times.{times_cons, times_none}
