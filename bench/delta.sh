@@ -11,7 +11,6 @@ scratch_with bench_delta "fab_arch fab_net fab_site fab_file fab_cost anyhow" <<
 #![tactic(auto)]
 
 ghost use Rattle.std.specs.Prelude.{◌≡◌, IfOk, IfSome, Some, length, slice_get};
-ghost use Rattle.std.specs.List.{All};
 ghost use Rattle.fab_site.specs.Placement.{IsSwapOf};
 
 use fab_arch::{Grid, read_arch};
@@ -19,12 +18,11 @@ use fab_cost::{Boxes, EdgeBoxes, WireCost};
 use fab_file::{place_size, read_place};
 use fab_net::{BlockId, Design, read_net};
 use fab_site::{Placement, Swap};
-use std::alloc::{AllocError, Global};
+use std::alloc::Global;
 use std::time::{Clock, Instant};
 use std::{env, fs, io};
 
-const SWAPS: u32 = 20_000;
-const ROUNDS: u32 = 50;
+const DRAWS: u32 = 1_000_000;
 
 // Where a block stands, if there is one of this number.
 fn site_of_block(placement: &Placement, block: BlockId) -> Option<fab_arch::Site>
@@ -60,43 +58,58 @@ fn block_from(state: u64, blocks: usize) -> BlockId {
     BlockId(((state >> 33) % (blocks as u64).max(1)) as u32)
 }
 
-fn draw(alloc: Global, placement: &Placement, grid: &Grid) -> Result<Vec<Swap>, AllocError>
+// The nanoseconds of the draws alone, and something of them, so that they are made.
+fn drawing<R: Clock>(rt: &R, grid: &Grid, placement: &Placement) -> io::Result<(u128, u64)>
     requires { placement.now.grid ≡ grid.now }
-    ensures { IfOk result (λ v. All (IsSwapOf placement.now.grid placement.now.sites) v.items) }
 {
     let blocks = placement.blocks();
-    let mut swaps = Vec::new(alloc);
+    let begun = Instant::now(rt)?;
     let mut state = 1;
-    for _ in 0..SWAPS {
+    let mut sum: u64 = 0;
+    for _ in 0..DRAWS {
         let first = next(state);
         state = next(first);
         if let Some(swap) = swap_of(placement, grid, block_from(first, blocks), block_from(state, blocks)) {
-            swaps.push(swap)?;
+            sum = sum.wrapping_add(u64::from(swap.to.x));
         }
     }
-    Ok(swaps)
+    Ok((begun.elapsed(rt)?.as_nanos(), sum))
 }
 
-// The nanoseconds of all changes, and something of them, so that they are computed.
-fn nanoseconds<R: Clock, W: WireCost>(
+// What the draws and the changes of cost of the swaps that they give took.
+#[derive(Clone, Copy)]
+struct Timed {
+    nanoseconds: u128,
+    changes: u64,
+    // Of all changes, so that they are computed.
+    sum: i64,
+}
+
+fn changing<R: Clock, W: WireCost>(
     rt: &R,
     wire: &W,
     design: &Design,
     grid: &Grid,
     placement: &Placement,
-    swaps: &[Swap],
-) -> io::Result<(u128, i64)>
+) -> io::Result<Timed>
     requires stands { W.StandsFor wire.now design.now grid.now placement.now.sites }
-    requires lawful { All (IsSwapOf placement.now.grid placement.now.sites) swaps.now }
+    requires grid { placement.now.grid ≡ grid.now }
 {
+    let blocks = placement.blocks();
     let begun = Instant::now(rt)?;
+    let mut state = 1;
+    let mut changes: u64 = 0;
     let mut sum: i64 = 0;
-    for _ in 0..ROUNDS {
-        for swap in swaps {
-            sum = sum.wrapping_add(wire.delta(design, grid, placement, swap));
+    for _ in 0..DRAWS {
+        let first = next(state);
+        state = next(first);
+        if let Some(swap) = swap_of(placement, grid, block_from(first, blocks), block_from(state, blocks)) {
+            changes = changes.wrapping_add(1);
+            sum = sum.wrapping_add(wire.delta(design, grid, placement, &swap));
         }
     }
-    Ok((begun.elapsed(rt)?.as_nanos(), sum))
+    let nanoseconds = begun.elapsed(rt)?.as_nanos();
+    Ok(Timed { nanoseconds, changes, sum })
 }
 
 // How many nets the blocks have on average, in hundredths, for two of them.
@@ -106,6 +119,11 @@ fn nets_of_two(design: &Design) -> u64 {
         nets = nets.saturating_add(design.nets_of(BlockId(block as u32)).len() as u64);
     }
     nets.saturating_mul(200) / (design.blocks() as u64).max(1)
+}
+
+// The picoseconds of one change of cost.
+fn picoseconds(timed: Timed, drawing: u128) -> u128 {
+    timed.nanoseconds.saturating_sub(drawing).saturating_mul(1000) / u128::from(timed.changes).max(1)
 }
 
 fn measure<R: Clock + Print>(
@@ -118,31 +136,48 @@ fn measure<R: Clock + Print>(
     requires grid { placement.now.grid ≡ grid.now }
     requires whole { length design.now.kinds ≡ length placement.now.sites }
 {
-    let swaps = draw(alloc, placement, grid)?;
     let boxes = Boxes::new(alloc, design, grid, placement)?;
     let edges = EdgeBoxes::new(alloc, design, grid, placement)?;
-    let whole = nanoseconds(rt, &boxes, design, grid, placement, &swaps)?;
-    let counted = nanoseconds(rt, &edges, design, grid, placement, &swaps)?;
-    let changes = (swaps.len() as u128).saturating_mul(u128::from(ROUNDS)).max(1);
+    let drawing = drawing(rt, grid, placement)?;
+    let whole = changing(rt, &boxes, design, grid, placement)?;
+    let counted = changing(rt, &edges, design, grid, placement)?;
     let nets = nets_of_two(design);
     let blocks = design.blocks();
-    println!(rt; "{blocks} whole {} ps {nets} nets {}", whole.0.saturating_mul(1000) / changes, whole.1)?;
-    println!(rt; "{blocks} counted {} ps {nets} nets {}", counted.0.saturating_mul(1000) / changes, counted.1)?;
+    println!(rt; "{blocks} whole {} ps {nets} nets {} {}", picoseconds(whole, drawing.0), whole.sum, drawing.1)?;
+    println!(rt; "{blocks} counted {} ps {nets} nets {}", picoseconds(counted, drawing.0), counted.sum)?;
     Ok(())
 }
 
-fn main(rt: HostRuntime) -> anyhow::Result<()> {
+fn read_place_of(alloc: Global, place: &[u8], design: &Design, io_rat: u16) -> anyhow::Result<(Grid, Placement)>
+    ensures { IfOk result (λ r. r.1.grid ≡ r.0) }
+{
+    let (nx, ny) = place_size(alloc, place)?;
+    let grid = Grid::new(nx, ny, io_rat)?;
+    let placement = read_place(alloc, place, design, &grid)?;
+    Ok((grid, placement))
+}
+
+fn measure_texts<R: Clock + Print>(rt: &R, alloc: Global, arch: &[u8], net: &[u8], place: &[u8]) -> anyhow::Result<()> {
+    let arch = read_arch(alloc, arch)?;
+    let design = read_net(alloc, net, &arch)?;
+    let (grid, placement) = read_place_of(alloc, place, &design, arch.io_rat)?;
+    if placement.blocks() != design.blocks() {
+        return Ok(());
+    }
+    measure(rt, alloc, &design, &grid, &placement)
+}
+
+fn measure_files(rt: &HostRuntime, name: &str) -> anyhow::Result<()> {
     let alloc = rt.alloc();
+    let arch = fs::read(rt, format!(in alloc; "{name}.arch")?.as_str())?;
+    let net = fs::read(rt, format!(in alloc; "{name}.net")?.as_str())?;
+    let place = fs::read(rt, format!(in alloc; "{name}.place")?.as_str())?;
+    measure_texts(rt, alloc, &arch, &net, &place)
+}
+
+fn main(rt: HostRuntime) -> anyhow::Result<()> {
     for name in env::args(&rt)?.skip(1) {
-        let arch = read_arch(alloc, &fs::read(&rt, format!(in alloc; "{name}.arch")?.as_str())?)?;
-        let design = read_net(alloc, &fs::read(&rt, format!(in alloc; "{name}.net")?.as_str())?, &arch)?;
-        let text = fs::read(&rt, format!(in alloc; "{name}.place")?.as_str())?;
-        let (nx, ny) = place_size(alloc, &text)?;
-        let grid = Grid::new(nx, ny, arch.io_rat)?;
-        let placement = read_place(alloc, &text, &design, &grid)?;
-        if placement.blocks() == design.blocks() {
-            measure(&rt, alloc, &design, &grid, &placement)?;
-        }
+        measure_files(&rt, name.as_str())?;
     }
     Ok(())
 }

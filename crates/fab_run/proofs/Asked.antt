@@ -20,7 +20,7 @@ use Rattle.fab_run.specs.declared.inputs.Options.{Options}
 use Rattle.fab_run.specs.RunFaults.{of_pads}
 use Rattle.fab_run.specs.Check.{FitsOn, IsDesignFault, IsTextFault, MeanDesign}
 use Rattle.fab_run.specs.Setting.{AreStageMoves, HasArray, HasPins, IsAskedPlan, IsSized, Texts}
-use Rattle.fab_run.specs.RunChecks.{IsLocationFault, IsNumberFault, IsRunFault}
+use Rattle.fab_run.specs.RunChecks.{IsLocationFault, IsOptionFault, IsRunFault}
 
 -- the least square array
 
@@ -107,7 +107,7 @@ of_pads_is text d g place_fault.BadLabel h = h
 of_pads_is text d g place_fault.Write h = h
 of_pads_is text d g place_fault.NoMemory h = tt
 
-pub number_run : (t : Texts) (o : Options) (d : Netlist) (g : GridShape) (fixed begun : List (Option Site)) (e : RunFault) → HasPins t o d g fixed begun → IsNumberFault t o (length d.kinds) e → IsRunFault t o e
+pub number_run : (t : Texts) (o : Options) (d : Netlist) (g : GridShape) (fixed begun : List (Option Site)) (e : RunFault) → HasPins t o d g fixed begun → IsOptionFault t o (length d.kinds) e → IsRunFault t o e
 number_run t o d g fixed begun (run_fault.Arch e) p h = absurd h
 number_run t o d g fixed begun (run_fault.Net e) p h = absurd h
 number_run t o d g fixed begun (run_fault.Pads e) p h = absurd h
@@ -131,7 +131,7 @@ number_run t o d g fixed begun run_fault.WorkersOutOfRange p h = (d, g, fixed, b
 number_run t o d g fixed begun run_fault.Report p h = absurd h
 number_run t o d g fixed begun run_fault.NoMemory p h = absurd h
 
-pub number_text : (t : Texts) (o : Options) (blocks : ℕ) (e : RunFault) → IsNumberFault t o blocks e → IsTextFault e
+pub number_text : (t : Texts) (o : Options) (blocks : ℕ) (e : RunFault) → IsOptionFault t o blocks e → IsTextFault e
 number_text t o blocks (run_fault.Arch e) h = tt
 number_text t o blocks (run_fault.Net e) h = tt
 number_text t o blocks (run_fault.Pads e) h = tt

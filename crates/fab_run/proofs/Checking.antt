@@ -19,7 +19,7 @@ use Rattle.fab_file.specs.PlaceFaults.{FaultIs, first_fault}
 use Rattle.fab_run.specs.declared.fault.RunFault.{RunFault}
 use Rattle.fab_run.specs.declared.fault.RunFault.TheVariants as run_fault
 use Rattle.fab_run.specs.RunFaults.{of_arch, of_net, of_place}
-use Rattle.fab_run.specs.Check.{MeanDesign, FitsOn, AreChecked, FaultOf, IsDesignFault, IsTextFault, failed_with}
+use Rattle.fab_run.specs.Check.{MeanDesign, FitsOn, AreChecked, FaultOf, IsDesignFault, IsTextFault, report_failed_with}
 use Rattle.fab_net.specs.Netlist.{Netlist, is_logic, logic_count, pad_count}
 
 -- the fault of a reader is not that of a writer
@@ -49,7 +49,7 @@ net_text net_fault.NoMemory = tt
 pub never_report : (e : RunFault) → IsTextFault e → e ≡ run_fault.Report → ⊥
 never_report e h k = rw k at h
 
-pub failed_never : (e : RunFault) (n : ℕ) → IsTextFault e → failed_with e n ≡ n
+pub failed_never : (e : RunFault) (n : ℕ) → IsTextFault e → report_failed_with e n ≡ n
 failed_never (run_fault.Arch e) n h = refl
 failed_never (run_fault.Net e) n h = refl
 failed_never (run_fault.Place e) n h = refl

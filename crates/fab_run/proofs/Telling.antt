@@ -2,7 +2,7 @@
 use Rattle.std.proofs.Common.{◌≡◌, ◌≢◌, ℕ, zero, suc, ◌+◌, ◌-◌, ◌*◌, ◌/◌, ◌%◌, ◌<◌, ◌≤◌, ◌==◌, Bool, true, false, cond, eqb, List, [], ◌∷◌, ◌++◌, length, take, Option, Some, None, is_some, refl, sym, ap, subst, ◌∙◌, arith, inl, inr}
 use Rattle.std.specs.Io.KnownBytes.{Appends}
 use Rattle.std.proofs.lemmas.Bool.{eq-eqb, ne_eqb, cases_eq, false≢true}
-use Rattle.std.proofs.lemmas.List.{append-nil, append_assoc}
+use Rattle.std.proofs.lemmas.List.{append-nil, append_assoc, length-append}
 use Rattle.std.proofs.lemmas.Nat.{mod-mul-add}
 use Rattle.std.proofs.Math.Nat.{mod-add-div}
 use Rattle.fab_sched.specs.Annealing.{Plan, IsCooling, cooled, factor_by, hot, next_heat}
@@ -145,3 +145,10 @@ same_run moves a b s = (λ i. run (s.design i) (s.grid i) (s.fixed i) (moves (s.
 
 pub same_twice : {W : Type 0} (a b c : AnnealOf W) → IsSameRun a b → IsSameRun b c → IsSameRun a c
 same_twice a b c p q = record { design = q.design ∙ p.design; grid = q.grid ∙ p.grid; fixed = q.fixed ∙ p.fixed; plan = q.plan ∙ p.plan; words = q.words ∙ p.words }
+
+-- where not all of a line went out, neither did all of the lines
+pub short_within : (r : Run) (x y : Standing) (n m k : ℕ) (line : List ℕ) → y ≡ from r x n → line ≡ stage_lines r y m → k < length line → length (stage_lines r x n) + k < length (stage_lines r x (n + m))
+short_within r x y n m k line stands is less =
+    let long : length line ≡ length (stage_lines r (from r x n) m) = ap length is ∙ ap (λ s. length (stage_lines r s m)) stands in
+    let all : length (stage_lines r x (n + m)) ≡ length (stage_lines r x n) + length (stage_lines r (from r x n) m) = ap length (lines_add r x n m) ∙ length-append (stage_lines r x n) (stage_lines r (from r x n) m) in
+    omega (arith, less, long, all)

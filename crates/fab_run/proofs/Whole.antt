@@ -1,8 +1,10 @@
 -- The report of a whole run, and its beginnings.
-use Rattle.std.proofs.Common.{◌≡◌, ℕ, zero, suc, ◌+◌, ◌-◌, List, [], ◌∷◌, ◌++◌, length, take, cond, Option, None, is_some, refl, sym, ap, subst, ◌∙◌, arith}
+use Rattle.std.proofs.Common.{◌≡◌, ℕ, zero, suc, ◌+◌, ◌-◌, ◌<◌, List, [], ◌∷◌, ◌++◌, length, take, cond, Option, None, is_some, refl, sym, ap, subst, ◌∙◌, arith}
 use Rattle.std.specs.Io.KnownBytes.{Appends}
-use Rattle.std.specs.Prelude.{Result, Ok, Err, IfOk, OnOk, OnErr}
+use Rattle.std.specs.Prelude.{Result, Ok, Err, IfOk, IfErr, OnOk, OnErr}
 use Rattle.fab_site.specs.Placement.{IsLegal}
+use Rattle.std.proofs.lemmas.List.{length-append}
+use Rattle.fab_file.specs.Written.{IsCut}
 use Rattle.fab_cost.specs.Cost.{cost_of}
 use Rattle.fab_move.specs.Stream.{stream_moves}
 use Rattle.fab_commit.specs.Serial.{Run, Standing, accepted_among, from}
@@ -11,14 +13,16 @@ use Rattle.fab_run.specs.Piece.{IsOver, cost_at, end_line, head_text, last_line,
 use Rattle.fab_run.specs.Setting.{Setting}
 use Rattle.fab_run.specs.Placed.{IsBegun, IsToldRun, report_by, run_by, start_by}
 use Rattle.fab_run.specs.declared.fault.RunFault.{RunFault}
+use Rattle.fab_run.specs.declared.fault.RunFault.TheVariants.{Report}
 use Rattle.fab_run.specs.declared.inputs.Outcome.{Outcome}
 use Rattle.fab_run.proofs.Telling.{appends_none, appends_two, same_run, take_more}
 
-begins_head : (xs ys : List ℕ) (k : ℕ) → (j : ℕ) × (take k xs ≡ take j (xs ++ ys))
-begins_head [] ys zero = (0, refl)
-begins_head [] ys (suc k) = (0, refl)
-begins_head (x ∷ xs) ys zero = (0, refl)
-begins_head (x ∷ xs) ys (suc k) = (let r = begins_head xs ys k in (suc r.0, ap (λ l. x ∷ l) r.1))
+-- a beginning of a text is one of the text and what follows it; where it is not all of the one, it is not all of both
+begins_head : (xs ys : List ℕ) (k : ℕ) → (j : ℕ) × (take k xs ≡ take j (xs ++ ys)) × (k < length xs → j < length (xs ++ ys))
+begins_head [] ys zero = (0, refl, λ h. absurd (omega (arith, h)))
+begins_head [] ys (suc k) = (0, refl, λ h. absurd (omega (arith, h)))
+begins_head (x ∷ xs) ys zero = (0, refl, λ h. omega arith)
+begins_head (x ∷ xs) ys (suc k) = (let r = begins_head xs ys k in let more = r.2 in (suc r.0, ap (λ l. x ∷ l) r.1, λ h. (let less = more (omega (arith, h)) in omega (arith, less))))
 
 end_over : (r : Run) (y : Standing) → y.heat ≡ None → end_line r y ≡ last_line r y
 end_over r y e = ap (λ h. cond (is_some h) [] (last_line r y)) e
@@ -27,25 +31,44 @@ end_over r y e = ap (λ h. cond (is_some h) [] (last_line r y)) e
 unfoldable pub head_by : Setting → ℕ → List ℕ
 head_by s seed = head_text s.design s.grid (cost_at (run_by s seed) (start_by s seed))
 
--- what went out is a beginning of the report
+-- what went out is a beginning of the report, and not all of it where the last piece of it that went out was not whole
 abbrev pub IsCutReport : Setting → ℕ → Option (List ℕ) → Option (List ℕ) → Type 0
 IsCutReport s seed old new = (n : ℕ) × IsBegun old new (report_by s seed n)
+
+abbrev pub IsShortReport : Setting → ℕ → Option (List ℕ) → Option (List ℕ) → Type 0
+IsShortReport s seed old new = (n : ℕ) × IsCut (report_by s seed n) old new
+
+-- so many moves told, and so much of their report, which is not all of it under this premise
+abbrev IsTold : Type 0 → Setting → ℕ → Option (List ℕ) → Option (List ℕ) → Type 0
+IsTold P s seed old new = (n : ℕ) × (j : ℕ) × Appends old new (take j (report_by s seed n)) × (P → j < length (report_by s seed n))
+
+begun_of : (P : Type 0) (s : Setting) (seed : ℕ) (old new : Option (List ℕ)) → IsTold P s seed old new → IsCutReport s seed old new
+begun_of P s seed old new t = (t.0, (t.1, t.2))
+
+short_of : (P : Type 0) (s : Setting) (seed : ℕ) (old new : Option (List ℕ)) → IsTold P s seed old new → P → IsShortReport s seed old new
+short_of P s seed old new t p = (t.0, (t.1, t.3 p, t.2))
 
 pub cut_none : (s : Setting) (seed : ℕ) (old new : Option (List ℕ)) → new ≡ old → IsCutReport s seed old new
 unfolding report_by
 cut_none s seed old new e = (0, (0, subst (λ l. Appends old l []) (sym e) (appends_none old)))
 
-pub cut_head : (s : Setting) (seed : ℕ) (old new : Option (List ℕ)) → IsBegun old new (head_by s seed) → IsCutReport s seed old new
+head_at : (s : Setting) (seed : ℕ) (old new : Option (List ℕ)) (k : ℕ) → Appends old new (take k (head_by s seed)) → IsTold (k < length (head_by s seed)) s seed old new
 unfolding head_by report_by
-cut_head s seed old new b =
+head_at s seed old new k b =
     let r = run_by s seed in
     let x = start_by s seed in
-    let k = begins_head (head_by s seed) (stage_lines r x 0 ++ end_line r x) b.0 in
-    (0, (k.0, subst (λ l. Appends old new l) k.1 b.1))
+    let j = begins_head (head_by s seed) (stage_lines r x 0 ++ end_line r x) k in
+    (0, j.0, subst (λ l. Appends old new l) j.1 b, j.2)
 
-pub cut_stages : (s : Setting) (seed : ℕ) (old mid new : Option (List ℕ)) (n k : ℕ) → Appends old mid (head_by s seed) → Appends mid new (take k (stage_lines (run_by s seed) (start_by s seed) n)) → IsCutReport s seed old new
+pub cut_head : (s : Setting) (seed : ℕ) (old new : Option (List ℕ)) → IsBegun old new (head_by s seed) → IsCutReport s seed old new
+cut_head s seed old new b = begun_of (b.0 < length (head_by s seed)) s seed old new (head_at s seed old new b.0 b.1)
+
+pub short_head : (s : Setting) (seed : ℕ) (old new : Option (List ℕ)) → IsCut (head_by s seed) old new → IsShortReport s seed old new
+short_head s seed old new b = short_of (b.0 < length (head_by s seed)) s seed old new (head_at s seed old new b.0 b.2) b.1
+
+stages_at : (s : Setting) (seed : ℕ) (old mid new : Option (List ℕ)) (n k : ℕ) → Appends old mid (head_by s seed) → Appends mid new (take k (stage_lines (run_by s seed) (start_by s seed) n)) → IsTold (k < length (stage_lines (run_by s seed) (start_by s seed) n)) s seed old new
 unfolding head_by report_by
-cut_stages s seed old mid new n k told cut =
+stages_at s seed old mid new n k told cut =
     let r = run_by s seed in
     let x = start_by s seed in
     let head = head_by s seed in
@@ -53,25 +76,45 @@ cut_stages s seed old mid new n k told cut =
     let end = end_line r (from r x n) in
     let a = begins_head lines end k in
     let all : head ++ take k lines ≡ take (length head + a.0) (head ++ (lines ++ end)) = ap (λ l. head ++ l) a.1 ∙ sym (take_more head (lines ++ end) a.0) in
-    (n, (length head + a.0, subst (λ l. Appends old new l) all (appends_two old mid new head (take k lines) told cut)))
+    let long = length-append head (lines ++ end) in
+    let more = a.2 in
+    (n, length head + a.0, subst (λ l. Appends old new l) all (appends_two old mid new head (take k lines) told cut), λ h. (let less = more h in omega (arith, less, long)))
 
-pub cut_last : (s : Setting) (seed : ℕ) (old mid more new : Option (List ℕ)) (n : ℕ) → Appends old mid (head_by s seed) → Appends mid more (stage_lines (run_by s seed) (start_by s seed) n)
-    → IsOver (run_by s seed) (start_by s seed) n → IsBegun more new (last_line (run_by s seed) (from (run_by s seed) (start_by s seed) n)) → IsCutReport s seed old new
+pub cut_stages : (s : Setting) (seed : ℕ) (old mid new : Option (List ℕ)) (n k : ℕ) → Appends old mid (head_by s seed) → Appends mid new (take k (stage_lines (run_by s seed) (start_by s seed) n)) → IsCutReport s seed old new
+cut_stages s seed old mid new n k told cut = begun_of (k < length (stage_lines (run_by s seed) (start_by s seed) n)) s seed old new (stages_at s seed old mid new n k told cut)
+
+pub short_stages : (s : Setting) (seed : ℕ) (old mid new : Option (List ℕ)) (n : ℕ) → Appends old mid (head_by s seed) → IsCut (stage_lines (run_by s seed) (start_by s seed) n) mid new → IsShortReport s seed old new
+short_stages s seed old mid new n told b = short_of (b.0 < length (stage_lines (run_by s seed) (start_by s seed) n)) s seed old new (stages_at s seed old mid new n b.0 told b.2) b.1
+
+last_at : (s : Setting) (seed : ℕ) (old mid more new : Option (List ℕ)) (n k : ℕ) → Appends old mid (head_by s seed) → Appends mid more (stage_lines (run_by s seed) (start_by s seed) n)
+    → IsOver (run_by s seed) (start_by s seed) n → Appends more new (take k (last_line (run_by s seed) (from (run_by s seed) (start_by s seed) n)))
+    → IsTold (k < length (last_line (run_by s seed) (from (run_by s seed) (start_by s seed) n))) s seed old new
 unfolding head_by report_by
-cut_last s seed old mid more new n told lined over b =
+last_at s seed old mid more new n k told lined over b =
     let r = run_by s seed in
     let x = start_by s seed in
     let head = head_by s seed in
     let lines = stage_lines r x n in
     let y = from r x n in
     let end = end_line r y in
-    let k = b.0 in
-    let last : take k (last_line r y) ≡ take k end = ap (take k) (sym (end_over r y over)) in
-    let two = appends_two mid more new lines (take k (last_line r y)) lined b.1 in
+    let same = end_over r y over in
+    let last : take k (last_line r y) ≡ take k end = ap (take k) (sym same) in
+    let two = appends_two mid more new lines (take k (last_line r y)) lined b in
     let three = appends_two old mid new head (lines ++ take k (last_line r y)) told two in
     let all : head ++ (lines ++ take k (last_line r y)) ≡ take (length head + (length lines + k)) (head ++ (lines ++ end)) =
     ap (λ l. head ++ (lines ++ l)) last ∙ ap (λ l. head ++ l) (sym (take_more lines end k)) ∙ sym (take_more head (lines ++ end) (length lines + k)) in
-    (n, (length head + (length lines + k), subst (λ l. Appends old new l) all three))
+    let long = length-append head (lines ++ end) in
+    let long2 = length-append lines end in
+    let ends : length end ≡ length (last_line r y) = ap length same in
+    (n, length head + (length lines + k), subst (λ l. Appends old new l) all three, λ h. omega (arith, h, long, long2, ends))
+
+pub cut_last : (s : Setting) (seed : ℕ) (old mid more new : Option (List ℕ)) (n : ℕ) → Appends old mid (head_by s seed) → Appends mid more (stage_lines (run_by s seed) (start_by s seed) n)
+    → IsOver (run_by s seed) (start_by s seed) n → IsBegun more new (last_line (run_by s seed) (from (run_by s seed) (start_by s seed) n)) → IsCutReport s seed old new
+cut_last s seed old mid more new n told lined over b = begun_of (b.0 < length (last_line (run_by s seed) (from (run_by s seed) (start_by s seed) n))) s seed old new (last_at s seed old mid more new n b.0 told lined over b.1)
+
+pub short_last : (s : Setting) (seed : ℕ) (old mid more new : Option (List ℕ)) (n : ℕ) → Appends old mid (head_by s seed) → Appends mid more (stage_lines (run_by s seed) (start_by s seed) n)
+    → IsOver (run_by s seed) (start_by s seed) n → IsCut (last_line (run_by s seed) (from (run_by s seed) (start_by s seed) n)) more new → IsShortReport s seed old new
+short_last s seed old mid more new n told lined over b = short_of (b.0 < length (last_line (run_by s seed) (from (run_by s seed) (start_by s seed) n))) s seed old new (last_at s seed old mid more new n b.0 told lined over b.2) b.1
 
 pub told_whole : (s : Setting) (seed : ℕ) (old mid more new : Option (List ℕ)) (n : ℕ) → Appends old mid (head_by s seed) → Appends mid more (stage_lines (run_by s seed) (start_by s seed) n)
     → IsOver (run_by s seed) (start_by s seed) n → Appends more new (last_line (run_by s seed) (from (run_by s seed) (start_by s seed) n)) → Appends old new (report_by s seed n)
@@ -137,11 +180,11 @@ run_is : (s : Setting) (seed : ℕ) (a b : AnnealOf ℕ) → IsFresh s seed a �
 run_is s seed a b e same = same_run stream_moves a b same ∙ ap (run_of stream_moves) e
 
 pub told_run : (s : Setting) (seed : ℕ) (old mid more new : Option (List ℕ)) (a b : AnnealOf ℕ) (costs : List ℕ) → IsFresh s seed a → IsSameRun a b → Appends old mid (head_by s seed) → IsLined s seed b.standing b.accepted costs mid more
-    → (r : Result Outcome RunFault) → IfOk r (λ out. out.placement.sites ≡ b.standing.sites) → IfOk r (λ out. IsLegal b.design b.grid b.fixed out.placement.sites) → IfOk r (λ out. out.accepted.items ≡ b.accepted)
+    → (r : Result Outcome RunFault) → IfOk r (λ out. out.placement.grid ≡ b.grid) → IfOk r (λ out. out.placement.sites ≡ b.standing.sites) → IfOk r (λ out. IsLegal b.design b.grid b.fixed out.placement.sites) → IfOk r (λ out. out.accepted.items ≡ b.accepted)
     → IfOk r (λ out. out.costs.items ≡ costs) → OnOk r (Appends more new (last_line (run_of stream_moves b) b.standing))
-    → IfOk r (λ out. IsToldRun s seed out.placement.sites out.accepted.items out.costs.items old new)
-told_run s seed old mid more new a b costs e same told lined (Err f) sites legal accepted values last = tt
-told_run s seed old mid more new a b costs e same told lined (Ok out) sites legal accepted values last =
+    → IfOk r (λ out. IsToldRun s seed out.placement out.accepted.items out.costs.items old new)
+told_run s seed old mid more new a b costs e same told lined (Err f) array sites legal accepted values last = tt
+told_run s seed old mid more new a b costs e same told lined (Ok out) array sites legal accepted values last =
     let r = run_is s seed a b e same in
     let over = over_there s seed b.standing lined.stands lined.over in
     let here = subst (λ l. Appends more new l) (λ i. last_line (r i) (lined.stands i)) last in
@@ -149,6 +192,7 @@ told_run s seed old mid more new a b costs e same told lined (Ok out) sites lega
       moves = b.standing.done;
       annealed = record {
         over = over;
+        array = array ∙ ap (λ (q : Run). q.problem.grid) r;
         stands = sites ∙ ap (λ y. y.sites) lined.stands;
         legal = subst (λ (q : Run). IsLegal q.problem.design q.problem.grid q.problem.fixed out.placement.sites) r legal;
         numbers = accepted ∙ lined.numbers;
@@ -165,3 +209,12 @@ cut_run s seed old mid more new a b costs e same told lined (Err f) cut =
     let over = over_there s seed b.standing lined.stands lined.over in
     let here = subst (λ l. IsBegun more new l) (λ i. last_line (r i) (lined.stands i)) cut in
     cut_last s seed old mid more new b.standing.done told lined.lined over here
+
+pub short_run : (s : Setting) (seed : ℕ) (old mid more new : Option (List ℕ)) (a b : AnnealOf ℕ) (costs : List ℕ) → IsFresh s seed a → IsSameRun a b → Appends old mid (head_by s seed) → IsLined s seed b.standing b.accepted costs mid more
+    → (r : Result Outcome RunFault) → IfErr r (λ e. e ≡ Report → IsCut (last_line (run_of stream_moves b) b.standing) more new) → IfErr r (λ e. e ≡ Report → IsShortReport s seed old new)
+short_run s seed old mid more new a b costs e same told lined (Ok out) cut = tt
+short_run s seed old mid more new a b costs e same told lined (Err f) cut = λ q.
+    (let r = run_is s seed a b e same in
+    let over = over_there s seed b.standing lined.stands lined.over in
+    let here = subst (λ l. IsCut l more new) (λ i. last_line (r i) (lined.stands i)) (cut q) in
+    short_last s seed old mid more new b.standing.done told lined.lined over here)

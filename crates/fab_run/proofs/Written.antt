@@ -1,7 +1,7 @@
 -- A place text that was not written whole: its writer failed, or memory ran out.
 use Rattle.std.proofs.Common.{◌≡◌, ℕ, ◌⊎◌, true, false, List, Option, length, refl, sym, ap, subst, ◌∙◌, inl, inr}
 use Rattle.std.specs.Io.KnownBytes.{Appends}
-use Rattle.fab_arch.specs.declared.array.Site.{Site}
+use Rattle.fab_site.specs.Placement.{PlacementOf}
 use Rattle.fab_file.specs.declared.fault.PlaceFault.{PlaceFault}
 use Rattle.fab_file.specs.declared.fault.PlaceFault.TheVariants as place_fault
 use Rattle.fab_file.specs.Written.{IsWriteFault}
@@ -39,7 +39,7 @@ pub write_not_memory : (e : PlaceFault) → e ≡ place_fault.NoMemory → e ≡
 write_not_memory e q w = (let k : place_fault.NoMemory ≡ place_fault.Write = sym q ∙ w in absurd cc)
 
 -- a whole report is a beginning of itself
-pub begun_whole : (t : Texts) (o : Options) (s : Setting) (sites : List Site) (accepted costs : List ℕ) (old new : Option (List ℕ)) → IsSetting t o s → IsToldRun s o.seed sites accepted costs old new → IsReportBegun t o old new
-begun_whole t o s sites accepted costs old new given told =
+pub begun_whole : (t : Texts) (o : Options) (s : Setting) (placement : PlacementOf) (accepted costs : List ℕ) (old new : Option (List ℕ)) → IsSetting t o s → IsToldRun s o.seed placement accepted costs old new → IsReportBegun t o old new
+begun_whole t o s placement accepted costs old new given told =
     let text = report_by s o.seed told.moves in
     (s, given, told.moves, (length text, subst (λ l. Appends old new l) (sym (take_whole text)) told.report))

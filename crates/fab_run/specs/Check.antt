@@ -99,6 +99,6 @@ IsTextFault Report = ⊥
 IsTextFault e = Unit {0}
 
 -- how often a report's writer has failed, where a check or a run ended with a fault: once more only where the fault says so
-abbrev pub failed_with : RunFault → ℕ → ℕ
-failed_with Report n = grown n
-failed_with e n = n
+abbrev pub report_failed_with : RunFault → ℕ → ℕ
+report_failed_with Report n = grown n
+report_failed_with e n = n

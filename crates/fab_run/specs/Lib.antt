@@ -7,3 +7,4 @@ pub mod RunChecks
 pub mod RunReport
 pub mod Piece
 pub mod Placed
+pub mod PieceExamples

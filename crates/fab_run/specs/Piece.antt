@@ -22,6 +22,7 @@ abbrev pub stage_lines : Run → Standing → ℕ → List ℕ
 stage_lines r x zero = []
 stage_lines r x (suc n) = line_here r x ++ stage_lines r (step r x) n
 
+-- the cost after the next move, where that is the last one of its stage
 abbrev pub cost_here : Run → Standing → List ℕ
 cost_here r x = if moves_left r x == 1 then cost_at r (step r x) ∷ [] else []
 
@@ -42,7 +43,7 @@ head_text d g cost = blocks_line d g ++ start_line cost
 abbrev pub last_line : Run → Standing → List ℕ
 last_line r y = final_line (cost_at r y) y.total y.done
 
--- it stands there where no move is left
+-- the last line where no move is left, and nothing before
 abbrev pub end_line : Run → Standing → List ℕ
 end_line r y = if is_some y.heat then [] else last_line r y
 

@@ -5,7 +5,7 @@ use Rattle.std.specs.Io.KnownBytes.{Appends}
 use Rattle.fab_text.specs.Lines.{lines}
 use Rattle.fab_text.specs.Failures.{grown}
 use Rattle.fab_arch.specs.declared.array.Site.{Site}
-use Rattle.fab_site.specs.Placement.{IsLegal}
+use Rattle.fab_site.specs.Placement.{IsLegal, PlacementOf}
 use Rattle.fab_site.specs.Start.{start_sites}
 use Rattle.fab_file.specs.Place.{StandsFor}
 use Rattle.fab_file.specs.Written.{IsCut, place_text}
@@ -34,28 +34,30 @@ report_by s seed n = run_report (run_by s seed) (start_by s seed) n
 abbrev pub text_by : Texts → Setting → List Site → List ℕ
 text_by t s sites = place_text t.net_label t.arch_label s.design s.grid sites
 
--- the annealing is over after so many moves, and ends with these sites, these accepted moves and these costs
-pub record IsAnnealed (s : Setting) (seed moves : ℕ) (sites : List Site) (accepted costs : List ℕ) : Type 0 where
+-- the annealing is over after so many moves, and ends with this placement, these accepted moves and these costs; for
+-- whatever number of moves it is over, what it ends with is the same
+pub record IsAnnealed (s : Setting) (seed moves : ℕ) (placement : PlacementOf) (accepted costs : List ℕ) : Type 0 where
   pub over : IsOver (run_by s seed) (start_by s seed) moves
-  pub stands : sites ≡ (from (run_by s seed) (start_by s seed) moves).sites
-  pub legal : IsLegal s.design s.grid s.fixed sites
+  pub array : placement.grid ≡ s.grid
+  pub stands : placement.sites ≡ (from (run_by s seed) (start_by s seed) moves).sites
+  pub legal : IsLegal s.design s.grid s.fixed placement.sites
   pub numbers : accepted ≡ accepted_among (run_by s seed) (start_by s seed) moves
   pub values : costs ≡ run_costs (run_by s seed) (start_by s seed) moves
 
 -- the annealing ends so, and what went out is its report
-pub record IsToldRun (s : Setting) (seed : ℕ) (sites : List Site) (accepted costs : List ℕ) (old new : Option (List ℕ)) : Type 0 where
+pub record IsToldRun (s : Setting) (seed : ℕ) (placement : PlacementOf) (accepted costs : List ℕ) (old new : Option (List ℕ)) : Type 0 where
   pub moves : ℕ
-  pub annealed : IsAnnealed s seed moves sites accepted costs
+  pub annealed : IsAnnealed s seed moves placement accepted costs
   pub report : Appends old new (report_by s seed moves)
 
 -- the texts and numbers mean a setting, its annealing ends so, and what went to the report and to the place text is the
 -- report of it and the text of its placement, which reads back
-pub record IsPlaced (t : Texts) (o : Options) (sites : List Site) (accepted costs : List ℕ) (report_old report_new place_old place_new : Option (List ℕ)) : Type 0 where
+pub record IsPlaced (t : Texts) (o : Options) (placement : PlacementOf) (accepted costs : List ℕ) (report_old report_new place_old place_new : Option (List ℕ)) : Type 0 where
   pub setting : Setting
   pub given : IsSetting t o setting
-  pub told : IsToldRun setting o.seed sites accepted costs report_old report_new
-  pub place : Appends place_old place_new (text_by t setting sites)
-  pub back : StandsFor setting.design setting.grid (lines (text_by t setting sites)) sites
+  pub told : IsToldRun setting o.seed placement accepted costs report_old report_new
+  pub place : Appends place_old place_new (text_by t setting placement.sites)
+  pub back : StandsFor setting.design setting.grid (lines (text_by t setting placement.sites)) placement.sites
 
 -- what went out is a beginning of a text
 abbrev pub IsBegun : Option (List ℕ) → Option (List ℕ) → List ℕ → Type 0
@@ -69,12 +71,16 @@ IsReportFault old new e = ((e ≡ NoMemory) × (new ≡ old)) ⊎ ((e ≡ Report
 abbrev pub IsReportBegun : Texts → Options → Option (List ℕ) → Option (List ℕ) → Type 0
 IsReportBegun t o old new = (s : Setting) × IsSetting t o s × (n : ℕ) × IsBegun old new (report_by s o.seed n)
 
+-- what went out is a beginning of it, and not all
+abbrev pub IsReportCut : Texts → Options → Option (List ℕ) → Option (List ℕ) → Type 0
+IsReportCut t o old new = (s : Setting) × IsSetting t o s × (n : ℕ) × IsCut (report_by s o.seed n) old new
+
 -- what went out is the whole report, and a beginning of the place text, but not all of it
 pub record IsPlaceCut (t : Texts) (o : Options) (report_old report_new place_old place_new : Option (List ℕ)) : Type 0 where
   pub setting : Setting
-  pub sites : List Site
+  pub placement : PlacementOf
   pub accepted : List ℕ
   pub costs : List ℕ
   pub given : IsSetting t o setting
-  pub told : IsToldRun setting o.seed sites accepted costs report_old report_new
-  pub place : IsCut (text_by t setting sites) place_old place_new
+  pub told : IsToldRun setting o.seed placement accepted costs report_old report_new
+  pub place : IsCut (text_by t setting placement.sites) place_old place_new

@@ -47,18 +47,18 @@ IsThreadFault o BatchOutOfRange = ¬ Within 4096 o.batch
 IsThreadFault o WorkersOutOfRange = Within 4096 o.batch × (¬ Within 64 o.workers)
 IsThreadFault o e = ⊥
 
--- the first that is wrong with labels, schedule, batch and workers, for a design with so many blocks
-abbrev pub IsNumberFault : Texts → Options → ℕ → RunFault → Type 0
-IsNumberFault t o blocks (Place BadLabel) = are_labels t.net_label t.arch_label ≡ false
-IsNumberFault t o blocks (Schedule e) = (are_labels t.net_label t.arch_label ≡ true) × ((p : Plan) × IsAskedPlan o blocks p × (fault_of p ≡ Some e))
-IsNumberFault t o blocks BatchOutOfRange = (are_labels t.net_label t.arch_label ≡ true) × HasLawfulPlan o blocks × IsThreadFault o BatchOutOfRange
-IsNumberFault t o blocks WorkersOutOfRange = (are_labels t.net_label t.arch_label ≡ true) × HasLawfulPlan o blocks × IsThreadFault o WorkersOutOfRange
-IsNumberFault t o blocks e = ⊥
+-- the first that is wrong behind the texts, with labels, schedule, batch and workers, for a design with so many blocks
+abbrev pub IsOptionFault : Texts → Options → ℕ → RunFault → Type 0
+IsOptionFault t o blocks (Place BadLabel) = are_labels t.net_label t.arch_label ≡ false
+IsOptionFault t o blocks (Schedule e) = (are_labels t.net_label t.arch_label ≡ true) × ((p : Plan) × IsAskedPlan o blocks p × (fault_of p ≡ Some e))
+IsOptionFault t o blocks BatchOutOfRange = (are_labels t.net_label t.arch_label ≡ true) × HasLawfulPlan o blocks × IsThreadFault o BatchOutOfRange
+IsOptionFault t o blocks WorkersOutOfRange = (are_labels t.net_label t.arch_label ≡ true) × HasLawfulPlan o blocks × IsThreadFault o WorkersOutOfRange
+IsOptionFault t o blocks e = ⊥
 
 -- the texts are in order, and this is the first that is wrong behind them
 abbrev pub IsFaultBehind : Texts → Options → RunFault → Type 0
 IsFaultBehind t o e =
-    (d : Netlist) × (g : GridShape) × (fixed : List (Option Site)) × (begun : List (Option Site)) × HasPins t o d g fixed begun × IsNumberFault t o (length d.kinds) e
+    (d : Netlist) × (g : GridShape) × (fixed : List (Option Site)) × (begun : List (Option Site)) × HasPins t o d g fixed begun × IsOptionFault t o (length d.kinds) e
 
 -- the first check that fails; a report or a place text that cannot be written is told where none fails, and want of memory
 -- may come for any inputs
@@ -81,13 +81,6 @@ IsRefusal (Place Write) = ⊥
 IsRefusal Report = ⊥
 IsRefusal NoMemory = ⊥
 IsRefusal e = Unit {0}
-
--- memory or a writer failed
-abbrev pub IsNoRefusal : RunFault → Type 0
-IsNoRefusal (Place Write) = Unit {0}
-IsNoRefusal Report = Unit {0}
-IsNoRefusal NoMemory = Unit {0}
-IsNoRefusal e = ⊥
 
 -- how often the writer of the place text has failed, where a run ended with a fault
 abbrev pub place_failed_with : RunFault → ℕ → ℕ

@@ -55,7 +55,8 @@ pub record HasPins (t : Texts) (o : Options) (d : Netlist) (g : GridShape) (fixe
   pub array : HasArray t o d g
   pub pins : ArePinned t.pads d g fixed begun
 
--- so many moves are asked for in a stage, of a design with so many blocks; by a rule that gives no lawful number it is 0
+-- so many moves are asked for in a stage, of a design with so many blocks; where VPR's rule gives no lawful number, 0
+-- stands for it, which no schedule takes
 abbrev pub AreStageMoves : Moves → ℕ → ℕ → Type 0
 AreStageMoves (Given m) blocks n = n ≡ m
 AreStageMoves (Inner inner) blocks n = AreMoves inner blocks n ⊎ (((m : ℕ) → ¬ AreMoves inner blocks m) × (n ≡ 0))

@@ -8,7 +8,7 @@ ghost use Rattle.fab_net.specs.Netlist.{Netlist};
 ghost use Rattle.fab_file.specs.Place.{place_size_of};
 ghost use Rattle.fab_cost.specs.Cost.{cost_of};
 ghost use Rattle.fab_run.specs.CheckReport.{check_report};
-ghost use Rattle.fab_run.specs.Check.{MeanDesign, FitsOn, AreChecked, FaultOf, IsReport, IsReported, IsCut, IsTextFault, failed_with};
+ghost use Rattle.fab_run.specs.Check.{MeanDesign, FitsOn, AreChecked, FaultOf, IsReport, IsReported, IsCut, IsTextFault, report_failed_with};
 ghost use Rattle.fab_run.specs.declared.fault.RunFault.TheVariants.{Report, NoMemory};
 
 use crate::designs::read_design;
@@ -128,7 +128,7 @@ pub fn check_run<W: Sink>(
     ensures cut { IfErr result (λ e. e ≡ Report → IsCut arch.now net.now place.now (W.contents report.old) (W.contents report.new)) }
     // The writer failed only where the answer says so.
     ensures sound { OnOk result (W.failed report.new ≡ W.failed report.old) }
-    ensures failed { IfErr result (λ e. W.failed report.new ≡ failed_with e (W.failed report.old)) }
+    ensures failed { IfErr result (λ e. W.failed report.new ≡ report_failed_with e (W.failed report.old)) }
 {
     let (cost, lines) = checked_report(alloc, arch, net, place)?;
     write_whole(report, &lines)?;

@@ -21,7 +21,8 @@ pub struct Inputs<'a> {
 pub enum Moves {
     /// So many, 1 to 1,073,741,824.
     Given(u64),
-    /// By VPR's rule: so often the number of blocks to the power 4/3, where the factor is 1 to 10,000.
+    /// By VPR's rule: this factor, 1 to 10,000, times the number of all blocks to the power 4/3, rounded down, and at least 1.
+    /// What comes out has the limits of `Given`.
     Inner(u64),
 }
 
@@ -40,9 +41,9 @@ pub struct Options {
     pub cooling: Cooling,
     /// The moves of a stage.
     pub moves: Moves,
-    /// How many moves are judged ahead, 1 to 4,096. What is placed does not depend on it.
+    /// How many moves a turn may take, 1 to 4,096: checked, and not used yet. What is placed does not depend on it.
     pub batch: u64,
-    /// How many threads judge, 1 to 64. What is placed does not depend on it.
+    /// How many threads may judge, 1 to 64: checked, and not used yet. What is placed does not depend on it.
     pub workers: u64,
 }
 

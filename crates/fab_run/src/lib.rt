@@ -5,6 +5,8 @@ pub mod check;
 mod designs;
 pub mod fault;
 pub mod inputs;
+#[cfg(test)]
+mod narrow;
 pub mod placing;
 #[cfg(test)]
 mod placing_tests;

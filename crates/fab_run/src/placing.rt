@@ -9,12 +9,13 @@ ghost use Rattle.fab_site.specs.Placement.{IsLegal};
 ghost use Rattle.fab_move.specs.Stream.{stream_moves};
 ghost use Rattle.fab_commit.specs.Commits.{run_of};
 ghost use Rattle.fab_run.specs.Piece.{head_text, last_line};
-ghost use Rattle.fab_run.specs.Check.{failed_with};
+ghost use Rattle.fab_run.specs.Check.{report_failed_with};
 ghost use Rattle.fab_run.specs.Setting.{IsSetting, Setting, setting_of, texts_of};
-ghost use Rattle.fab_run.specs.RunChecks.{IsNoRefusal, IsRefusal, IsRunFault, place_failed_with};
-ghost use Rattle.fab_run.specs.Placed.{IsBegun, IsPlaceCut, IsPlaced, IsReportBegun, IsReportFault, IsToldRun, report_by, start_by};
-ghost use Rattle.fab_run.specs.declared.fault.RunFault.TheVariants.{Place};
+ghost use Rattle.fab_run.specs.RunChecks.{IsRefusal, IsRunFault, place_failed_with};
+ghost use Rattle.fab_run.specs.Placed.{IsBegun, IsPlaceCut, IsPlaced, IsReportBegun, IsReportCut, IsReportFault, IsToldRun, report_by, start_by};
+ghost use Rattle.fab_run.specs.declared.fault.RunFault.TheVariants.{Place, Report};
 ghost use Rattle.fab_file.specs.declared.fault.PlaceFault.TheVariants.{Write};
+ghost use Rattle.fab_file.specs.Written.{IsCut};
 
 use crate::fault::RunFault;
 use crate::inputs::{Ending, Inputs, Options, Outcome};
@@ -55,6 +56,7 @@ fn outcome(
     anneal: &Anneal<'_, StreamWords>,
     costs: Vec<u64>,
 ) -> Result<Outcome, AllocError>
+    ensures array { IfOk result (λ out. out.placement.grid ≡ anneal.now.grid) }
     ensures sites { IfOk result (λ out. out.placement.sites ≡ anneal.now.standing.sites) }
     ensures legal { IfOk result (λ out. IsLegal anneal.now.design anneal.now.grid anneal.now.fixed out.placement.sites) }
     ensures accepted { IfOk result (λ out. out.accepted.items ≡ anneal.now.accepted) }
@@ -81,6 +83,7 @@ fn tell_start<W: Sink>(
     ensures costs { IfOk result (λ v. v.items ≡ cost ∷ []) }
     ensures told { OnOk result (Appends (W.contents report.old) (W.contents report.new) (head_text design.now grid.now cost)) }
     ensures cut { OnErr result (IsBegun (W.contents report.old) (W.contents report.new) (head_text design.now grid.now cost)) }
+    ensures short { IfErr result (λ e. e ≡ Report → IsCut (head_text design.now grid.now cost) (W.contents report.old) (W.contents report.new)) }
     ensures sound { OnOk result (W.failed report.new ≡ W.failed report.old) }
     ensures fault { IfErr result (IsReportFault (W.failed report.old) (W.failed report.new)) }
 {
@@ -98,12 +101,14 @@ fn tell_end<W: Sink>(
     costs: Vec<u64>,
     report: &mut W,
 ) -> Result<Outcome, RunFault>
+    ensures array { IfOk result (λ out. out.placement.grid ≡ anneal.now.grid) }
     ensures sites { IfOk result (λ out. out.placement.sites ≡ anneal.now.standing.sites) }
     ensures legal { IfOk result (λ out. IsLegal anneal.now.design anneal.now.grid anneal.now.fixed out.placement.sites) }
     ensures accepted { IfOk result (λ out. out.accepted.items ≡ anneal.now.accepted) }
     ensures costs { IfOk result (λ out. out.costs.items ≡ costs.items) }
     ensures told { OnOk result (Appends (W.contents report.old) (W.contents report.new) (last_line (run_of stream_moves anneal.now) anneal.now.standing)) }
     ensures cut { OnErr result (IsBegun (W.contents report.old) (W.contents report.new) (last_line (run_of stream_moves anneal.now) anneal.now.standing)) }
+    ensures short { IfErr result (λ e. e ≡ Report → IsCut (last_line (run_of stream_moves anneal.now) anneal.now.standing) (W.contents report.old) (W.contents report.new)) }
     ensures sound { OnOk result (W.failed report.new ≡ W.failed report.old) }
     ensures fault { IfErr result (IsReportFault (W.failed report.old) (W.failed report.new)) }
 {
@@ -125,8 +130,9 @@ fn anneal_told<W: Sink>(
 ) -> Result<Outcome, RunFault>
     requires room { Holds grid.now (logic_count design.now) (pad_count design.now) }
     requires pins { ArePins design.now grid.now pins.fixed pins.begun }
-    ensures annealed { IfOk result (λ out. IsToldRun (setting_of design.now grid.now pins.fixed pins.begun schedule) seed out.placement.sites out.accepted.items out.costs.items (W.contents report.old) (W.contents report.new)) }
+    ensures annealed { IfOk result (λ out. IsToldRun (setting_of design.now grid.now pins.fixed pins.begun schedule) seed out.placement out.accepted.items out.costs.items (W.contents report.old) (W.contents report.new)) }
     ensures cut { OnErr result ((n : ℕ) × IsBegun (W.contents report.old) (W.contents report.new) (report_by (setting_of design.now grid.now pins.fixed pins.begun schedule) seed n)) }
+    ensures short { IfErr result (λ e. e ≡ Report → (n : ℕ) × IsCut (report_by (setting_of design.now grid.now pins.fixed pins.begun schedule) seed n) (W.contents report.old) (W.contents report.new)) }
     ensures sound { OnOk result (W.failed report.new ≡ W.failed report.old) }
     ensures fault { IfErr result (IsReportFault (W.failed report.old) (W.failed report.new)) }
 {
@@ -139,10 +145,11 @@ fn anneal_told<W: Sink>(
 
 /// Places the design of a run: anneals it one move after another from a start placement, by random words of the seed. The
 /// report's lines go out as their stages end, and the place text once the report is whole. What is answered and written does not
-/// depend on batch and workers.
+/// depend on batch and workers, where these are in their limits.
 ///
 /// An error is the first check that fails, in the order architecture, netlist, size (range, logic sites, pad sites), location
-/// text, labels, schedule, batch, workers: then nothing is written. Else it is want of memory, or the writer's that failed.
+/// text, labels, schedule, batch, workers: then nothing is written. Where none fails it is that of the writer that failed. Want of
+/// memory may come for any inputs.
 pub fn place_run<R: AllocGlobal, W: Sink, P: Sink>(
     rt: &R,
     inputs: &Inputs,
@@ -151,20 +158,21 @@ pub fn place_run<R: AllocGlobal, W: Sink, P: Sink>(
     place: &mut P,
 ) -> Result<Outcome, RunFault>
     // The headline: placement, accepted moves, costs, report and place text are those of annealing one move at a time.
-    ensures headline { IfOk result (λ out. IsPlaced (texts_of inputs.now) options.now out.placement.sites out.accepted.items out.costs.items (W.contents report.old) (W.contents report.new) (P.contents place.old) (P.contents place.new)) }
+    ensures headline { IfOk result (λ out. IsPlaced (texts_of inputs.now) options.now out.placement out.accepted.items out.costs.items (W.contents report.old) (W.contents report.new) (P.contents place.old) (P.contents place.new)) }
     // Where no check fails, it is answered, unless memory or a writer fails.
-    ensures only { (s : Setting) → IsSetting (texts_of inputs.now) options.now s → IfErr result IsNoRefusal }
+    ensures only { (s : Setting) → IsSetting (texts_of inputs.now) options.now s → IfErr result (λ e. ¬ IsRefusal e) }
     // An error is the first check that fails, or want of memory, or that of the writer that failed.
     ensures fault { IfErr result (IsRunFault (texts_of inputs.now) options.now) }
     // A run that is refused writes nothing; at any other fault a beginning of the report may have gone out.
     ensures silent { IfErr result (λ e. IsRefusal e → W.contents report.new ≡ W.contents report.old) }
     ensures cut { OnErr result ((W.contents report.new ≡ W.contents report.old) ⊎ IsReportBegun (texts_of inputs.now) options.now (W.contents report.old) (W.contents report.new)) }
+    ensures report_cut { IfErr result (λ e. e ≡ Report → IsReportCut (texts_of inputs.now) options.now (W.contents report.old) (W.contents report.new)) }
     // The place text goes out behind the whole report, and only its own writer can cut it off.
     ensures unplaced { IfErr result (λ e. e ≢ Place Write → P.contents place.new ≡ P.contents place.old) }
     ensures place_cut { IfErr result (λ e. e ≡ Place Write → IsPlaceCut (texts_of inputs.now) options.now (W.contents report.old) (W.contents report.new) (P.contents place.old) (P.contents place.new)) }
     // A writer failed only where the answer says so.
     ensures sound { OnOk result ((W.failed report.new ≡ W.failed report.old) × (P.failed place.new ≡ P.failed place.old)) }
-    ensures failed { IfErr result (λ e. (W.failed report.new ≡ failed_with e (W.failed report.old)) × (P.failed place.new ≡ place_failed_with e (P.failed place.old))) }
+    ensures failed { IfErr result (λ e. (W.failed report.new ≡ report_failed_with e (W.failed report.old)) × (P.failed place.new ≡ place_failed_with e (P.failed place.old))) }
 {
     let alloc = rt.alloc();
     let (design, grid, pins, schedule) = read_setting(alloc, inputs, options)?;

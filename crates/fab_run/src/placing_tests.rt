@@ -2,13 +2,12 @@
 // made by an independent placer.
 
 use crate::inputs::{Inputs, Moves, Options};
+use crate::narrow::Narrow;
 use crate::place_run;
 use fab_file::Labels;
 use fab_sched::Cooling;
 use fab_text::{Counted, push_number};
 use std::alloc::{AllocError, Global};
-use std::io;
-use std::io::Write;
 use std::test::*;
 
 const ARCH: &[u8] = b"io_rat 1\ninpin class: 0 left\noutpin class: 1 right\n";
@@ -58,29 +57,6 @@ const OPTIONS: Options = Options {
     batch: 64,
     workers: 4,
 };
-
-// Takes so many bytes, and then fails.
-#[derive(Drop)]
-struct Narrow {
-    taken: Vec<u8>,
-    room: usize,
-}
-
-impl Write for Narrow {
-    fn write(&mut self, bytes: &[u8]) -> io::Result<usize> {
-        if self.room == 0 {
-            return Err(io::Error::from(io::ErrorKind::StorageFull));
-        }
-        let taken = self.room.min(bytes.len());
-        self.taken.extend_from_slice(&bytes[..taken])?;
-        self.room -= taken;
-        Ok(taken)
-    }
-
-    fn flush(&mut self) -> io::Result<()> {
-        Ok(())
-    }
-}
 
 fn writer_with(alloc: Global, room: usize) -> Counted<Narrow> {
     Counted::new(Narrow {

@@ -9,7 +9,7 @@ ghost use Rattle.fab_file.specs.Written.{are_labels as labels_are};
 ghost use Rattle.fab_sched.specs.Annealing.{IsLawful, Plan, fault_of};
 ghost use Rattle.fab_run.specs.Check.{FitsOn, IsSizeFault, IsTextFault};
 ghost use Rattle.fab_run.specs.Setting.{ArePinned, AreStageMoves, HasPins, IsAskedPlan, IsSetting, IsSized, Setting, Within, setting_of, texts_of};
-ghost use Rattle.fab_run.specs.RunChecks.{IsArrayFault, IsLocationFault, IsNumberFault, IsRunFault, IsThreadFault};
+ghost use Rattle.fab_run.specs.RunChecks.{IsArrayFault, IsLocationFault, IsOptionFault, IsRunFault, IsThreadFault};
 ghost use Rattle.fab_run.specs.declared.fault.RunFault.TheVariants.{NoMemory};
 
 use crate::designs::read_design;
@@ -148,7 +148,7 @@ fn read_schedule(inputs: &Inputs, options: &Options, blocks: usize) -> Result<Sc
     ensures batch { OnOk result (Within 4096 options.now.batch) }
     ensures workers { OnOk result (Within 64 options.now.workers) }
     ensures only { (s : Setting) → IsSetting (texts_of inputs.now) options.now s → length s.design.kinds ≡ blocks → IfErr result (λ e. ⊥) }
-    ensures fault { IfErr result (IsNumberFault (texts_of inputs.now) options.now blocks) }
+    ensures fault { IfErr result (IsOptionFault (texts_of inputs.now) options.now blocks) }
 {
     if !are_labels(&inputs.labels) {
         return Err(RunFault::Place(PlaceFault::BadLabel));

@@ -3,6 +3,7 @@
 ghost use Rattle.std.specs.Prelude.{◌≡◌, ◌≢◌, ℕ, ◌+◌, ◌-◌, ◌⊎◌, ◌≤◌, ◌++◌, Some, OnOk, OnErr, IfOk, IfErr, None, take};
 ghost use Rattle.std.specs.Io.KnownBytes.{Appends};
 ghost use Rattle.fab_text.specs.Failures.{grown};
+ghost use Rattle.fab_file.specs.Written.{IsCut};
 ghost use Rattle.fab_sched.specs.Annealing.{IsCooling};
 ghost use Rattle.fab_commit.specs.Serial.{accepted_among, from, moves_left, stage_of};
 ghost use Rattle.fab_commit.specs.Commits.{IsSameRun, run_of};
@@ -72,6 +73,7 @@ pub(crate) fn anneal_all<V: Words + Drop, W: Sink>(
     ensures costs { OnOk result (costs.new.items ≡ costs.old.items ++ stage_costs (run_of V.moves anneal.old) anneal.old.standing (anneal.new.standing.done - anneal.old.standing.done)) }
     ensures told { OnOk result (Appends (W.contents report.old) (W.contents report.new) (stage_lines (run_of V.moves anneal.old) anneal.old.standing (anneal.new.standing.done - anneal.old.standing.done))) }
     ensures cut { OnErr result ((n : ℕ) × (k : ℕ) × Appends (W.contents report.old) (W.contents report.new) (take k (stage_lines (run_of V.moves anneal.old) anneal.old.standing n))) }
+    ensures short { IfErr result (λ e. e ≡ Report → (n : ℕ) × IsCut (stage_lines (run_of V.moves anneal.old) anneal.old.standing n) (W.contents report.old) (W.contents report.new)) }
     ensures sound { OnOk result (W.failed report.new ≡ W.failed report.old) }
     ensures fault { IfErr result (λ e. ((e ≡ NoMemory) × (W.failed report.new ≡ W.failed report.old)) ⊎ ((e ≡ Report) × (W.failed report.new ≡ grown (W.failed report.old)))) }
 {

@@ -1,11 +1,10 @@
+use crate::narrow::Narrow;
 use crate::{RunFault, check_run, fault_line};
 use fab_arch::{ArchFault, GridFault};
 use fab_file::PlaceFault;
 use fab_net::NetFault;
 use fab_text::{Counted, Span};
 use std::alloc::{AllocError, Global};
-use std::io;
-use std::io::Write;
 use std::process::Abort;
 use std::test::*;
 
@@ -194,29 +193,6 @@ const PAIR_NET: &[u8] =
 
 const PAIR_PLACE: &[u8] =
     b"Netlist file: t.net Architecture file: t.arch\nArray size: 1 x 1 logic blocks\na 0 1 0\nz 2 1 0\nb 1 1 0\n";
-
-// Takes so many bytes, and then fails.
-#[derive(Drop)]
-struct Narrow {
-    taken: Vec<u8>,
-    room: usize,
-}
-
-impl Write for Narrow {
-    fn write(&mut self, bytes: &[u8]) -> io::Result<usize> {
-        if self.room == 0 {
-            return Err(io::Error::from(io::ErrorKind::StorageFull));
-        }
-        let taken = self.room.min(bytes.len());
-        self.taken.extend_from_slice(&bytes[..taken])?;
-        self.room -= taken;
-        Ok(taken)
-    }
-
-    fn flush(&mut self) -> io::Result<()> {
-        Ok(())
-    }
-}
 
 // What a check answers, and what it wrote where its writer takes so many bytes.
 fn check(

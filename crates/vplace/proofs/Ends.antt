@@ -6,7 +6,7 @@ use Rattle.vplace.specs.declared.status.Status.{Status}
 use Rattle.vplace.specs.declared.status.Status.TheVariants as status
 use Rattle.vplace.specs.Status.{IsRefused, status_of}
 use Rattle.fab_file.specs.declared.fault.PlaceFault.TheVariants as place_fault
-use Rattle.fab_run.specs.RunChecks.{IsNoRefusal, IsRefusal}
+use Rattle.fab_run.specs.RunChecks.{IsRefusal}
 
 pub never_refused : (r : Status) (f : RunFault) → (f ≡ run_fault.NoMemory) ⊎ (f ≡ run_fault.Report) → (r ≡ status_of f) ⊎ (r ≡ status.NoMemory) → (r ≡ status.Done) ⊎ ((r ≡ status.NoMemory) ⊎ (r ≡ status.Device))
 never_refused r f (inl a) (inl b) = inr (inl (b ∙ ap status_of a))
@@ -51,30 +51,30 @@ pub refused_by : (r : Status) (e : RunFault) → (r ≡ status_of e) ⊎ (r ≡ 
 refused_by r e (inl q) h = (refused_is e (subst IsRefused q h), sym q)
 refused_by r e (inr q) h = absurd (memory (subst IsRefused q h))
 
-no_refusal : (e : RunFault) → IsNoRefusal e → (status_of e ≡ status.NoMemory) ⊎ (status_of e ≡ status.Device)
-no_refusal (run_fault.Arch e) h = absurd h
-no_refusal (run_fault.Net e) h = absurd h
-no_refusal (run_fault.Pads e) h = absurd h
-no_refusal (run_fault.Place place_fault.BadHeader) h = absurd h
-no_refusal (run_fault.Place place_fault.WrongSize) h = absurd h
-no_refusal (run_fault.Place (place_fault.UnknownBlock n)) h = absurd h
-no_refusal (run_fault.Place (place_fault.Repeated n)) h = absurd h
-no_refusal (run_fault.Place (place_fault.NoSuchSite n)) h = absurd h
-no_refusal (run_fault.Place (place_fault.WrongKind n)) h = absurd h
-no_refusal (run_fault.Place (place_fault.Taken n)) h = absurd h
-no_refusal (run_fault.Place (place_fault.Missing n)) h = absurd h
-no_refusal (run_fault.Place (place_fault.NotAPad n)) h = absurd h
-no_refusal (run_fault.Place (place_fault.BadLine n)) h = absurd h
-no_refusal (run_fault.Place place_fault.BadLabel) h = absurd h
+no_refusal : (e : RunFault) → ¬ (IsRefusal e) → (status_of e ≡ status.NoMemory) ⊎ (status_of e ≡ status.Device)
+no_refusal (run_fault.Arch e) h = absurd (h tt)
+no_refusal (run_fault.Net e) h = absurd (h tt)
+no_refusal (run_fault.Pads e) h = absurd (h tt)
+no_refusal (run_fault.Place place_fault.BadHeader) h = absurd (h tt)
+no_refusal (run_fault.Place place_fault.WrongSize) h = absurd (h tt)
+no_refusal (run_fault.Place (place_fault.UnknownBlock n)) h = absurd (h tt)
+no_refusal (run_fault.Place (place_fault.Repeated n)) h = absurd (h tt)
+no_refusal (run_fault.Place (place_fault.NoSuchSite n)) h = absurd (h tt)
+no_refusal (run_fault.Place (place_fault.WrongKind n)) h = absurd (h tt)
+no_refusal (run_fault.Place (place_fault.Taken n)) h = absurd (h tt)
+no_refusal (run_fault.Place (place_fault.Missing n)) h = absurd (h tt)
+no_refusal (run_fault.Place (place_fault.NotAPad n)) h = absurd (h tt)
+no_refusal (run_fault.Place (place_fault.BadLine n)) h = absurd (h tt)
+no_refusal (run_fault.Place place_fault.BadLabel) h = absurd (h tt)
 no_refusal (run_fault.Place place_fault.Write) h = inr refl
-no_refusal (run_fault.Place place_fault.NoMemory) h = absurd h
-no_refusal (run_fault.Size e) h = absurd h
-no_refusal (run_fault.Schedule e) h = absurd h
-no_refusal run_fault.BatchOutOfRange h = absurd h
-no_refusal run_fault.WorkersOutOfRange h = absurd h
+no_refusal (run_fault.Place place_fault.NoMemory) h = absurd (h tt)
+no_refusal (run_fault.Size e) h = absurd (h tt)
+no_refusal (run_fault.Schedule e) h = absurd (h tt)
+no_refusal run_fault.BatchOutOfRange h = absurd (h tt)
+no_refusal run_fault.WorkersOutOfRange h = absurd (h tt)
 no_refusal run_fault.Report h = inr refl
 no_refusal run_fault.NoMemory h = inl refl
 
-pub never_refused_by : (r : Status) (e : RunFault) → IsNoRefusal e → (r ≡ status_of e) ⊎ (r ≡ status.NoMemory) → (r ≡ status.NoMemory) ⊎ (r ≡ status.Device)
+pub never_refused_by : (r : Status) (e : RunFault) → ¬ (IsRefusal e) → (r ≡ status_of e) ⊎ (r ≡ status.NoMemory) → (r ≡ status.NoMemory) ⊎ (r ≡ status.Device)
 never_refused_by r e h (inl q) = elim (no_refusal e h) [ inl a ↦ inl (q ∙ a) | inr a ↦ inr (q ∙ a) ]
 never_refused_by r e h (inr q) = inl q

@@ -34,6 +34,6 @@ status_of WorkersOutOfRange = CommandLine
 status_of Report = Device
 status_of RunNoMemory = NoMemory
 
--- a file or the command line was refused
+-- a file, a size or the command line was refused
 abbrev pub IsRefused : Status → Type 0
 IsRefused status = (status ≡ Refused) ⊎ (status ≡ CommandLine)

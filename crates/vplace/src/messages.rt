@@ -1,6 +1,8 @@
 //! What is said on standard error: one line for each fault, and the status that goes with it.
 
 ghost use Rattle.std.specs.Prelude.{◌≡◌, ◌≢◌, ◌⊎◌};
+ghost use Rattle.fab_file.specs.declared.fault.PlaceFault.TheVariants.{Write};
+ghost use Rattle.fab_run.specs.declared.fault.RunFault.TheVariants.{Place, Report};
 ghost use Rattle.vplace.specs.Status.{status_of};
 
 use crate::status::{Status, status_after};
@@ -97,6 +99,7 @@ pub fn bad_number<E: Sink>(alloc: Global, err: &mut E, option: Number, fault: Nu
 pub fn run_fault<E: Sink>(alloc: Global, err: &mut E, fault: &RunFault, net: &[u8]) -> Status
     ensures status { (result ≡ status_of fault.now) ⊎ (result ≡ Status.NoMemory) }
     ensures open { result ≢ Status.Done }
+    ensures device { result ≡ Status.Device → (fault.now ≡ Report) ⊎ (fault.now ≡ Place Write) }
 {
     match fault_line(alloc, fault, net) {
         Ok(mut line) => {

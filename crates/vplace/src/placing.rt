@@ -2,6 +2,8 @@
 //! written once the run has answered.
 
 ghost use Rattle.std.specs.Prelude.{◌≡◌, ◌≢◌, ◌⊎◌, OnOk, IfOk, IfErr};
+ghost use Rattle.fab_text.specs.Failures.{grown};
+ghost use Rattle.fab_run.specs.Placed.{IsReportBegun};
 ghost use Rattle.fab_run.specs.RunChecks.{IsRunFault};
 ghost use Rattle.fab_run.specs.Setting.{IsSetting, Setting, texts_of};
 ghost use Rattle.fab_run.specs.declared.fault.RunFault.{RunFault as RunFaultOf};
@@ -133,6 +135,9 @@ pub fn place_texts<R: AllocGlobal, O: Sink, E: Sink>(
     // Texts and numbers that mean a run are never refused.
     ensures only { (s : Setting) → IsSetting (texts_of inputs.now) options.now s → IfErr result (λ status. (status ≡ Status.NoMemory) ⊎ (status ≡ Status.Device)) }
     ensures silent { IfErr result (λ status. IsRefused status → O.contents out.new ≡ O.contents out.old) }
+    // Else a beginning of the report may have gone out, and a device failed only where its writer did.
+    ensures cut { OnErr result ((O.contents out.new ≡ O.contents out.old) ⊎ IsReportBegun (texts_of inputs.now) options.now (O.contents out.old) (O.contents out.new)) }
+    ensures device { IfErr result (λ status. status ≡ Status.Device → O.failed out.new ≡ grown (O.failed out.old)) }
     ensures written { OnOk result (O.failed out.new ≡ O.failed out.old) }
     ensures quiet { OnOk result (E.contents err.new ≡ E.contents err.old) }
     ensures open { IfErr result (λ status. status ≢ Status.Done) }
@@ -140,9 +145,13 @@ pub fn place_texts<R: AllocGlobal, O: Sink, E: Sink>(
     let mut place = Counted::new(Vec::new(rt.alloc()));
     match place_run(rt, inputs, options, out, &mut place) {
         Ok(_) => Ok(place.into_inner()),
-        // The place text goes to memory here.
-        Err(RunFault::Place(PlaceFault::Write)) => Err(messages::no_memory(err)),
-        Err(fault) => Err(messages::run_fault(rt.alloc(), err, &fault, inputs.net)),
+        Err(fault) => {
+            // The place text goes to memory here.
+            if fault == RunFault::Place(PlaceFault::Write) {
+                return Err(messages::no_memory(err));
+            }
+            Err(messages::run_fault(rt.alloc(), err, &fault, inputs.net))
+        }
     }
 }
 

@@ -1,6 +1,8 @@
 //! How a run of the program ended, and the number that the shell is told.
 
-ghost use Rattle.std.specs.Prelude.{◌≡◌, ◌≢◌};
+ghost use Rattle.std.specs.Prelude.{◌≡◌, ◌≢◌, ◌⊎◌};
+ghost use Rattle.fab_file.specs.declared.fault.PlaceFault.TheVariants.{Write};
+ghost use Rattle.fab_run.specs.declared.fault.RunFault.TheVariants.{Place, Report};
 ghost use Rattle.vplace.specs.Status.{code_of, status_of};
 
 use fab_arch::ArchFault;
@@ -42,6 +44,7 @@ impl Status {
 pub fn status_after(fault: &RunFault) -> Status
     ensures status { result ≡ status_of fault.now }
     ensures open { result ≢ Status.Done }
+    ensures device { result ≡ Status.Device → (fault.now ≡ Report) ⊎ (fault.now ≡ Place Write) }
 {
     match fault {
         RunFault::NoMemory

@@ -3,9 +3,10 @@ use Rattle.std.specs.Io.KnownBytes.{Appends}
 use Rattle.fab_sched.specs.Annealing.{IsCooling}
 use Rattle.fab_commit.specs.Serial.{accepted_among, from, moves_left, stage_of}
 use Rattle.fab_commit.specs.Commits.{IsSameRun, run_of}
+use Rattle.fab_file.specs.Written.{IsCut}
 use Rattle.fab_run.specs.Piece.{stage_costs, stage_lines}
 use Rattle.fab_run.proofs.Pieces.{left_there}
-use Rattle.fab_run.proofs.Telling.{HasTold, warmth, colder_by_stage, cut_between, cut_within, same_run, same_twice, told_on}
+use Rattle.fab_run.proofs.Telling.{HasTold, warmth, colder_by_stage, cut_between, cut_within, short_within, same_run, same_twice, told_on}
 use Rattle.fab_run.proofs.stages.anneal_all.Goals as goal
 
 pub returns-in_err-line-clause-cut : goal.returns-in_err-line-clause-cut
@@ -29,6 +30,21 @@ returns-in_err-write_whole-clause-cut g c =
     let line = c.deref.ensures.value ∙ c.in_ok-line.ensures.line ∙ (λ i. stage_lines (same i) y (moves_left (same i) y)) in
     let fact = cut_within r x y n m begun.0 (g.W.Sink.contents c.args.report.now) (g.W.Sink.contents c.loop-stage.report) (g.W.Sink.contents c.write_whole.new.out) c.deref.result.now c.loop-stage.invariant.at.told c.loop-stage.invariant.at.stands line begun.2 in
     let there : (a : ℕ) × ((b : ℕ) × Appends (g.W.Sink.contents c.args.report.now) (g.W.Sink.contents c.write_whole.new.out) (take b (stage_lines r x a))) = (n + m, (length (stage_lines r x n) + begun.0, fact)) in
+    search (rules, there)
+
+pub returns-in_err-write_whole-clause-short : goal.returns-in_err-write_whole-clause-short
+returns-in_err-write_whole-clause-short g c =
+    let r = run_of g.V.Words.moves c.args.anneal.now in
+    let x = c.args.anneal.now.standing in
+    let y = c.loop-stage.anneal.standing in
+    let same = same_run g.V.Words.moves c.args.anneal.now c.loop-stage.anneal c.loop-stage.invariant.same in
+    let n = y.done - x.done in
+    let m = moves_left r y in
+    let begun = c.in_err-write_whole.ensures.beginning in
+    let line = c.deref.ensures.value ∙ c.in_ok-line.ensures.line ∙ (λ i. stage_lines (same i) y (moves_left (same i) y)) in
+    let fact = cut_within r x y n m begun.0 (g.W.Sink.contents c.args.report.now) (g.W.Sink.contents c.loop-stage.report) (g.W.Sink.contents c.write_whole.new.out) c.deref.result.now c.loop-stage.invariant.at.told c.loop-stage.invariant.at.stands line begun.2 in
+    let less = short_within r x y n m begun.0 c.deref.result.now c.loop-stage.invariant.at.stands line begun.1 in
+    let there : (a : ℕ) × IsCut (stage_lines r x a) (g.W.Sink.contents c.args.report.now) (g.W.Sink.contents c.write_whole.new.out) = (n + m, (length (stage_lines r x n) + begun.0, less, fact)) in
     search (rules, there)
 
 pub loop-stage-smaller : goal.loop-stage-smaller

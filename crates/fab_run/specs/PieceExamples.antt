@@ -1,0 +1,54 @@
+-- An example of a whole run: two blocks without a common net on 2 x 2 sites, two moves at temperature 2.0 and two frozen ones.
+use Rattle.std.specs.Prelude.{ℕ, ◌≡◌, if◌then◌else◌, ◌==◌, List, [], ◌∷◌, false, None, codes, refl}
+use Rattle.std.specs.Fmt.{digits}
+use Rattle.fab_arch.specs.Grid.{shape}
+use Rattle.fab_net.specs.declared.pieces.BlockKind.TheVariants.{Logic}
+use Rattle.fab_net.specs.Netlist.{Netlist, terminal}
+use Rattle.fab_site.specs.Placement.{site}
+use Rattle.fab_cost.specs.Cost.{box_on, clip, cost_of, cross_of, half_perimeter, net_box, net_cost}
+use Rattle.fab_cost.specs.Swapping.{change}
+use Rattle.fab_move.specs.Accept.{is_accepted}
+use Rattle.fab_move.specs.Judge.{judged, problem}
+use Rattle.fab_move.specs.Propose.{proposal, target}
+use Rattle.fab_sched.specs.declared.schedules.Cooling.TheVariants.{Factor}
+use Rattle.fab_sched.specs.Annealing.{plan_of, next_range}
+use Rattle.fab_commit.specs.Serial.{Run, Standing, at_start}
+use Rattle.fab_run.specs.Piece.{run_costs, run_report}
+
+abbrev two_alone : Netlist
+two_alone = record {
+  kinds = Logic ∷ Logic ∷ [];
+  names = codes "b1" ∷ codes "b2" ∷ [];
+  terminals = (terminal 0 0 ∷ []) ∷ (terminal 1 0 ∷ []) ∷ [];
+  globals = false ∷ false ∷ [];
+}
+
+abbrev half : ℕ
+half = 2147483648
+
+abbrev words : ℕ → List ℕ
+words k = (if k == 0 then 0 else half) ∷ half ∷ 0 ∷ 0 ∷ []
+
+abbrev four_moves : Run
+four_moves = record {
+  problem = problem two_alone (shape 2 2 1) (None ∷ None ∷ []) words;
+  plan = plan_of 20000 20000 (Factor 500) 2;
+}
+
+abbrev before : Standing
+before = at_start four_moves (site 1 1 0 ∷ site 2 2 0 ∷ [])
+
+pub the_report_of_four_moves : run_report four_moves before 4
+    ≡ codes "blocks 2 logic 2 pads 0 nets 2 array 2 x 2\nstart cost 4.0000\nstage 0 t 2.0000 range 2.000 moves 2 accepted 2 cost 4.0000\nfrozen range 2.000 moves 2 accepted 0 cost 4.0000\nfinal cost 4.0000 accepted 2 of 4\n"
+unfolding digits is_accepted judged proposal target change cost_of net_cost net_box box_on half_perimeter cross_of clip next_range
+the_report_of_four_moves = refl
+
+pub the_costs_of_four_moves : run_costs four_moves before 4 ≡ 40000 ∷ 40000 ∷ 40000 ∷ []
+unfolding is_accepted judged proposal target change cost_of net_cost net_box box_on half_perimeter cross_of clip next_range
+the_costs_of_four_moves = refl
+
+-- one move before the end the frozen stage is not told yet
+pub the_report_of_three_moves : run_report four_moves before 3
+    ≡ codes "blocks 2 logic 2 pads 0 nets 2 array 2 x 2\nstart cost 4.0000\nstage 0 t 2.0000 range 2.000 moves 2 accepted 2 cost 4.0000\n"
+unfolding digits is_accepted judged proposal target change cost_of net_cost net_box box_on half_perimeter cross_of clip next_range
+the_report_of_three_moves = refl
