@@ -1,7 +1,7 @@
 //! The subcommand `place`: the files are read, and only then is the first of their texts looked at; the placement is
 //! written once the run has answered.
 
-ghost use Rattle.std.specs.Prelude.{◌≡◌, ◌≢◌, ◌⊎◌, OnOk, IfOk, IfErr};
+ghost use Rattle.std.specs.Prelude.{◌≡◌, ◌≢◌, ◌⊎◌, OnOk, OnErr, IfOk, IfErr};
 ghost use Rattle.fab_text.specs.Failures.{grown};
 ghost use Rattle.fab_run.specs.Placed.{IsReportBegun};
 ghost use Rattle.fab_run.specs.RunChecks.{IsRunFault};
