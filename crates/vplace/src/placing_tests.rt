@@ -126,7 +126,7 @@ fn a_word_without_its_value_places_nothing(rt: HostRuntime) -> Result<(), Fail> 
         b"place", b"--arch", b"t.arch", b"--out", b"t.place", b"--net",
     ];
     let left = run(&rt, words.as_slice())?;
-    assert_eq!(rt; &left[..2], b"2\n".as_slice());
+    assert!(rt; left.starts_with(b"2\n"));
     assert!(rt; !left.ends_with(PLACE));
     Ok(())
 }
