@@ -7,3 +7,5 @@ pub mod Worlds
 pub mod History
 pub mod Stamps
 pub mod Laws
+pub mod TurnEvents
+pub mod TurnLaws
