@@ -16,8 +16,9 @@ use Rattle.fab_commit.specs.declared.verdicts.Verdict.{Verdict}
 use Rattle.fab_commit.specs.Serial.{Run, Standing, after_move, from, judged_here, moves_left, step}
 use Rattle.fab_commit.specs.World.{World, world, accepted_as, accepted_now, answer, happens, run_through, stage_end, usable, verdict_here, way_of, ways, ways_now}
 use Rattle.fab_commit.specs.History.{accepted_at, accepted_from, is_redone}
-use Rattle.fab_commit.specs.TurnEvents.{LastTurn, IsOfAStage, base_behind, commit_each, events_from, forget, is_redone_behind, judge_each, lose_each, next_turn, stands, turn, turn_events, verdict_on, world_behind}
-use Rattle.fab_commit.specs.TurnLaws.{RedoneByStamps, TurnsAreReached, TurnsLeadOn, WaysOfTurns, way_if}
+use Rattle.fab_commit.specs.TurnEvents.{LastTurn, IsOfAStage, base_behind, commit_each, events_from, forget, is_redone_behind, judge_each, lose_each, next_turn, no_turn, stands, turn, turn_events, verdict_on, world_behind}
+use Rattle.fab_commit.specs.Turns.{last_turn, turns}
+use Rattle.fab_commit.specs.TurnLaws.{EveryBatchIsSerial, RedoneByStamps, TurnsAreReached, TurnsLeadOn, WaysOfTurns, way_if}
 use Rattle.fab_commit.proofs.Happening.{end_is, run_inv, run_through-append, ways-append}
 use Rattle.fab_commit.proofs.History.{Hist, IsOf, accepted_from-add, redone_is, run_hist, start_hist}
 use Rattle.fab_commit.proofs.Schedules.{Inv, from-add, happens_inv, start_inv}
@@ -284,6 +285,46 @@ turns_lead_on r t batch pos stage =
           ∙ turn_leads r t next.made next.ahead pos stage left,
       left,
     )
+
+-- turns one after another
+
+turns_lead : (r : Run) (t : LastTurn) (batches : List ℕ) → 0 < r.plan.moves → IsOfAStage r t → turns r (world_behind r t) batches ≡ world_behind r (last_turn r t batches)
+turns_lead r t [] pos stage = refl
+turns_lead r t (batch ∷ batches) pos stage =
+    let one = turns_lead_on r t batch pos stage in
+    ap (λ w. turns r w batches) one.0 ∙ turns_lead r (next_turn r batch t) batches pos one.1
+
+-- where turns lead from where another did
+record IsOn (r : Run) (t u : LastTurn) : Type 0 where
+  moves : ℕ
+  there : stands r u ≡ from r (stands r t) moves
+  done : (stands r u).done ≡ (stands r t).done + moves
+
+goes_on : (r : Run) (t : LastTurn) (batches : List ℕ) → 0 < r.plan.moves → IsOfAStage r t → IsOn r t (last_turn r t batches)
+goes_on r t [] pos stage = record { moves = 0; there = refl; done = omega arith }
+goes_on r t (batch ∷ batches) pos stage =
+    let next = next_turn r batch t in
+    let of_stage = (turns_lead_on r t batch pos stage).1 in
+    let rest = goes_on r next batches pos of_stage in
+    let first = (reach r next pos of_stage).1 in
+    let more = rest.done in
+    record {
+      moves = next.made + rest.moves;
+      there = rest.there ∙ from-add r (stands r t) next.made rest.moves;
+      done = omega (arith, first, more);
+    }
+
+pub every_batch_is_serial : EveryBatchIsSerial
+every_batch_is_serial r x batches pos =
+    let t = no_turn x in
+    let stage : IsOfAStage r t = omega arith in
+    let is : turns r (world x) batches ≡ world_behind r (last_turn r t batches) = turns_lead r t batches pos stage in
+    let on = goes_on r t batches pos stage in
+    let made = on.done in
+    let live : (turns r (world x) batches).live ≡ stands r (last_turn r t batches) = ap (λ (w : World). w.live) is in
+    let n : on.moves ≡ (turns r (world x) batches).live.done - x.done =
+    (let same : (turns r (world x) batches).live.done ≡ (stands r (last_turn r t batches)).done = ap (λ (y : Standing). y.done) live in omega (arith, same, made)) in
+    (live ∙ on.there ∙ ap (from r x) n, is)
 
 -- ways
 

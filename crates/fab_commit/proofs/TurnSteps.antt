@@ -199,7 +199,6 @@ range-append a (suc n) m =
     let f : suc (n + m) ≡ suc n + m = omega arith in
     ap (λ b. a ∷ (range_with_len (a + 1) n ++ range_with_len b m)) e ∙ ap (λ l. a ∷ l) (range-append (a + 1) n m) ∙ ap (range_with_len a) f
 
-
 workers_of : (p : Run) (older : Standing) (ks : List ℕ) → workers (map (verdict_on p older) ks) ≡ ks
 workers_of p older [] = refl
 workers_of p older (k ∷ ks) = ap (λ l. k ∷ l) (workers_of p older ks)

@@ -8,4 +8,7 @@ pub mod History
 pub mod Stamps
 pub mod Laws
 pub mod TurnEvents
+pub mod Turns
 pub mod TurnLaws
+pub mod TurnExamples
+pub mod Pipelines

@@ -8,7 +8,8 @@ use Rattle.fab_commit.specs.Serial.{Run, Standing, judged_here, from}
 use Rattle.fab_commit.specs.World.{world, run_through, ways}
 use Rattle.fab_commit.specs.History.{accepted_from, is_redone}
 use Rattle.fab_commit.specs.Stamps.{is_stamped}
-use Rattle.fab_commit.specs.TurnEvents.{LastTurn, IsOfAStage, commit_each, is_redone_behind, judge_each, next_turn, stands, turn, turn_events, world_behind}
+use Rattle.fab_commit.specs.TurnEvents.{LastTurn, IsOfAStage, commit_each, is_redone_behind, judge_each, next_turn, no_turn, stands, turn, turn_events, world_behind}
+use Rattle.fab_commit.specs.Turns.{last_turn, turns}
 
 -- what stands behind a turn is what events lead to where nothing was claimed or judged, so that each law of the world's
 -- events speaks of it
@@ -23,10 +24,17 @@ TurnsLeadOn =
     (r : Run) (t : LastTurn) (batch : ℕ) → 0 < r.plan.moves → IsOfAStage r t
     → (turn r batch (world_behind r t) ≡ world_behind r (next_turn r batch t)) × IsOfAStage r (next_turn r batch t)
 
--- no move is late, and those that are redone are told by moves one at a time and their bases
+-- whatever the batches of turns, they leave the standing of one move at a time, and no verdict but those of the last turn
+abbrev pub EveryBatchIsSerial : Type 0
+EveryBatchIsSerial =
+    (r : Run) (x : Standing) (batches : List ℕ) → 0 < r.plan.moves →
+    let now = turns r (world x) batches in
+    (now.live ≡ from r x (now.live.done - x.done)) × (now ≡ world_behind r (last_turn r (no_turn x) batches))
+
 abbrev pub way_if : Bool → Way
 way_if redone = if redone then Redone else Taken
 
+-- no move of a turn is late, and those that are redone are told by moves one at a time and their bases
 abbrev pub WaysOfTurns : Type 0
 WaysOfTurns =
     (r : Run) (t : LastTurn) (batch : ℕ) → 0 < r.plan.moves → IsOfAStage r t

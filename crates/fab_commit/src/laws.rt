@@ -2,7 +2,7 @@
 //! contract is a law has nothing to do.
 
 ghost use Rattle.fab_commit.specs.Laws.{AcceptedSwapsAreSerial, MovesCompose, PlacementsStayLegal, RedoneIsSerial, StampsTell, VerdictsAreOfTheirBase};
-ghost use Rattle.fab_commit.specs.TurnLaws.{RedoneByStamps, TurnsAreReached, TurnsLeadOn, WaysOfTurns};
+ghost use Rattle.fab_commit.specs.TurnLaws.{EveryBatchIsSerial, RedoneByStamps, TurnsAreReached, TurnsLeadOn, WaysOfTurns};
 
 /// The law that so many moves and then more are all of them together.
 pub fn moves_compose()
@@ -40,6 +40,7 @@ pub fn stamps_tell()
 pub fn turns_are_serial()
     ensures reached { TurnsAreReached }
     ensures turn { TurnsLeadOn }
+    ensures batches { EveryBatchIsSerial }
     ensures ways { WaysOfTurns }
     ensures stamps { RedoneByStamps }
 {}
