@@ -38,11 +38,11 @@ use Rattle.fab_commit.proofs.Schedules.{Inv, start_inv, happens_inv, stage_open,
 
 -- lists of events
 
-run_through-append : (p : Run) (w : World) (xs ys : List Event) → run_through p w (xs ++ ys) ≡ run_through p (run_through p w xs) ys
+pub run_through-append : (p : Run) (w : World) (xs ys : List Event) → run_through p w (xs ++ ys) ≡ run_through p (run_through p w xs) ys
 run_through-append p w [] ys = refl
 run_through-append p w (e ∷ xs) ys = run_through-append p (happens p w e) xs ys
 
-ways-append : (p : Run) (w : World) (xs ys : List Event) → ways p w (xs ++ ys) ≡ ways p w xs ++ ways p (run_through p w xs) ys
+pub ways-append : (p : Run) (w : World) (xs ys : List Event) → ways p w (xs ++ ys) ≡ ways p w xs ++ ways p (run_through p w xs) ys
 ways-append p w [] ys = refl
 ways-append p w (e ∷ xs) ys =
     ap (λ l. ways_now p w e ++ l) (ways-append p (happens p w e) xs ys)

@@ -12,7 +12,7 @@ use Rattle.fab_commit.specs.World.{World, world, clash, end, accepted_now, is_la
 use Rattle.fab_commit.specs.History.{accepted_at, accepted_from, is_redone}
 use Rattle.fab_commit.proofs.Schedules.{Inv, from-add, commit_live, answered, happens_inv, stage_open}
 
-accepted_from-add : (p : Run) (x : Standing) (m n : ℕ) → accepted_from p x m ++ accepted_from p (from p x m) n ≡ accepted_from p x (m + n)
+pub accepted_from-add : (p : Run) (x : Standing) (m n : ℕ) → accepted_from p x m ++ accepted_from p (from p x m) n ≡ accepted_from p x (m + n)
 accepted_from-add p x zero n = let e : n ≡ zero + n = omega arith in ap (accepted_from p x) e
 accepted_from-add p x (suc m) n =
     let e : suc (m + n) ≡ suc m + n = omega arith in

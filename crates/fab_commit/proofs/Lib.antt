@@ -14,3 +14,5 @@ pub mod Happening
 pub mod History
 pub mod Stamps
 pub mod Reasons
+pub mod TurnSteps
+pub mod TurnLaws

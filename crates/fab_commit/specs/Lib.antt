@@ -7,3 +7,8 @@ pub mod Worlds
 pub mod History
 pub mod Stamps
 pub mod Laws
+pub mod TurnEvents
+pub mod Turns
+pub mod TurnLaws
+pub mod TurnExamples
+pub mod Pipelines

@@ -35,13 +35,13 @@ abbrev words : ℕ → List ℕ
 words k = (if k == 0 then 0 else half) ∷ half ∷ 0 ∷ 0 ∷ []
 
 -- the first temperature is below the exit one, so that only the frozen stage is run
-abbrev two_moves : Run
+abbrev pub two_moves : Run
 two_moves = record {
   problem = problem two_alone (shape 2 2 1) (None ∷ None ∷ []) words;
   plan = plan_of 10000 20000 (Factor 500) 2;
 }
 
-abbrev before : World
+abbrev pub before : World
 before = world (at_start two_moves (site 1 1 0 ∷ site 2 2 0 ∷ []))
 
 -- the ways of the moves that were committed, where the blocks are then, and how many moves were accepted
@@ -113,13 +113,13 @@ unfolding judged proposal target change is_accepted cost_of net_cost net_box box
 a_second_claim = refl
 
 -- one move a stage, a hot one and the frozen one
-abbrev two_stages : Run
+abbrev pub two_stages : Run
 two_stages = record {
   problem = two_moves.problem;
   plan = plan_of 20000 20000 (Factor 500) 1;
 }
 
-abbrev stages_begin : World
+abbrev pub stages_begin : World
 stages_begin = world (at_start two_stages (site 1 1 0 ∷ site 2 2 0 ∷ []))
 
 -- the next stage begins only on a fresh placement
@@ -128,7 +128,7 @@ unfolding judged proposal target change is_accepted cost_of net_cost net_box box
 a_stage_ends = refl
 
 -- the blocks stand apart, and the second is sent to its own site
-abbrev apart : Run
+abbrev pub apart : Run
 apart = record {
   problem = problem two_alone (shape 2 2 1) (None ∷ None ∷ []) (λ k. (if k == 0 then 0 else half) ∷ half ∷ (if k == 0 then 0 else half) ∷ 0 ∷ []);
   plan = two_moves.plan;

@@ -2,6 +2,7 @@
 //! contract is a law has nothing to do.
 
 ghost use Rattle.fab_commit.specs.Laws.{AcceptedSwapsAreSerial, MovesCompose, PlacementsStayLegal, RedoneIsSerial, StampsTell, VerdictsAreOfTheirBase};
+ghost use Rattle.fab_commit.specs.TurnLaws.{EveryBatchIsSerial, RedoneByStamps, TurnsAreReached, TurnsLeadOn, WaysOfTurns};
 
 /// The law that so many moves and then more are all of them together.
 pub fn moves_compose()
@@ -30,4 +31,16 @@ pub fn spoiled_verdicts_are_serial()
 /// The law that the number of the last accepted move that touched a mark tells what the list of accepted swaps tells.
 pub fn stamps_tell()
     ensures { StampsTell }
+{}
+
+/// The law of a turn. Verdicts beyond its batch are lost; what is missing of the batch is judged, then the next batch of
+/// the stage; the batch is committed, and the older placement renewed. That leads from behind one turn to behind the next,
+/// where both placements are those of one move at a time, nothing is claimed, and there are verdicts for the next batch
+/// alone, on the placement at the turn's start. A move is redone where a stamp of what it rests on is above its base.
+pub fn turns_are_serial()
+    ensures reached { TurnsAreReached }
+    ensures turn { TurnsLeadOn }
+    ensures batches { EveryBatchIsSerial }
+    ensures ways { WaysOfTurns }
+    ensures stamps { RedoneByStamps }
 {}

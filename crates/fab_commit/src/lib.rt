@@ -22,7 +22,7 @@ pub use annealers::Anneal;
 pub use events::{Event, Way, every_schedule_is_serial};
 pub use laws::{
     moves_compose, placements_stay_legal, spoiled_verdicts_are_serial, stamps_tell,
-    verdicts_are_of_their_base,
+    turns_are_serial, verdicts_are_of_their_base,
 };
 pub use turns::Turn;
 pub use worlds::World;

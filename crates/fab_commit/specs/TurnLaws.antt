@@ -1,0 +1,48 @@
+-- Laws of turns (our own).
+use Rattle.std.specs.Prelude.{ℕ, ◌≡◌, ◌+◌, ◌-◌, ◌<◌, Bool, if◌then◌else◌, List, [], ◌∷◌, ◌++◌, map}
+use Rattle.std.specs.List.{range_with_len}
+use Rattle.fab_commit.specs.declared.events.Way.{Way}
+use Rattle.fab_commit.specs.declared.events.Way.TheVariants.{Taken, Redone}
+use Rattle.fab_commit.specs.declared.events.Event.TheVariants.{Refresh}
+use Rattle.fab_commit.specs.Serial.{Run, Standing, judged_here, from}
+use Rattle.fab_commit.specs.World.{world, run_through, ways}
+use Rattle.fab_commit.specs.History.{accepted_from, is_redone}
+use Rattle.fab_commit.specs.Stamps.{is_stamped}
+use Rattle.fab_commit.specs.TurnEvents.{LastTurn, IsOfAStage, commit_each, is_redone_behind, judge_each, next_turn, no_turn, stands, turn, turn_events, world_behind}
+use Rattle.fab_commit.specs.Turns.{last_turn, turns}
+
+-- what stands behind a turn is what events lead to where nothing was claimed or judged, so that each law of the world's
+-- events speaks of it
+abbrev pub TurnsAreReached : Type 0
+TurnsAreReached =
+    (r : Run) (t : LastTurn) → 0 < r.plan.moves → IsOfAStage r t
+    → world_behind r t ≡ run_through r (world t.start) (judge_each t.start.done (t.made + t.ahead) ++ (commit_each t.made ++ Refresh ∷ []))
+
+-- the events of a turn lead from behind one turn to behind the next, whatever its batch
+abbrev pub TurnsLeadOn : Type 0
+TurnsLeadOn =
+    (r : Run) (t : LastTurn) (batch : ℕ) → 0 < r.plan.moves → IsOfAStage r t
+    → (turn r batch (world_behind r t) ≡ world_behind r (next_turn r batch t)) × IsOfAStage r (next_turn r batch t)
+
+-- whatever the batches of turns, they leave the standing of one move at a time, and no verdict but those of the last turn
+abbrev pub EveryBatchIsSerial : Type 0
+EveryBatchIsSerial =
+    (r : Run) (x : Standing) (batches : List ℕ) → 0 < r.plan.moves →
+    let now = turns r (world x) batches in
+    (now.live ≡ from r x (now.live.done - x.done)) × (now ≡ world_behind r (last_turn r (no_turn x) batches))
+
+abbrev pub way_if : Bool → Way
+way_if redone = if redone then Redone else Taken
+
+-- no move of a turn is late, and those that are redone are told by moves one at a time and their bases
+abbrev pub WaysOfTurns : Type 0
+WaysOfTurns =
+    (r : Run) (t : LastTurn) (batch : ℕ) → 0 < r.plan.moves → IsOfAStage r t
+    → ways r (world_behind r t) (turn_events r batch (world_behind r t))
+    ≡ map (λ k. way_if (is_redone_behind r t k)) (range_with_len (stands r t).done (next_turn r batch t).made)
+
+-- a move is redone exactly where the stamp of a mark of its footprint is above its base
+abbrev pub RedoneByStamps : Type 0
+RedoneByStamps =
+    (r : Run) (x : Standing) (base k : ℕ)
+    → is_redone r x base k ≡ is_stamped r.problem.design (accepted_from r x (k - x.done)) base (judged_here r (from r x (base - x.done)) k).footprint
