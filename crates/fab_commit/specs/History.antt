@@ -1,4 +1,4 @@
--- What one move at a time accepts, and which moves a stale judgement would get wrong.
+-- What one move at a time accepts, and which moves a stale judgement would get wrong (our own).
 use Rattle.std.specs.Prelude.{ℕ, zero, suc, ◌-◌, Bool, if◌then◌else◌, List, [], ◌++◌, is_some}
 use Rattle.fab_commit.specs.Serial.{Run, Standing, judged_here, step, from}
 use Rattle.fab_commit.specs.declared.verdicts.Accepted.{Accepted}

@@ -1,4 +1,4 @@
--- When a mark was last touched.
+-- When a mark was last touched (our own).
 use Rattle.std.specs.Prelude.{ℕ, ◌+◌, ◌<◌, max, Bool, if◌then◌else◌, nat_lt, List, [], ◌∷◌}
 use Rattle.std.specs.List.{list_any}
 use Rattle.fab_move.specs.declared.marks.Mark.{Mark}

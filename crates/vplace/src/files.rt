@@ -18,7 +18,7 @@ pub enum ReadFault {
     NoMemory,
 }
 
-/// A file was not written: what lay there before still does.
+/// A file was not written. Where it is a plain file, what lay there before still does.
 #[derive(Clone, Copy, Debug, PartialEq, Eq)]
 pub struct WriteFault;
 
