@@ -14,9 +14,11 @@ place: program
 		--pads rs232_cl4.pads --out ../out/rs232_cl4.place
 	@echo 'the placement lies at out/rs232_cl4.place'
 
-# Moves a second with one worker, at four sizes; with BASELINE=PROGRAM also those of another placer, in the same run.
+# Moves a second with one worker, at four sizes; with BASELINE=PROGRAM also those of another placer, in the same run. Then those
+# with 1, 2 and 4 workers and four batches, at two sizes.
 bench: program
 	@bench/place.sh
+	@bench/turns.sh
 
 # The program, proved and then compiled, at crates/vplace/out/vplace; with no change since, nothing is made anew.
 program:

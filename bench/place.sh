@@ -1,5 +1,5 @@
 #!/bin/sh
-# How many moves a second `vplace place` makes with one worker, on designs of 200, 770, 1,585 and 9,583 blocks, and the ratios
+# How many moves a second `vplace place` makes with one worker and batches of 1,024 moves, on designs of 200, 770, 1,585 and 9,583 blocks, and the ratios
 # of these. Timed from outside: a run of many moves less a run of few, so that reading and writing cancel; the best of each.
 # usage: [PROGRAM=PROGRAM] [BASELINE=PROGRAM] [MOVES=N] [RUNS=N] bench/place.sh [DESIGN..]
 # The designs are of examples. PROGRAM is the one that `make test` built, where none is named. BASELINE is another placer that
@@ -25,7 +25,7 @@ cd "$top/examples"
 timed() {
     from=$(date +%s%N)
     "$2" place --arch "$3.arch" --net "$3.net" --out "$work/$1.place" --init-t 10 --exit-t 0.01 --alpha-t 0.5 \
-        --workers 1 --moves "$4" > "$work/$1.report"
+        --workers 1 --batch 1024 --moves "$4" > "$work/$1.report"
     taken=$((($(date +%s%N) - from) / 1000))
     echo "$1 $3 $4 $taken $(awk 'NR == 1 { blocks = $2 } END { print $NF, blocks }' "$work/$1.report")"
 }

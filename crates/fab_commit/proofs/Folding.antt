@@ -49,7 +49,7 @@ still_hot r x l = hot_left r x x.heat refl l
 pub step_is : (r : Run) (x : Standing) → is_some x.heat ≡ true → step r x ≡ after_move r x (judged_here r x x.done)
 step_is r x h = ap (λ b. cond b (after_move r x (judged_here r x x.done)) x) h
 
-left_some : (moves n : ℕ) (h : Option ℕ) → is_some h ≡ true → left_at moves n h ≡ moves - n % moves
+pub left_some : (moves n : ℕ) (h : Option ℕ) → is_some h ≡ true → left_at moves n h ≡ moves - n % moves
 left_some moves n None e = absurd (false≢true e)
 left_some moves n (Some t) e = refl
 
@@ -87,3 +87,11 @@ not_ended false t e = refl
 
 pub hot_at : (b : Bool) (t : ℕ) → b ≡ false → is_some (heat_of b t) ≡ true
 hot_at b t e = ap (λ c. is_some (heat_of c t)) e
+
+-- n moves within a stage leave it n moves shorter
+pub left_from : (r : Run) (x : Standing) (n : ℕ) → n < moves_left r x → moves_left r (from r x n) + n ≡ moves_left r x
+left_from r x zero l = omega arith
+left_from r x (suc n) l =
+    let one = left_step r x (omega (arith, l)) in
+    let rest = left_from r (step r x) n (omega (arith, l, one)) in
+    omega (arith, one, rest)

@@ -202,7 +202,7 @@ other_is : (d : Netlist) (o : Option BlockId) → ((b : BlockId) → o ≡ Some 
 other_is d None h = tt
 other_is d (Some b) h = h b refl
 
-blocks_of_swap : (d : Netlist) (g : GridShape) (sites : List Site) (n : ℕ) (s : Swap) → length sites ≡ length d.kinds → IsSwapOf g sites s → HasBlocks d (record { number = n; swap = s })
+pub blocks_of_swap : (d : Netlist) (g : GridShape) (sites : List Site) (n : ℕ) (s : Swap) → length sites ≡ length d.kinds → IsSwapOf g sites s → HasBlocks d (record { number = n; swap = s })
 blocks_of_swap d g sites n s all is =
     let low = within sites s.block.0 s.from is.stands in (
       omega (arith, low, all),

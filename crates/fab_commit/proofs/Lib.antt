@@ -16,3 +16,10 @@ pub mod Stamps
 pub mod Reasons
 pub mod TurnSteps
 pub mod TurnLaws
+pub mod Stamping
+pub mod Owning
+pub mod Pipelining
+pub mod Annealing
+pub mod ByTurns
+pub mod RunBases
+pub mod RunLaws

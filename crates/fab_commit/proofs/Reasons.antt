@@ -1,25 +1,23 @@
 -- Proofs of the laws.
-use Rattle.std.proofs.Common.{◌≡◌, ℕ, zero, suc, ◌+◌, ◌-◌, ◌<◌, ◌≤◌, Bool, true, false, cond, ◌==◌, List, [], ◌∷◌, Option, Some, None, is_some, refl, sym, ap, subst, ◌∙◌, arith}
+use Rattle.std.proofs.Common.{◌≡◌, ℕ, zero, suc, ◌-◌, ◌<◌, Bool, true, false, cond, ◌==◌, List, [], ◌∷◌, Some, is_some, refl, ap, subst, ◌∙◌, arith}
 use Rattle.std.specs.Prelude.{slice_index}
-use Rattle.std.specs.List.{All, AllByRecursion}
+use Rattle.std.specs.List.{AllByRecursion}
 use Rattle.std.proofs.lemmas.Bool.{eqb-true}
 use Rattle.std.proofs.lemmas.List.Elements.{recursion_from_All}
 use Rattle.fab_arch.specs.declared.array.Site.{Site}
-use Rattle.fab_arch.specs.Grid.{kind_at}
 use Rattle.fab_site.specs.declared.pieces.Swap.{Swap}
-use Rattle.fab_site.specs.Placement.{IsLegal, IsSwapOf, swapped}
-use Rattle.fab_cost.specs.Swapping.{swapped_by}
+use Rattle.fab_site.specs.Placement.{IsLegal, swapped}
 use Rattle.fab_move.specs.declared.proposals.Proposal.{Proposal}
 use Rattle.fab_move.specs.declared.proposals.Proposal.TheVariants.{Nothing, Void, Move}
 use Rattle.fab_move.specs.Propose.{proposal}
 use Rattle.fab_move.specs.Judge.{Problem, judged_as, judged, moved}
 use Rattle.fab_commit.specs.declared.events.Event.{Event}
 use Rattle.fab_commit.specs.declared.verdicts.Verdict.{Verdict}
-use Rattle.fab_commit.specs.Serial.{Run, Standing, after_move, from, judged_here, or_zero, step}
-use Rattle.fab_commit.specs.World.{World, world, clash, run_through, verdict_for, verdict_here}
-use Rattle.fab_commit.specs.History.{accepted_from, is_redone}
-use Rattle.fab_commit.specs.Laws.{AcceptedSwapsAreSerial, IsOfItsBase, MovesCompose, PlacementsStayLegal, ProposesKinds, RedoneIsSerial, StampsTell, VerdictsAreOfTheirBase}
-use Rattle.fab_commit.proofs.Kept.{legal_swapped, judged_may_move, may_move}
+use Rattle.fab_commit.specs.Serial.{Run, Standing, after_move, judged_here, or_zero, step}
+use Rattle.fab_commit.specs.World.{world, run_through, verdict_for}
+use Rattle.fab_commit.specs.History.{accepted_from}
+use Rattle.fab_commit.specs.Laws.{AcceptedSwapsAreSerial, MovesCompose, PlacementsStayLegal, ProposesKinds, RedoneIsSerial, StampsTell, VerdictsAreOfTheirBase}
+use Rattle.fab_commit.proofs.Kept.{legal_swapped, may_move}
 use Rattle.fab_commit.proofs.Happening.{proposed_lawful, run_inv}
 use Rattle.fab_commit.proofs.History.{Hist, IsOf, start_hist, run_hist, redone_is}
 use Rattle.fab_commit.proofs.Schedules.{Inv, start_inv, from-add}

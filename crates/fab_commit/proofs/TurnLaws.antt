@@ -1,6 +1,6 @@
 -- Proofs of the laws of turns.
-use Rattle.std.proofs.Common.{◌≡◌, ℕ, zero, suc, ◌+◌, ◌-◌, ◌<◌, ◌≤◌, Bool, true, false, cond, List, [], ◌∷◌, ◌++◌, length, map, drop, Option, Some, None, is_some, refl, sym, ap, subst, ◌∙◌, inl, inr, arith, append_assoc, append-nil}
-use Rattle.std.specs.Prelude.{min, nat_le, nat_lt}
+use Rattle.std.proofs.Common.{◌≡◌, ℕ, zero, suc, ◌+◌, ◌-◌, ◌<◌, ◌≤◌, Bool, true, false, cond, List, [], ◌∷◌, ◌++◌, length, map, drop, Option, Some, None, is_some, refl, sym, ap, subst, ◌∙◌, inl, inr, arith, append-nil}
+use Rattle.std.specs.Prelude.{min}
 use Rattle.std.specs.List.{filter, range_with_len}
 use Rattle.std.proofs.Math.Seq.{drop-append_seam}
 use Rattle.std.proofs.lemmas.Bool.{cases_lt, le-leb, le-ltb, lt-leb, lt-ltb}
@@ -16,7 +16,8 @@ use Rattle.fab_commit.specs.declared.verdicts.Verdict.{Verdict}
 use Rattle.fab_commit.specs.Serial.{Run, Standing, after_move, from, judged_here, moves_left, step}
 use Rattle.fab_commit.specs.World.{World, world, accepted_as, accepted_now, answer, happens, run_through, stage_end, usable, verdict_here, way_of, ways, ways_now}
 use Rattle.fab_commit.specs.History.{accepted_at, accepted_from, is_redone}
-use Rattle.fab_commit.specs.TurnEvents.{LastTurn, IsOfAStage, base_behind, commit_each, events_from, forget, is_redone_behind, judge_each, lose_each, next_turn, no_turn, stands, turn, turn_events, verdict_on, world_behind}
+use Rattle.fab_commit.specs.TurnEvents.{LastTurn, IsOfAStage, commit_each, events_from, forget, is_redone_behind, judge_each, lose_each, next_turn, no_turn, stands, verdict_on, world_behind}
+use Rattle.fab_commit.specs.Owners.{since}
 use Rattle.fab_commit.specs.Turns.{last_turn, turns}
 use Rattle.fab_commit.specs.TurnLaws.{EveryBatchIsSerial, RedoneByStamps, TurnsAreReached, TurnsLeadOn, WaysOfTurns, way_if}
 use Rattle.fab_commit.proofs.Happening.{end_is, run_inv, run_through-append, ways-append}
@@ -27,13 +28,13 @@ use Rattle.fab_commit.proofs.TurnSteps.{commit_each_run, commit_first, found_fir
 
 -- verdicts of n moves from k on, on one placement
 
-abbrev verdicts_on : Run → Standing → ℕ → ℕ → List Verdict
+abbrev pub verdicts_on : Run → Standing → ℕ → ℕ → List Verdict
 verdicts_on r x k n = map (verdict_on r x) (range_with_len k n)
 
 numbers_on : (r : Run) (x : Standing) (k n : ℕ) → numbers (verdicts_on r x k n) ≡ range_with_len k n
 numbers_on r x k n = numbers_of r x (range_with_len k n)
 
-length_on : (r : Run) (x : Standing) (k n : ℕ) → length (verdicts_on r x k n) ≡ n
+pub length_on : (r : Run) (x : Standing) (k n : ℕ) → length (verdicts_on r x k n) ≡ n
 length_on r x k n = length-map-range_with_len (verdict_on r x) k n
 
 on_split : (r : Run) (x : Standing) (k a b : ℕ) → verdicts_on r x k (a + b) ≡ verdicts_on r x k a ++ verdicts_on r x (k + a) b
@@ -60,7 +61,7 @@ within r x n pos l = (let e = end_is r x.done x.heat pos in omega (arith, e, l))
 abbrev events_to : LastTurn → List Event
 events_to t = judge_each t.start.done (t.made + t.ahead) ++ (commit_each t.made ++ Refresh ∷ [])
 
-reach : (r : Run) (t : LastTurn) → 0 < r.plan.moves → IsOfAStage r t
+pub reach : (r : Run) (t : LastTurn) → 0 < r.plan.moves → IsOfAStage r t
     → (run_through r (world t.start) (events_to t) ≡ world_behind r t) × ((stands r t).done ≡ t.start.done + t.made)
 reach r t pos stage =
     let x = t.start in
@@ -85,7 +86,7 @@ reach r t pos stage =
 pub turns_are_reached : TurnsAreReached
 turns_are_reached r t pos stage = sym (reach r t pos stage).0
 
-behind_inv : (r : Run) (t : LastTurn) → 0 < r.plan.moves → IsOfAStage r t → Inv r (world_behind r t)
+pub behind_inv : (r : Run) (t : LastTurn) → 0 < r.plan.moves → IsOfAStage r t → Inv r (world_behind r t)
 behind_inv r t pos stage =
     subst (Inv r) (reach r t pos stage).0 (run_inv r (world t.start) (events_to t) (start_inv r t.start pos))
 
@@ -203,9 +204,6 @@ ready r t made ahead pos left =
 
 -- swaps of before a turn
 
-abbrev since : ℕ → Accepted → Bool
-since k a = nat_le k a.number
-
 none_at : (k n : ℕ) (o : Option Swap) (b c : Bool) → n < k → filter (since k) (cond b (cond c (accepted_as n o) []) []) ≡ []
 none_at k n o false c l = refl
 none_at k n o true false l = refl
@@ -218,14 +216,14 @@ all_at k n o true false l = refl
 all_at k n None true true l = refl
 all_at k n (Some s) true true l = (let a : Accepted = record { number = n; swap = s } in ap (λ b. cond b (a ∷ []) []) (le-leb k n l))
 
-step_bounds : (r : Run) (x : Standing) → (x.done ≤ (step r x).done) × ((step r x).done ≤ x.done + 1)
+pub step_bounds : (r : Run) (x : Standing) → (x.done ≤ (step r x).done) × ((step r x).done ≤ x.done + 1)
 step_bounds r x = by_heat (is_some x.heat)
   where
     by_heat : (b : Bool) → (x.done ≤ (cond b (after_move r x (judged_here r x x.done)) x).done) × ((cond b (after_move r x (judged_here r x x.done)) x).done ≤ x.done + 1)
     by_heat true = (omega arith, omega arith)
     by_heat false = (omega arith, omega arith)
 
-forgotten : (r : Run) (x : Standing) (n k : ℕ) → x.done + n ≤ k → filter (since k) (accepted_from r x n) ≡ []
+pub forgotten : (r : Run) (x : Standing) (n k : ℕ) → x.done + n ≤ k → filter (since k) (accepted_from r x n) ≡ []
 forgotten r x zero k l = refl
 forgotten r x (suc n) k l =
     let j = judged_here r x x.done in
@@ -233,7 +231,7 @@ forgotten r x (suc n) k l =
     filter-append (since k) (accepted_at r x) (accepted_from r (step r x) n)
     ∙ (λ i. none_at k x.done j.swap (is_some x.heat) j.accepted (omega (arith, l)) i ++ forgotten r (step r x) n k (omega (arith, l, high)) i)
 
-kept_since : (r : Run) (x : Standing) (n k : ℕ) → k ≤ x.done → filter (since k) (accepted_from r x n) ≡ accepted_from r x n
+pub kept_since : (r : Run) (x : Standing) (n k : ℕ) → k ≤ x.done → filter (since k) (accepted_from r x n) ≡ accepted_from r x n
 kept_since r x zero k l = refl
 kept_since r x (suc n) k l =
     let j = judged_here r x x.done in
@@ -243,7 +241,7 @@ kept_since r x (suc n) k l =
 
 -- a turn of so many moves, and so many ahead
 
-turn_leads : (r : Run) (t : LastTurn) (made ahead : ℕ) → 0 < r.plan.moves → IsOfAStage r t → made + ahead ≤ moves_left r (stands r t)
+pub turn_leads : (r : Run) (t : LastTurn) (made ahead : ℕ) → 0 < r.plan.moves → IsOfAStage r t → made + ahead ≤ moves_left r (stands r t)
     → forget (stands r t).done (run_through r (world_behind r t) (events_from (stands r t).done t.ahead made ahead)) ≡ world_behind r (record { start = stands r t; made = made; ahead = ahead })
 turn_leads r t made ahead pos stage left =
     let x = t.start in

@@ -1,5 +1,5 @@
 -- What an annealer keeps, as contracts see it (our own).
-use Rattle.std.specs.Prelude.{ℕ, ◌≡◌, ◌+◌, ◌*◌, ◌<◌, ◌≤◌, Bool, true, false, if◌then◌else◌, ◌==◌, List, Option, Some, None}
+use Rattle.std.specs.Prelude.{ℕ, ◌≡◌, ◌+◌, ◌*◌, ◌<◌, ◌≤◌, Bool, true, false, if◌then◌else◌, ◌==◌, List, [], Option, Some, None}
 use Rattle.fab_arch.specs.declared.array.Site.{Site}
 use Rattle.fab_arch.specs.Grid.{GridShape}
 use Rattle.fab_net.specs.Netlist.{Netlist}
@@ -11,12 +11,16 @@ use Rattle.fab_move.specs.Judge.{problem}
 use Rattle.fab_commit.specs.declared.turns.Turn.{Turn}
 use Rattle.fab_commit.specs.declared.turns.Turn.TheVariants.{More, Finished}
 use Rattle.fab_commit.specs.declared.states.State.{State}
+use Rattle.fab_commit.specs.declared.verdicts.Accepted.{Accepted}
+use Rattle.fab_commit.specs.declared.verdicts.Verdict.{Verdict}
 use Rattle.fab_commit.specs.Serial.{Run, Standing, one_if, side}
+use Rattle.fab_commit.specs.World.{World}
 
 abbrev pub run : Netlist → GridShape → List (Option Site) → (ℕ → List ℕ) → Plan → Run
 run d g fixed words plan = record { problem = problem d g fixed words; plan = plan }
 
--- an annealer: what its run is given, where it stands, and the numbers of the moves that it accepted
+-- an annealer: what its run is given, where it stands, what was judged ahead of that, the swaps that its last turn accepted,
+-- the numbers of all moves that it accepted, and how many it judged again
 pub record AnnealOf (W : Type 0) : Type 0 where
   pub design : Netlist
   pub grid : GridShape
@@ -24,13 +28,20 @@ pub record AnnealOf (W : Type 0) : Type 0 where
   pub plan : Plan
   pub words : W
   pub standing : Standing
+  pub ahead : List Verdict
+  pub swaps : List Accepted
   pub accepted : List ℕ
+  pub redone : ℕ
+
+-- an annealer between turns, as a world: both placements are where it stands, and nothing is claimed
+abbrev pub world_of : {W : Type 0} → AnnealOf W → World
+world_of a = record { live = a.standing; older = a.standing; claims = []; verdicts = a.ahead; accepted = a.swaps }
 
 -- the run of an annealer, where a value of `W` stands for these words
 abbrev pub run_of : {W : Type 0} → (W → ℕ → List ℕ) → AnnealOf W → Run
 run_of moves a = run a.design a.grid a.fixed (moves a.words) a.plan
 
--- all but the standing and what was accepted stays
+-- what its run is given stays
 pub record IsSameRun {W : Type 0} (a b : AnnealOf W) : Type 0 where
   pub design : b.design ≡ a.design
   pub grid : b.grid ≡ a.grid

@@ -10,5 +10,9 @@ pub mod Laws
 pub mod TurnEvents
 pub mod Turns
 pub mod TurnLaws
+pub mod RunLaws
 pub mod TurnExamples
 pub mod Pipelines
+pub mod ByTurns
+pub mod StampTables
+pub mod Owners

@@ -1,40 +1,60 @@
--- An annealer that judges ahead, as contracts see it (our own).
-use Rattle.std.specs.Prelude.{ℕ, ◌≡◌, ◌+◌, ◌≤◌, min, List, ◌++◌, map, Option}
-use Rattle.std.specs.List.{count_by, range_with_len}
-use Rattle.fab_arch.specs.declared.array.Site.{Site}
-use Rattle.fab_arch.specs.Grid.{GridShape}
-use Rattle.fab_net.specs.Netlist.{Netlist}
-use Rattle.fab_move.specs.Judge.{Judged}
-use Rattle.fab_sched.specs.Annealing.{Plan}
-use Rattle.fab_commit.specs.Serial.{Run, accepted_among, judged_here, moves_left}
-use Rattle.fab_commit.specs.TurnEvents.{LastTurn, is_redone_behind, next_turn, stands}
-use Rattle.fab_commit.specs.Turns.{redone_next}
+-- What an annealer that judges ahead keeps, as contracts see it (our own).
+use Rattle.std.specs.Prelude.{ℕ, ◌≡◌, ◌+◌, List, [], ◌++◌, length, map}
+use Rattle.std.specs.List.{count_by, filter, range_with_len}
+use Rattle.fab_sched.specs.Annealing.{IsLawful}
+use Rattle.fab_move.specs.declared.verdicts.Verdict.{Verdict as Answer}
+use Rattle.fab_commit.specs.declared.pipelines.Pipeline.{Pipeline}
+use Rattle.fab_commit.specs.declared.verdicts.Accepted.{Accepted}
+use Rattle.fab_commit.specs.Serial.{Run, Standing, accepted_among}
+use Rattle.fab_commit.specs.Commits.{IsSound, standing_of}
+use Rattle.fab_commit.specs.History.{accepted_from}
+use Rattle.fab_commit.specs.Owners.{AreAnswers, IsOwned, KeepsKind, since, verdict_of}
+use Rattle.fab_commit.specs.StampTables.{AreStamps}
+use Rattle.fab_commit.specs.Stamps.{AreBefore}
+use Rattle.fab_commit.specs.World.{World}
+use Rattle.fab_commit.specs.TurnEvents.{LastTurn, IsOfAStage, is_redone_behind, stands, verdict_on}
 
--- what its run is given, its last turn, the numbers of the moves that it accepted, and how many it made anew
-pub record PipelineOf (W : Type 0) : Type 0 where
-  pub design : Netlist
-  pub grid : GridShape
-  pub fixed : List (Option Site)
-  pub plan : Plan
-  pub words : W
-  pub last : LastTurn
-  pub accepted : List ℕ
-  pub redone : ℕ
+-- an answer for move k on a placement
+pub record IsAnswer (r : Run) (x : Standing) (k : ℕ) (a : Answer) : Type 0 where
+  pub is : verdict_of x.done a ≡ verdict_on r x k
+  pub kind : KeepsKind r.problem.grid a
 
--- what was judged ahead: the moves behind the last turn, on the placement at its start
-abbrev pub judged_ahead : Run → LastTurn → List Judged
-judged_ahead r t = map (judged_here r t.start) (range_with_len (stands r t).done t.ahead)
+-- what is kept behind a turn: both placements stand where it led, what was judged ahead are the moves behind it on the
+-- placement at its start, and the stamps are those of all accepted moves, of which the turn's are the last
+pub record IsBehind (r : Run) (t : LastTurn) (s : Pipeline) : Type 0 where
+  pub plan : IsLawful r.plan
+  pub stage : IsOfAStage r t
+  pub owned : IsOwned r s.owner
+  pub older : IsSound r s.older
+  pub same : standing_of s.older ≡ standing_of s.owner.state
+  pub here : standing_of s.owner.state ≡ stands r t
+  pub done_is : s.owner.state.done ≡ t.start.done + t.made
+  pub base_is : s.base ≡ t.start.done
+  pub many : length s.ahead.items ≡ t.ahead
+  pub answers_are : AreAnswers r t.start s.owner.state.done s.ahead.items
+  pub swaps : s.owner.swaps.items ≡ accepted_from r t.start t.made
+  pub log : List Accepted
+  pub stamps : AreStamps r.problem.design r.problem.grid s.owner.stamps log
+  pub before : AreBefore s.owner.state.done log
+  pub recent : filter (since t.start.done) log ≡ accepted_from r t.start t.made
 
--- what a turn that is answered leaves
-pub record IsTurned {W : Type 0} (r : Run) (batch : ℕ) (a b : PipelineOf W) : Type 0 where
-  pub last : b.last ≡ next_turn r batch a.last
-  pub accepted : b.accepted ≡ a.accepted ++ accepted_among r (stands r a.last) b.last.made
-  pub redone : b.redone ≡ a.redone + redone_next r batch a.last
+-- a turn behind turn t that made so many moves, and judged so many ahead
+pub record HasTurned (r : Run) (t : LastTurn) (s : Pipeline) (made ahead : ℕ) (now : Pipeline) : Type 0 where
+  pub behind : IsBehind r (record { start = stands r t; made = made; ahead = ahead }) now
+  pub accepted : now.owner.state.accepted.items ≡ s.owner.state.accepted.items ++ accepted_among r (stands r t) made
+  pub redone : now.owner.redone ≡ s.owner.redone + count_by (is_redone_behind r t) (range_with_len (stands r t).done made)
 
--- what a turn leaves where memory is short: some of its moves are made, and no verdict stands
-pub record IsCutShort {W : Type 0} (r : Run) (batch : ℕ) (a b : PipelineOf W) : Type 0 where
-  pub made : ℕ
-  pub within : made ≤ min batch (moves_left r (stands r a.last))
-  pub last : b.last ≡ record { start = stands r a.last; made = made; ahead = 0 }
-  pub accepted : b.accepted ≡ a.accepted ++ accepted_among r (stands r a.last) made
-  pub redone : b.redone ≡ a.redone + count_by (is_redone_behind r a.last) (range_with_len (stands r a.last).done made)
+-- some turn led here
+abbrev pub HasTurn : Run → Pipeline → Type 0
+HasTurn r s = (t : LastTurn) × IsBehind r t s
+
+-- what is kept between turns, as a world: both placements are where it stands, and nothing is claimed
+abbrev pub world_in : Pipeline → World
+world_in s =
+    record {
+      live = standing_of s.owner.state;
+      older = standing_of s.owner.state;
+      claims = [];
+      verdicts = map (verdict_of s.base) s.ahead.items;
+      accepted = s.owner.swaps.items;
+    }

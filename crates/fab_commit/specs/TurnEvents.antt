@@ -48,6 +48,11 @@ forget n w = record w { accepted = filter (λ (a : Accepted). nat_le n a.number)
 abbrev pub turn : Run → ℕ → World → World
 turn r batch w = forget w.live.done (run_through r w (turn_events r batch w))
 
+-- a turn of so many moves that judges so many behind them, whatever was asked for
+abbrev pub turn_making : Run → ℕ → ℕ → World → World
+turn_making r made ahead w =
+    forget w.live.done (run_through r w (events_from w.live.done (length w.verdicts) made ahead))
+
 -- what the last turn was: where it began, how many moves it made, and how many behind them it judged
 pub record LastTurn : Type 0 where
   pub start : Standing

@@ -1,5 +1,5 @@
 -- Turns one after another, as an annealer makes them (our own).
-use Rattle.std.specs.Prelude.{ℕ, ◌≡◌, zero, suc, ◌+◌, ◌-◌, ◌*◌, ◌/◌, ◌%◌, max, List, [], ◌∷◌, map, refl}
+use Rattle.std.specs.Prelude.{ℕ, ◌≡◌, ◌+◌, ◌-◌, ◌*◌, ◌/◌, ◌%◌, max, List, [], ◌∷◌, map, refl}
 use Rattle.std.specs.List.{count_by, range_with_len}
 use Rattle.fab_commit.specs.Serial.{Run, Standing}
 use Rattle.fab_commit.specs.World.{World}

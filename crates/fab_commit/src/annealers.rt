@@ -1,20 +1,32 @@
-//! An annealer of one thread: moves are judged and committed one after another.
+//! An annealer: moves are judged ahead by workers, and committed in order of number.
 
-ghost use Rattle.std.specs.Prelude.{◌≡◌, ℕ, ◌+◌, ◌-◌, ◌≤◌, ◌++◌, [], min, IfOk, OnOk};
+ghost use Rattle.std.specs.Prelude.{◌≡◌, ℕ, ◌+◌, ◌-◌, ◌<◌, ◌≤◌, ◌++◌, [], map, min, take, IfOk, OnOk, OnErr};
+ghost use Rattle.std.specs.List.{count_by, range_with_len};
 ghost use Rattle.fab_cost.specs.Cost.{cost_of};
 ghost use Rattle.fab_site.specs.Placement.{IsLegal};
-ghost use Rattle.fab_commit.specs.Serial.{Run, IsStanding, accepted_among, at_start, from, moves_left, stage_of};
-ghost use Rattle.fab_commit.specs.Commits.{IsSameRun, run, run_of, turn_of};
+ghost use Rattle.fab_move.specs.Judge.{says};
+ghost use Rattle.fab_commit.specs.declared.verdicts.Verdict.{Verdict as Judged};
+ghost use Rattle.fab_commit.specs.Serial.{IsStanding, accepted_among, at_start, from, judged_here, moves_left, stage_of};
+ghost use Rattle.fab_commit.specs.Commits.{IsSameRun, run, run_of, turn_of, world_of};
+ghost use Rattle.fab_commit.specs.ByTurns.{LeadsByTurns};
+ghost use Rattle.fab_commit.specs.RunLaws.{is_redone_way};
+ghost use Rattle.fab_commit.specs.TurnEvents.{turn, turn_events, turn_making};
+ghost use Rattle.fab_commit.specs.World.{ways};
 
-use crate::states::{Given, State, first_state, make_moves, moves_left};
+use crate::pipelines::{Pipeline, first_pipeline, turn};
+use crate::states::{Given, first_state, running};
 use crate::turns::Turn;
 use fab_arch::Grid;
+use fab_board::Gate;
 use fab_cost::WireCost;
+use fab_move::Verdict;
 use fab_net::Design;
 use fab_sched::{Schedule, Stage};
 use fab_site::{Fixed, Placement, Words};
 use std::alloc::{AllocError, Global};
 use std::marker::Model;
+use std::sync::Wait;
+use std::thread::Threads;
 
 /// Anneals a placement of a design on an array.
 #[derive(Drop)]
@@ -24,11 +36,14 @@ pub struct Anneal<'a, W: Words + Drop> {
     fixed: Fixed,
     schedule: Schedule,
     words: W,
-    state: State,
+    pipeline: Pipeline,
 }
 
 impl<'a, W: Words + Drop> Model for Anneal<'a, W> {
-    ghost use Rattle.fab_commit.specs.Commits.{AnnealOf, IsSound, run, standing_of};
+    ghost use Rattle.std.specs.Prelude.{map};
+    ghost use Rattle.fab_commit.specs.Commits.{AnnealOf, run, standing_of};
+    ghost use Rattle.fab_commit.specs.Owners.{verdict_of};
+    ghost use Rattle.fab_commit.specs.Pipelines.{HasTurn};
 
     ghost Value = { AnnealOf W };
 
@@ -38,11 +53,14 @@ impl<'a, W: Words + Drop> Model for Anneal<'a, W> {
       fixed = a.fixed;
       plan = a.schedule;
       words = a.words;
-      standing = standing_of a.state;
-      accepted = a.state.accepted.items;
+      standing = standing_of a.pipeline.owner.state;
+      ahead = map (verdict_of a.pipeline.base) a.pipeline.ahead.items;
+      swaps = a.pipeline.owner.swaps.items;
+      accepted = a.pipeline.owner.state.accepted.items;
+      redone = a.pipeline.owner.redone;
     } };
 
-    ghost invariant = { λ a. IsSound (run a.design.now a.grid.now a.fixed (W.moves a.words) a.schedule) a.state };
+    ghost invariant = { λ a. HasTurn (run a.design.now a.grid.now a.fixed (W.moves a.words) a.schedule) a.pipeline };
 }
 
 impl<'a, W: Words + Drop> Anneal<'a, W> {
@@ -58,16 +76,25 @@ impl<'a, W: Words + Drop> Anneal<'a, W> {
     ) -> Result<Anneal<'a, W>, AllocError>
         requires legal { IsLegal design.now grid.now fixed placement.sites }
         requires array { placement.grid ≡ grid.now }
-        ensures { IfOk result (λ a. a ≡ record { design = design.now; grid = grid.now; fixed = fixed; plan = schedule; words = words; standing = at_start (run design.now grid.now fixed (W.moves words) schedule) placement.sites; accepted = [] }) }
+        ensures { IfOk result (λ a. a ≡ record { design = design.now; grid = grid.now; fixed = fixed; plan = schedule; words = words; standing = at_start (run design.now grid.now fixed (W.moves words) schedule) placement.sites; ahead = []; swaps = []; accepted = []; redone = 0 }) }
     {
-        let state = first_state(alloc, design, grid, &fixed, &schedule, placement)?;
+        let _moves = schedule.moves();
+        let live = first_state(alloc, design, grid, &fixed, &schedule, placement)?;
+        let given = Given {
+            design,
+            grid,
+            fixed: &fixed,
+            schedule: &schedule,
+            words: &words,
+        };
+        let pipeline = first_pipeline(alloc, &given, live)?;
         Ok(Anneal {
             design,
             grid,
             fixed,
             schedule,
             words,
-            state,
+            pipeline,
         })
     }
 
@@ -77,21 +104,21 @@ impl<'a, W: Words + Drop> Anneal<'a, W> {
         // Where it stands is a lawful place of its run.
         ensures lawful { IsStanding (run_of W.moves self.now) self.now.standing }
     {
-        self.state.done
+        self.pipeline.owner.state.done
     }
 
     /// How many moves were accepted in all.
     pub fn total(&self) -> u64
         ensures { result ≡ self.now.standing.total }
     {
-        self.state.total
+        self.pipeline.owner.state.total
     }
 
     /// The wire cost of the placement in ten-thousandths: one sum over all nets.
     pub fn cost(&self) -> u64
         ensures { result ≡ cost_of self.now.design self.now.grid self.now.standing.sites }
     {
-        self.state.cost.cost()
+        self.pipeline.owner.state.cost.cost()
     }
 
     /// The placement as it stands.
@@ -100,38 +127,13 @@ impl<'a, W: Words + Drop> Anneal<'a, W> {
         ensures sites { result.now.sites ≡ self.now.standing.sites }
         ensures legal { IsLegal self.now.design self.now.grid self.now.fixed self.now.standing.sites }
     {
-        &self.state.placement
+        &self.pipeline.owner.state.placement
     }
 
     /// The stage of the next move, `None` after the last one.
     pub fn stage(&self) -> Option<Stage>
         ensures { result ≡ stage_of (run_of W.moves self.now) self.now.standing }
     {
-        if self.state.ended {
-            None
-        } else {
-            Some(self.state.stage)
-        }
-    }
-
-    /// The numbers of the moves that this value accepted, in order.
-    pub fn accepted(&self) -> &[u64]
-        ensures { result.now ≡ self.now.accepted }
-    {
-        &self.state.accepted
-    }
-
-    /// Makes the next moves of the running stage, at most `batch` of them. `Finished` where no move is left then. Where
-    /// memory is short, it stands behind the moves that it made, as `done` says.
-    pub fn turn_alone(&mut self, alloc: Global, batch: u64) -> Result<Turn, AllocError>
-        ensures same { IsSameRun self.old self.new }
-        ensures stands { self.new.standing ≡ from (run_of W.moves self.old) self.old.standing (self.new.standing.done - self.old.standing.done) }
-        ensures accepted { self.new.accepted ≡ self.old.accepted ++ accepted_among (run_of W.moves self.old) self.old.standing (self.new.standing.done - self.old.standing.done) }
-        ensures ok { OnOk result (self.new.standing.done ≡ self.old.standing.done + min batch (moves_left (run_of W.moves self.old) self.old.standing)) }
-        ensures within { (self.old.standing.done ≤ self.new.standing.done) × (self.new.standing.done ≤ self.old.standing.done + min batch (moves_left (run_of W.moves self.old) self.old.standing)) }
-        ensures turn { IfOk result (λ t. t ≡ turn_of self.new.standing.heat) }
-    {
-        let moves = batch.min(moves_left(&self.schedule, &self.state));
         let given = Given {
             design: self.design,
             grid: self.grid,
@@ -139,8 +141,78 @@ impl<'a, W: Words + Drop> Anneal<'a, W> {
             schedule: &self.schedule,
             words: &self.words,
         };
-        make_moves(alloc, &given, &mut self.state, moves)?;
-        Ok(if self.state.ended {
+        running(&given, &self.pipeline.owner.state)
+    }
+
+    /// The numbers of the moves that this value accepted, in order.
+    pub fn accepted(&self) -> &[u64]
+        ensures { result.now ≡ self.now.accepted }
+    {
+        &self.pipeline.owner.state.accepted
+    }
+
+    /// What was judged ahead, in order of number: the next moves of the stage, on the placement at the last turn's start.
+    pub fn ahead(&self) -> &[Verdict]
+        ensures numbers { map (λ v. v.k) result.now ≡ map (λ (v : Judged). v.number) self.now.ahead }
+        ensures says { map says result.now ≡ map (λ (v : Judged). v.judged) self.now.ahead }
+    {
+        &self.pipeline.ahead
+    }
+
+    /// How many moves were judged again, because a move that was accepted before them had touched what their verdicts
+    /// rested on.
+    pub fn redone(&self) -> u64
+        ensures { result ≡ self.now.redone }
+    {
+        self.pipeline.owner.redone
+    }
+}
+
+impl<'a, W: Words + Sync + Drop> Anneal<'a, W> {
+    /// Makes the next moves of the running stage, at most `batch` of them, from 1 to 4,096. `Finished` where no move is left
+    /// then.
+    ///
+    /// While they are committed in order of number, `workers` workers, from 1 to 64, judge as many moves of the stage behind
+    /// them on the placement at the turn's start, which nobody changes meanwhile. What was judged ahead so before and is not
+    /// asked for now is lost, and what is missing of this batch is judged first. A move whose verdict rests on something that
+    /// a move accepted since has touched is judged again. The gate is called before and after each judgement of a worker, and
+    /// before each commit.
+    ///
+    /// Where memory is short, the moves that were committed stay, as `done` says, all workers have ended, nothing is judged
+    /// ahead, and another turn goes on.
+    pub fn turn<G: Gate, R: Threads + Wait + Sync>(
+        &mut self,
+        rt: &R,
+        alloc: Global,
+        batch: u64,
+        workers: u64,
+        gate: &G,
+    ) -> Result<Turn, AllocError>
+        requires batch { (1 ≤ batch) × (batch ≤ 4096) }
+        requires workers { (1 ≤ workers) × (workers ≤ 64) }
+        ensures same { IsSameRun self.old self.new }
+        // So many moves are made, one at a time.
+        ensures stands { self.new.standing ≡ from (run_of W.moves self.old) self.old.standing (self.new.standing.done - self.old.standing.done) }
+        ensures accepted { self.new.accepted ≡ self.old.accepted ++ accepted_among (run_of W.moves self.old) self.old.standing (self.new.standing.done - self.old.standing.done) }
+        ensures ok { OnOk result (self.new.standing.done ≡ self.old.standing.done + min batch (moves_left (run_of W.moves self.old) self.old.standing)) }
+        ensures within { (self.old.standing.done ≤ self.new.standing.done) × (self.new.standing.done ≤ self.old.standing.done + min batch (moves_left (run_of W.moves self.old) self.old.standing)) }
+        ensures turn { IfOk result (λ t. t ≡ turn_of self.new.standing.heat) }
+        // It is a run of a world over a turn's events; where memory is short, of one that judges nothing ahead.
+        ensures world { OnOk result (world_of self.new ≡ turn (run_of W.moves self.old) batch (world_of self.old)) }
+        ensures cut { OnErr result (world_of self.new ≡ turn_making (run_of W.moves self.old) (self.new.standing.done - self.old.standing.done) 0 (world_of self.old)) }
+        ensures redone { self.new.redone ≡ self.old.redone + count_by is_redone_way (take (self.new.standing.done - self.old.standing.done) (ways (run_of W.moves self.old) (world_of self.old) (turn_events (run_of W.moves self.old) batch (world_of self.old)))) }
+        // Whatever standing turns of this batch led on from, this is one more of them.
+        ensures turns { OnOk result (LeadsByTurns (run_of W.moves self.old) batch self.old self.new) }
+    {
+        let given = Given {
+            design: self.design,
+            grid: self.grid,
+            fixed: &self.fixed,
+            schedule: &self.schedule,
+            words: &self.words,
+        };
+        turn(rt, alloc, &given, &mut self.pipeline, batch, workers, gate)?;
+        Ok(if self.pipeline.owner.state.ended {
             Turn::Finished
         } else {
             Turn::More

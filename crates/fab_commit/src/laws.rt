@@ -2,6 +2,7 @@
 //! contract is a law has nothing to do.
 
 ghost use Rattle.fab_commit.specs.Laws.{AcceptedSwapsAreSerial, MovesCompose, PlacementsStayLegal, RedoneIsSerial, StampsTell, VerdictsAreOfTheirBase};
+ghost use Rattle.fab_commit.specs.RunLaws.{RedoneInRuns, WaysOfABeginning, WaysOfATurn, WaysOfRuns};
 ghost use Rattle.fab_commit.specs.TurnLaws.{EveryBatchIsSerial, RedoneByStamps, TurnsAreReached, TurnsLeadOn, WaysOfTurns};
 
 /// The law that so many moves and then more are all of them together.
@@ -43,4 +44,15 @@ pub fn turns_are_serial()
     ensures batches { EveryBatchIsSerial }
     ensures ways { WaysOfTurns }
     ensures stamps { RedoneByStamps }
+{}
+
+/// The law of how many moves are redone. The first moves of a turn, a turn, and turns of any batches are told as redone as
+/// often as moves one at a time and their bases say. Where all turns have one batch, arithmetic alone tells the bases: what
+/// the run makes of a stage is cut into batches, and a move is first judged where the batch before its own began, or where
+/// its own began, if that is the first.
+pub fn redone_is_told()
+    ensures beginning { WaysOfABeginning }
+    ensures turn { WaysOfATurn }
+    ensures ways { WaysOfRuns }
+    ensures runs { RedoneInRuns }
 {}

@@ -6,9 +6,16 @@ mod claims;
 mod clashes;
 pub mod events;
 pub mod laws;
+mod owners;
+mod pipelines;
+mod stamp_tables;
 mod states;
 #[cfg(test)]
 mod tests;
+#[cfg(test)]
+mod turn_tables;
+#[cfg(test)]
+mod turn_tests;
 pub mod turns;
 mod verdicts;
 mod world_states;
@@ -21,7 +28,7 @@ pub mod worlds;
 pub use annealers::Anneal;
 pub use events::{Event, Way, every_schedule_is_serial};
 pub use laws::{
-    moves_compose, placements_stay_legal, spoiled_verdicts_are_serial, stamps_tell,
+    moves_compose, placements_stay_legal, redone_is_told, spoiled_verdicts_are_serial, stamps_tell,
     turns_are_serial, verdicts_are_of_their_base,
 };
 pub use turns::Turn;

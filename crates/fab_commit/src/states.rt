@@ -5,7 +5,7 @@ ghost use Rattle.fab_sched.specs.Annealing.{IsStage, next_range};
 ghost use Rattle.fab_site.specs.Placement.{IsLegal, IsSwapOf};
 ghost use Rattle.fab_cost.specs.Swapping.{CountedStandsFor};
 ghost use Rattle.fab_move.specs.Judge.{judged, moved, says};
-ghost use Rattle.fab_commit.specs.Serial.{Run, accepted_among, accepted_here, after_move, at_start, from, judged_here, left_at, moves_left, numbers_if, one_if, side, step};
+ghost use Rattle.fab_commit.specs.Serial.{Run, after_move, at_start, judged_here, left_at, numbers_if, one_if, side, stage_of};
 ghost use Rattle.fab_commit.specs.Commits.{IsAdvanced, IsSound, heat_of, run, standing_of};
 
 use fab_arch::Grid;
@@ -116,6 +116,7 @@ fn count(accepted: &mut Vec<u64>, total: &mut u64, number: u64, took: bool)
     requires few { total.old < 2 ^ 61 }
     ensures accepted { accepted.new.items ≡ accepted.old.items ++ numbers_if number took }
     ensures total { total.new ≡ total.old + one_if took }
+    ensures room { (vec_len accepted.new ≤ vec_len accepted.old + 1) × (vec_capacity accepted.new ≡ vec_capacity accepted.old) }
 {
     if took {
         accepted.push_reserved(number);
@@ -132,6 +133,7 @@ pub(crate) fn commit<W: Words>(given: &Given<'_, W>, state: &mut State, verdict:
     requires says { says verdict.now ≡ judged_here (run given.now.design.now given.now.grid.now given.now.fixed.now (W.moves given.now.words.now) given.now.schedule.now) (standing_of state.old) state.old.done }
     ensures stands { standing_of state.new ≡ after_move (run given.now.design.now given.now.grid.now given.now.fixed.now (W.moves given.now.words.now) given.now.schedule.now) (standing_of state.old) (says verdict.now) }
     ensures accepted { state.new.accepted.items ≡ state.old.accepted.items ++ numbers_if state.old.done verdict.now.accepted }
+    ensures room { (vec_len state.new.accepted ≤ vec_len state.old.accepted + 1) × (vec_capacity state.new.accepted ≡ vec_capacity state.old.accepted) }
     ensures sound { IsSound (run given.now.design.now given.now.grid.now given.now.fixed.now (W.moves given.now.words.now) given.now.schedule.now) state.new }
 {
     let side = side_of(given.grid);
@@ -164,6 +166,7 @@ pub(crate) fn judge_on<W: Words>(
 ) -> Result<Verdict, AllocError>
     requires sound { IsSound (run given.now.design.now given.now.grid.now given.now.fixed.now (W.moves given.now.words.now) given.now.schedule.now) state.now }
     requires going { state.now.ended ≡ false }
+    ensures number { IfOk result (λ v. v.k ≡ number) }
     ensures lawful { IfOk result (λ v. (s : Swap) → v.swap ≡ Some s → IsSwapOf state.now.placement.grid state.now.placement.sites s) }
     ensures says { IfOk result (λ v. says v ≡ judged_here (run given.now.design.now given.now.grid.now given.now.fixed.now (W.moves given.now.words.now) given.now.schedule.now) (standing_of state.now) number) }
 {
@@ -180,44 +183,13 @@ pub(crate) fn judge_on<W: Words>(
     judge(alloc, &view, number)
 }
 
-/// Makes the next move. Where memory is short, all stays as it was.
-fn make_move<W: Words>(
-    alloc: Global,
-    given: &Given<'_, W>,
-    state: &mut State,
-) -> Result<(), AllocError>
-    requires sound { IsSound (run given.now.design.now given.now.grid.now given.now.fixed.now (W.moves given.now.words.now) given.now.schedule.now) state.old }
-    requires going { state.old.ended ≡ false }
-    ensures sound { IsSound (run given.now.design.now given.now.grid.now given.now.fixed.now (W.moves given.now.words.now) given.now.schedule.now) state.new }
-    ensures stands { OnOk result (standing_of state.new ≡ step (run given.now.design.now given.now.grid.now given.now.fixed.now (W.moves given.now.words.now) given.now.schedule.now) (standing_of state.old)) }
-    ensures accepted { OnOk result (state.new.accepted.items ≡ state.old.accepted.items ++ accepted_here (run given.now.design.now given.now.grid.now given.now.fixed.now (W.moves given.now.words.now) given.now.schedule.now) (standing_of state.old)) }
-    ensures same { OnErr result ((standing_of state.new ≡ standing_of state.old) × (state.new.accepted.items ≡ state.old.accepted.items)) }
+/// The running stage, `None` after the last move.
+pub(crate) fn running<W: Words>(given: &Given<'_, W>, state: &State) -> Option<Stage>
+    requires { IsSound (run given.now.design.now given.now.grid.now given.now.fixed.now (W.moves given.now.words.now) given.now.schedule.now) state.now }
+    ensures { result ≡ stage_of (run given.now.design.now given.now.grid.now given.now.fixed.now (W.moves given.now.words.now) given.now.schedule.now) (standing_of state.now) }
 {
-    let verdict = judge_on(alloc, given, state, state.done)?;
-    state.accepted.reserve(1)?;
-    commit(given, state, &verdict);
-    Ok(())
-}
-
-/// Makes so many moves of the running stage. Where memory is short, it stands behind the moves that it made.
-pub(crate) fn make_moves<W: Words>(
-    alloc: Global,
-    given: &Given<'_, W>,
-    state: &mut State,
-    moves: u64,
-) -> Result<(), AllocError>
-    requires sound { IsSound (run given.now.design.now given.now.grid.now given.now.fixed.now (W.moves given.now.words.now) given.now.schedule.now) state.old }
-    requires left { moves ≤ moves_left (run given.now.design.now given.now.grid.now given.now.fixed.now (W.moves given.now.words.now) given.now.schedule.now) (standing_of state.old) }
-    ensures sound { IsSound (run given.now.design.now given.now.grid.now given.now.fixed.now (W.moves given.now.words.now) given.now.schedule.now) state.new }
-    ensures stands { standing_of state.new ≡ from (run given.now.design.now given.now.grid.now given.now.fixed.now (W.moves given.now.words.now) given.now.schedule.now) (standing_of state.old) (state.new.done - state.old.done) }
-    ensures accepted { state.new.accepted.items ≡ state.old.accepted.items ++ accepted_among (run given.now.design.now given.now.grid.now given.now.fixed.now (W.moves given.now.words.now) given.now.schedule.now) (standing_of state.old) (state.new.done - state.old.done) }
-    ensures ok { OnOk result (state.new.done ≡ state.old.done + moves) }
-    ensures within { (state.old.done ≤ state.new.done) × (state.new.done ≤ state.old.done + moves) }
-{
-    'moves: for made in 0..moves {
-        make_move(alloc, given, state)?;
-    }
-    Ok(())
+    let _moves = given.schedule.moves();
+    if state.ended { None } else { Some(state.stage) }
 }
 
 /// How many moves the running stage still has.

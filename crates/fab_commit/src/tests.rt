@@ -2,12 +2,15 @@ ghost use Rattle.std.specs.Prelude.{◌≡◌, IfOk};
 
 use crate::{Anneal, Turn};
 use fab_arch::{Grid, read_arch};
+use fab_board::{Gate, NoGate};
 use fab_move::StreamWords;
 use fab_net::{BlockId, Design, read_net};
 use fab_sched::{SchedFault, Schedule, Stage};
 use fab_site::{Fixed, ListWords, Pins, Placement, Words, is_legal, start};
 use std::alloc::{AllocError, Global};
+use std::sync::Wait;
 use std::test::*;
+use std::thread::Threads;
 
 const HALF: u32 = 2_147_483_648;
 
@@ -66,7 +69,7 @@ fn fixed_there(
 }
 
 /// An annealer at the start placement, with this block fixed where it stands.
-fn annealer<'a, W: Words + Drop>(
+pub(crate) fn annealer<'a, W: Words + Drop>(
     alloc: Global,
     of: &'a Setting,
     block: Option<BlockId>,
@@ -83,6 +86,19 @@ fn annealer<'a, W: Words + Drop>(
     )?)
 }
 
+/// Adds the sites of the blocks to a text.
+pub(crate) fn put_sites(
+    alloc: Global,
+    text: &mut String,
+    placement: &Placement,
+) -> Result<(), AllocError> {
+    for block in 0..placement.blocks().min(65_535) {
+        let site = placement.site_of(BlockId(block as u32));
+        text.push_str(format!(in alloc; " {},{},{}", site.x, site.y, site.sub)?.as_str())?;
+    }
+    Ok(())
+}
+
 /// Where an annealer stands: the moves made and accepted, the cost, the numbers accepted, and the blocks' sites.
 fn told_here<W: Words + Drop>(alloc: Global, anneal: &Anneal<'_, W>) -> Result<String, AllocError> {
     let mut text = format!(in alloc;
@@ -95,11 +111,7 @@ fn told_here<W: Words + Drop>(alloc: Global, anneal: &Anneal<'_, W>) -> Result<S
         text.push_str(format!(in alloc; " {number}")?.as_str())?;
     }
     text.push_str("\nat")?;
-    let placement = anneal.placement();
-    for block in 0..placement.blocks().min(65_535) {
-        let site = placement.site_of(BlockId(block as u32));
-        text.push_str(format!(in alloc; " {},{},{}", site.x, site.y, site.sub)?.as_str())?;
-    }
+    put_sites(alloc, &mut text, anneal.placement())?;
     Ok(text)
 }
 
@@ -128,18 +140,40 @@ fn told_stage<W: Words + Drop>(
     Ok(Some(line))
 }
 
-/// Turns of this batch: the cost before, a line for each stage that ends, and what comes of them.
-fn told<W: Words + Drop>(
+/// How many moves a turn makes at most, and how many workers judge.
+#[derive(Clone, Copy)]
+pub(crate) struct Pace {
+    pub(crate) batch: u64,
+    pub(crate) workers: u64,
+}
+
+/// A turn at this pace, which has to be one that turns take.
+pub(crate) fn turned<W: Words + Sync + Drop, G: Gate, R: Threads + Wait + Sync>(
+    rt: &R,
     alloc: Global,
     anneal: &mut Anneal<'_, W>,
-    batch: u64,
+    pace: Pace,
+    gate: &G,
+) -> Result<Turn, Fail> {
+    if pace.batch < 1 || 4096 < pace.batch || pace.workers < 1 || 64 < pace.workers {
+        return Err(Fail::from("no pace of turns"));
+    }
+    Ok(anneal.turn(rt, alloc, pace.batch, pace.workers, gate)?)
+}
+
+/// Turns at this pace: the cost before, a line for each stage that ends, and what comes of them.
+fn told<W: Words + Sync + Drop, R: Threads + Wait + Sync>(
+    rt: &R,
+    alloc: Global,
+    anneal: &mut Anneal<'_, W>,
+    pace: Pace,
     turns: u64,
-) -> Result<String, AllocError> {
+) -> Result<String, Fail> {
     let mut text = format!(in alloc; "cost {}\n", anneal.cost())?;
     let mut turn = Turn::More;
     for _turn in 0..turns {
         let (stage, total) = (anneal.stage(), anneal.total());
-        turn = anneal.turn_alone(alloc, batch)?;
+        turn = turned(rt, alloc, anneal, pace, &NoGate)?;
         if let Some(stage) = stage {
             if let Some(line) = told_stage(alloc, anneal, stage, total)? {
                 text.push_str(line.as_str())?;
@@ -162,13 +196,47 @@ struct Case<'a> {
     schedule: Schedule,
 }
 
-/// Turns of chosen words.
-fn chosen(alloc: Global, case: Case<'_>, batch: u64, turns: u64) -> Result<String, Fail> {
-    let of = read_setting(alloc, case.arch, case.net)?;
-    let words = list_words(alloc, case.starts, case.moves)?;
-    let mut anneal = annealer(alloc, &of, case.fixed, case.schedule, words)?;
-    Ok(told(alloc, &mut anneal, batch, turns)?)
+/// The same, with the texts read.
+#[derive(Drop)]
+pub(crate) struct Chosen {
+    pub(crate) of: Setting,
+    pub(crate) words: ListWords,
+    pub(crate) fixed: Option<BlockId>,
+    pub(crate) schedule: Schedule,
 }
+
+fn read_case(alloc: Global, case: Case<'_>) -> Result<Chosen, Fail> {
+    Ok(Chosen {
+        of: read_setting(alloc, case.arch, case.net)?,
+        words: list_words(alloc, case.starts, case.moves)?,
+        fixed: case.fixed,
+        schedule: case.schedule,
+    })
+}
+
+/// Turns of chosen words.
+fn run_chosen<R: Threads + Wait + Sync>(
+    rt: &R,
+    alloc: Global,
+    case: Chosen,
+    pace: Pace,
+    turns: u64,
+) -> Result<String, Fail> {
+    let Chosen {
+        of,
+        words,
+        fixed,
+        schedule,
+    } = case;
+    let mut anneal = annealer(alloc, &of, fixed, schedule, words)?;
+    told(rt, alloc, &mut anneal, pace, turns)
+}
+
+/// One move a turn, judged by one worker.
+pub(crate) const ALONE: Pace = Pace {
+    batch: 1,
+    workers: 1,
+};
 
 /// The frozen stage alone, of so many moves.
 fn frozen(moves: u64) -> Result<Schedule, SchedFault> {
@@ -179,7 +247,7 @@ const CLOCKED: &[u8] =
     b".global clk\n.input ck\npinlist: clk\n.clb b1\npinlist: clk\n.clb b2\npinlist: clk\n";
 
 /// One move of two blocks whose only net is global, from this first temperature.
-fn clocked(alloc: Global, init_t: u64) -> Result<String, Fail> {
+fn clocked<R: Threads + Wait + Sync>(rt: &R, alloc: Global, init_t: u64) -> Result<String, Fail> {
     let case = Case {
         arch: b"io_rat 1\ninpin class: 0 global top\n",
         net: CLOCKED,
@@ -188,14 +256,14 @@ fn clocked(alloc: Global, init_t: u64) -> Result<String, Fail> {
         fixed: None,
         schedule: Schedule::new(init_t, 2, 500, 2)?,
     };
-    chosen(alloc, case, 1, 1)
+    run_chosen(rt, alloc, read_case(alloc, case)?, ALONE, 1)
 }
 
 #[test]
 fn a_swap_of_global_nets_costs_nothing(rt: HostRuntime) -> Result<(), Fail> {
     for init_t in [1, 100_000] {
         assert_eq!(rt;
-            clocked(rt.alloc(), init_t)?.as_str(),
+            clocked(&rt, rt.alloc(), init_t)?.as_str(),
             "cost 0\nMore done 1 total 1 cost 0\naccepted 0\nat 0,1,0 2,2,0 1,1,0"
         );
     }
@@ -204,24 +272,52 @@ fn a_swap_of_global_nets_costs_nothing(rt: HostRuntime) -> Result<(), Fail> {
 
 const UNJOINED: &[u8] = b".clb b1\npinlist: x\n.clb b2\npinlist: y\n";
 
-/// Two moves of two blocks to one empty site.
-fn two_to_one_site(alloc: Global, batch: u64) -> Result<String, Fail> {
-    let case = Case {
-        arch: b"io_rat 1\noutpin class: 0 top\n",
-        net: UNJOINED,
-        starts: &[],
-        moves: &[[0, HALF, 0, 0], [HALF, HALF, 0, 0]],
-        fixed: None,
-        schedule: frozen(2)?,
+const DISPLACED: &[u8] =
+    b".clb b1\npinlist: open x\n.clb b2\npinlist: open n\n.clb b3\npinlist: n open\n";
+
+/// Two moves of which the second rests on what the first touches.
+#[derive(Clone, Copy, Debug)]
+pub(crate) enum Clash {
+    /// Two blocks go to one empty site.
+    Site,
+    /// They are joined only by the net of the block that the second displaces.
+    Net,
+}
+
+pub(crate) fn clashing(alloc: Global, clash: Clash) -> Result<Chosen, Fail> {
+    let case = match clash {
+        Clash::Site => Case {
+            arch: b"io_rat 1\noutpin class: 0 top\n",
+            net: UNJOINED,
+            starts: &[],
+            moves: &[[0, HALF, 0, 0], [HALF, HALF, 0, 0]],
+            fixed: None,
+            schedule: frozen(2)?,
+        },
+        Clash::Net => Case {
+            arch: b"io_rat 1\ninpin class: 0 left\noutpin class: 0 right\n",
+            net: DISPLACED,
+            starts: &[],
+            moves: &[[MOST, HALF, 0, 0], [0, HALF, HALF, 0]],
+            fixed: None,
+            schedule: frozen(2)?,
+        },
     };
-    chosen(alloc, case, batch, 3)
+    read_case(alloc, case)
 }
 
 #[test]
 fn the_second_block_at_a_site_takes_it(rt: HostRuntime) -> Result<(), Fail> {
-    for batch in [1, 2] {
+    for (batch, workers) in [(1, 1), (2, 3)] {
         assert_eq!(rt;
-            two_to_one_site(rt.alloc(), batch)?.as_str(),
+            run_chosen(
+                &rt,
+                rt.alloc(),
+                clashing(rt.alloc(), Clash::Site)?,
+                Pace { batch, workers },
+                3
+            )?
+            .as_str(),
             "cost 40000\nstage 0 t 0 range 2000 accepted 2 cost 40000\n\
             Finished done 2 total 2 cost 40000\naccepted 0 1\nat 2,2,0 2,1,0"
         );
@@ -229,27 +325,18 @@ fn the_second_block_at_a_site_takes_it(rt: HostRuntime) -> Result<(), Fail> {
     Ok(())
 }
 
-const DISPLACED: &[u8] =
-    b".clb b1\npinlist: open x\n.clb b2\npinlist: open n\n.clb b3\npinlist: n open\n";
-
-/// Two moves that are joined only by the net of the block that the second displaces.
-fn displaced(alloc: Global, batch: u64) -> Result<String, Fail> {
-    let case = Case {
-        arch: b"io_rat 1\ninpin class: 0 left\noutpin class: 0 right\n",
-        net: DISPLACED,
-        starts: &[],
-        moves: &[[MOST, HALF, 0, 0], [0, HALF, HALF, 0]],
-        fixed: None,
-        schedule: frozen(2)?,
-    };
-    chosen(alloc, case, batch, 2)
-}
-
 #[test]
 fn a_displaced_block_takes_its_nets_along(rt: HostRuntime) -> Result<(), Fail> {
-    for batch in [1, 2] {
+    for (batch, workers) in [(1, 1), (2, 3)] {
         assert_eq!(rt;
-            displaced(rt.alloc(), batch)?.as_str(),
+            run_chosen(
+                &rt,
+                rt.alloc(),
+                clashing(rt.alloc(), Clash::Net)?,
+                Pace { batch, workers },
+                2
+            )?
+            .as_str(),
             "cost 50000\nstage 0 t 0 range 2000 accepted 2 cost 50000\n\
             Finished done 2 total 2 cost 50000\naccepted 0 1\nat 2,2,0 1,1,0 2,1,0"
         );
@@ -261,7 +348,7 @@ const BETWEEN_PADS: &[u8] =
     b".input a\npinlist: n1\n.output z\npinlist: n2\n.clb b\npinlist: n1 n2\n";
 
 /// A block on an array of one site, which the words choose each time, between two pads of which one is fixed.
-fn void_alone(alloc: Global, schedule: Schedule, batch: u64) -> Result<String, Fail> {
+pub(crate) fn void_case(alloc: Global, schedule: Schedule) -> Result<Chosen, Fail> {
     let case = Case {
         arch: b"io_rat 1\ninpin class: 0 left\noutpin class: 1 right\n",
         net: BETWEEN_PADS,
@@ -270,15 +357,22 @@ fn void_alone(alloc: Global, schedule: Schedule, batch: u64) -> Result<String, F
         fixed: Some(BlockId(0)),
         schedule,
     };
-    chosen(alloc, case, batch, 20)
+    read_case(alloc, case)
 }
 
 #[test]
 fn void_moves_are_counted_and_not_accepted(rt: HostRuntime) -> Result<(), Fail> {
     let schedule = Schedule::new(100_000, 10_000, 500, 3)?;
-    for batch in [64, 2] {
+    for (batch, workers) in [(64, 4), (2, 1)] {
         assert_eq!(rt;
-            void_alone(rt.alloc(), schedule, batch)?.as_str(),
+            run_chosen(
+                &rt,
+                rt.alloc(),
+                void_case(rt.alloc(), schedule)?,
+                Pace { batch, workers },
+                20
+            )?
+            .as_str(),
             "cost 40000\n\
             stage 0 t 100000 range 1000 accepted 0 cost 40000\n\
             stage 1 t 50000 range 1000 accepted 0 cost 40000\n\
@@ -295,7 +389,17 @@ fn void_moves_are_counted_and_not_accepted(rt: HostRuntime) -> Result<(), Fail> 
 fn where_nothing_is_accepted_it_cools_in_twelve_stages(rt: HostRuntime) -> Result<(), Fail> {
     let schedule = Schedule::adaptive(100_000, 10_000, 3)?;
     assert_eq!(rt;
-        void_alone(rt.alloc(), schedule, 64)?.as_str(),
+        run_chosen(
+            &rt,
+            rt.alloc(),
+            void_case(rt.alloc(), schedule)?,
+            Pace {
+                batch: 64,
+                workers: 4
+            },
+            20
+        )?
+        .as_str(),
         "cost 40000\n\
         stage 0 t 100000 range 1000 accepted 0 cost 40000\n\
         stage 1 t 80000 range 1000 accepted 0 cost 40000\n\
@@ -315,7 +419,7 @@ fn where_nothing_is_accepted_it_cools_in_twelve_stages(rt: HostRuntime) -> Resul
 }
 
 /// Two moves where there is no block.
-fn without_blocks(alloc: Global) -> Result<String, Fail> {
+fn without_blocks<R: Threads + Wait + Sync>(rt: &R, alloc: Global) -> Result<String, Fail> {
     let case = Case {
         arch: b"io_rat 1\ninpin class: 0 left\n",
         net: b"",
@@ -324,13 +428,13 @@ fn without_blocks(alloc: Global) -> Result<String, Fail> {
         fixed: None,
         schedule: frozen(2)?,
     };
-    chosen(alloc, case, 1, 3)
+    run_chosen(rt, alloc, read_case(alloc, case)?, ALONE, 3)
 }
 
 #[test]
 fn without_blocks_nothing_is_proposed(rt: HostRuntime) -> Result<(), Fail> {
     assert_eq!(rt;
-        without_blocks(rt.alloc())?.as_str(),
+        without_blocks(&rt, rt.alloc())?.as_str(),
         "cost 0\nstage 0 t 0 range 1000 accepted 0 cost 0\nFinished done 2 total 0 cost 0\naccepted\nat"
     );
     Ok(())
@@ -338,7 +442,12 @@ fn without_blocks_nothing_is_proposed(rt: HostRuntime) -> Result<(), Fail> {
 
 /// One move of the first of two blocks to the first column and this row, whose word is given; the second block stands on
 /// (1, 1), where it may be fixed.
-fn located(alloc: Global, fixed: Option<BlockId>, row: u32) -> Result<String, Fail> {
+fn located<R: Threads + Wait + Sync>(
+    rt: &R,
+    alloc: Global,
+    fixed: Option<BlockId>,
+    row: u32,
+) -> Result<String, Fail> {
     let case = Case {
         arch: b"io_rat 1\noutpin class: 0 top\n",
         net: UNJOINED,
@@ -347,7 +456,7 @@ fn located(alloc: Global, fixed: Option<BlockId>, row: u32) -> Result<String, Fa
         fixed,
         schedule: frozen(2)?,
     };
-    chosen(alloc, case, 1, 1)
+    run_chosen(rt, alloc, read_case(alloc, case)?, ALONE, 1)
 }
 
 #[test]
@@ -370,7 +479,7 @@ fn a_fixed_block_is_not_displaced(rt: HostRuntime) -> Result<(), Fail> {
         ),
     ];
     for (fixed, row, wanted) in rows {
-        assert_eq!(rt; located(rt.alloc(), fixed, row)?.as_str(), wanted);
+        assert_eq!(rt; located(&rt, rt.alloc(), fixed, row)?.as_str(), wanted);
     }
     Ok(())
 }
@@ -497,10 +606,16 @@ const LARGE_COOLED_BY_ACCEPTANCE: &str = "cost 722356\n\
     3,3,0 3,5,0 0,3,1 5,3,1 4,0,0";
 
 /// The whole run of the twenty blocks with the words of a seed.
-fn twenty(alloc: Global, schedule: Schedule, seed: u64, batch: u64) -> Result<String, Fail> {
+fn twenty<R: Threads + Wait + Sync>(
+    rt: &R,
+    alloc: Global,
+    schedule: Schedule,
+    seed: u64,
+    pace: Pace,
+) -> Result<String, Fail> {
     let of = read_setting(alloc, TWENTY_ARCH, TWENTY)?;
     let mut anneal = annealer(alloc, &of, None, schedule, StreamWords::new(seed))?;
-    Ok(told(alloc, &mut anneal, batch, 200)?)
+    told(rt, alloc, &mut anneal, pace, 200)
 }
 
 fn by_a_factor() -> Result<Schedule, SchedFault> {
@@ -520,7 +635,20 @@ fn runs_by_a_factor_are_those_of_the_reference(rt: HostRuntime) -> Result<(), Fa
         (0x1234_5678_9ABC_DEF0, LARGE_COOLED_BY_A_FACTOR),
     ];
     for (seed, wanted) in rows {
-        assert_eq!(rt; twenty(rt.alloc(), schedule, seed, 64)?.as_str(), wanted);
+        assert_eq!(rt;
+            twenty(
+                &rt,
+                rt.alloc(),
+                schedule,
+                seed,
+                Pace {
+                    batch: 64,
+                    workers: 4
+                }
+            )?
+            .as_str(),
+            wanted
+        );
     }
     Ok(())
 }
@@ -534,17 +662,30 @@ fn runs_by_acceptance_are_those_of_the_reference(rt: HostRuntime) -> Result<(), 
         (0x1234_5678_9ABC_DEF0, LARGE_COOLED_BY_ACCEPTANCE),
     ];
     for (seed, wanted) in rows {
-        assert_eq!(rt; twenty(rt.alloc(), schedule, seed, 64)?.as_str(), wanted);
+        assert_eq!(rt;
+            twenty(
+                &rt,
+                rt.alloc(),
+                schedule,
+                seed,
+                Pace {
+                    batch: 64,
+                    workers: 4
+                }
+            )?
+            .as_str(),
+            wanted
+        );
     }
     Ok(())
 }
 
 #[test]
-fn the_batch_changes_nothing(rt: HostRuntime) -> Result<(), Fail> {
+fn the_batch_and_the_workers_change_nothing(rt: HostRuntime) -> Result<(), Fail> {
     let schedule = by_a_factor()?;
-    for batch in [1, 7] {
+    for (batch, workers) in [(1, 1), (7, 3)] {
         assert_eq!(rt;
-            twenty(rt.alloc(), schedule, 1, batch)?.as_str(),
+            twenty(&rt, rt.alloc(), schedule, 1, Pace { batch, workers })?.as_str(),
             ONE_COOLED_BY_A_FACTOR
         );
     }

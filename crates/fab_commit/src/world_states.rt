@@ -131,9 +131,10 @@ fn refresh<W: Words>(
 }
 
 /// Enters the swap of the next move, if it is accepted.
-fn enter(accepted: &mut Vec<Accepted>, number: u64, answer: &Answer)
+pub(crate) fn enter(accepted: &mut Vec<Accepted>, number: u64, answer: &Answer)
     requires room { vec_len accepted.old < vec_capacity accepted.old }
-    ensures { accepted.new.items ≡ accepted.old.items ++ accepted_now number (says answer.now) }
+    ensures items { accepted.new.items ≡ accepted.old.items ++ accepted_now number (says answer.now) }
+    ensures room { (vec_len accepted.new ≤ vec_len accepted.old + 1) × (vec_capacity accepted.new ≡ vec_capacity accepted.old) }
 {
     if answer.accepted {
         if let Some(swap) = answer.swap {

@@ -1,8 +1,7 @@
-use crate::tests::{Setting, list_words, read_setting, started};
+use crate::tests::{Setting, list_words, put_sites, read_setting, started};
 use crate::world_tables::{ROWS, Row};
 use crate::{Event, Way, World};
 use fab_move::StreamWords;
-use fab_net::BlockId;
 use fab_sched::{SchedFault, Schedule};
 use fab_site::{Fixed, Words, is_legal};
 use std::alloc::{AllocError, Global};
@@ -67,11 +66,7 @@ fn told<W: Words + Drop>(alloc: Global, world: &World<'_, W>) -> Result<String, 
         })?;
     }
     text.push_str(format!(in alloc; " total {} at", world.total())?.as_str())?;
-    let placement = world.placement();
-    for block in 0..placement.blocks().min(65_535) {
-        let site = placement.site_of(BlockId(block as u32));
-        text.push_str(format!(in alloc; " {},{},{}", site.x, site.y, site.sub)?.as_str())?;
-    }
+    put_sites(alloc, &mut text, world.placement())?;
     Ok(text)
 }
 
@@ -117,7 +112,7 @@ fn the_ways_of_two_moves_to_one_site(rt: HostRuntime) -> Result<(), Fail> {
     Ok(())
 }
 
-fn schedule_of(row: &Row) -> Result<Schedule, SchedFault> {
+pub(crate) fn schedule_of(row: &Row) -> Result<Schedule, SchedFault> {
     if row.alpha == 0 {
         Schedule::adaptive(row.init_t, 3_000, row.moves)
     } else {
@@ -125,7 +120,8 @@ fn schedule_of(row: &Row) -> Result<Schedule, SchedFault> {
     }
 }
 
-const ARCH: &[u8] = b"io_rat 2\ninpin class: 0 left\ninpin class: 0 top\noutpin class: 1 right\n";
+pub(crate) const ARCH: &[u8] =
+    b"io_rat 2\ninpin class: 0 left\ninpin class: 0 top\noutpin class: 1 right\n";
 
 /// What comes of a row.
 fn outcome(alloc: Global, row: &Row) -> Result<String, Fail> {

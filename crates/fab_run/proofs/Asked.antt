@@ -1,8 +1,8 @@
 -- What the texts and numbers of a run mean is one thing, or one fault.
-use Rattle.std.proofs.Common.{◌≡◌, ℕ, zero, suc, ◌+◌, ◌<◌, ◌≤◌, ◌⊎◌, Bool, true, false, List, Option, Some, None, length, refl, sym, ap, subst, ◌∙◌, inl, inr, arith}
+use Rattle.std.proofs.Common.{◌≡◌, ℕ, zero, suc, ◌<◌, ◌⊎◌, List, Option, Some, None, length, refl, sym, ap, subst, ◌∙◌, inl, inr, arith}
 use Rattle.fab_text.specs.Lines.{lines}
 use Rattle.fab_arch.specs.declared.array.Site.{Site}
-use Rattle.fab_arch.specs.Grid.{GridShape, AreLimits, Holds, IsLeastSquare, shape, square}
+use Rattle.fab_arch.specs.Grid.{GridShape, AreLimits, Holds, IsLeastSquare, square}
 use Rattle.fab_net.specs.Netlist.{Netlist, logic_count, pad_count}
 use Rattle.std.specs.Prelude.{Result, Ok, Err, IfOk, IfErr}
 use Rattle.std.specs.Result.{result_unwrap_or}
@@ -18,7 +18,7 @@ use Rattle.fab_run.specs.declared.fault.RunFault.{RunFault}
 use Rattle.fab_run.specs.declared.fault.RunFault.TheVariants as run_fault
 use Rattle.fab_run.specs.declared.inputs.Options.{Options}
 use Rattle.fab_run.specs.RunFaults.{of_pads}
-use Rattle.fab_run.specs.Check.{FitsOn, IsDesignFault, IsTextFault, MeanDesign}
+use Rattle.fab_run.specs.Check.{FitsOn, IsDesignFault, IsTextFault}
 use Rattle.fab_run.specs.Setting.{AreStageMoves, HasArray, HasPins, IsAskedPlan, IsSized, Texts}
 use Rattle.fab_run.specs.RunChecks.{IsLocationFault, IsOptionFault, IsRunFault}
 

@@ -1,15 +1,9 @@
 -- The faults of three texts, in their order.
-use Rattle.std.proofs.Common.{◌≡◌, ℕ, ◌+◌, ◌-◌, ◌<◌, ◌≤◌, Bool, true, false, not, cond, List, [], ◌∷◌, Option, Some, None, IfOk, OnOk, Result, Ok, Err, length, refl, sym, ap, ◌∙◌, inl, inr, ◌⊎◌, arith}
-use Rattle.std.specs.Prelude.{IfErr, MatchResult}
-use Rattle.std.specs.List.{count_by}
-use Rattle.std.proofs.lemmas.Bool.{cases_Bool}
-use Rattle.std.proofs.lemmas.List.Sums.{sum_by-cons}
+use Rattle.std.proofs.Common.{◌≡◌, ℕ, List, Some, refl, inr}
 use Rattle.fab_text.specs.Lines.{lines}
 use Rattle.fab_arch.specs.declared.fault.ArchFault.{ArchFault}
 use Rattle.fab_arch.specs.declared.fault.ArchFault.TheVariants as arch_fault
-use Rattle.fab_arch.specs.declared.array.Site.{Site}
 use Rattle.fab_arch.specs.Grid.{GridShape}
-use Rattle.fab_net.specs.declared.pieces.BlockKind.{BlockKind}
 use Rattle.fab_net.specs.declared.fault.NetFault.{NetFault}
 use Rattle.fab_net.specs.declared.fault.NetFault.TheVariants as net_fault
 use Rattle.fab_file.specs.declared.fault.PlaceFault.{PlaceFault}
@@ -19,8 +13,8 @@ use Rattle.fab_file.specs.PlaceFaults.{FaultIs, first_fault}
 use Rattle.fab_run.specs.declared.fault.RunFault.{RunFault}
 use Rattle.fab_run.specs.declared.fault.RunFault.TheVariants as run_fault
 use Rattle.fab_run.specs.RunFaults.{of_arch, of_net, of_place}
-use Rattle.fab_run.specs.Check.{MeanDesign, FitsOn, AreChecked, FaultOf, IsDesignFault, IsTextFault, report_failed_with}
-use Rattle.fab_net.specs.Netlist.{Netlist, is_logic, logic_count, pad_count}
+use Rattle.fab_run.specs.Check.{MeanDesign, FitsOn, FaultOf, IsDesignFault, IsTextFault, report_failed_with}
+use Rattle.fab_net.specs.Netlist.{Netlist}
 
 -- the fault of a reader is not that of a writer
 

@@ -1,6 +1,6 @@
 -- A whole stage of moves, and stages one after another.
-use Rattle.std.proofs.Common.{◌≡◌, ◌≢◌, ℕ, zero, suc, ◌+◌, ◌-◌, ◌*◌, ◌/◌, ◌%◌, ◌<◌, ◌≤◌, ◌==◌, Bool, true, false, cond, eqb, List, [], ◌∷◌, ◌++◌, max, Option, Some, None, is_some, refl, sym, ap, subst, ◌∙◌, arith, inl, inr}
-use Rattle.std.proofs.lemmas.Bool.{eq-eqb, ne_eqb, cases_eq, false≢true}
+use Rattle.std.proofs.Common.{◌≡◌, ℕ, zero, suc, ◌+◌, ◌-◌, ◌*◌, ◌/◌, ◌%◌, ◌<◌, ◌≤◌, ◌==◌, Bool, true, false, cond, eqb, List, [], ◌∷◌, ◌++◌, max, Option, Some, None, is_some, refl, sym, ap, ◌∙◌, arith}
+use Rattle.std.proofs.lemmas.Bool.{eq-eqb, ne_eqb, false≢true}
 use Rattle.std.proofs.lemmas.List.{append-nil, append_assoc}
 use Rattle.std.proofs.lemmas.Nat.{mod-mul-add, div-mul-add}
 use Rattle.std.proofs.Math.Nat.{mod-add-div}
@@ -8,7 +8,7 @@ use Rattle.fab_sched.specs.Annealing.{next_heat, next_range}
 use Rattle.fab_commit.specs.Serial.{Run, Standing, after_move, accepted_among, accepted_here, from, judged_here, left_at, moves_left, one_if, or_zero, stage_at, stage_of, step}
 use Rattle.fab_sched.specs.declared.schedules.Stage.{Stage}
 use Rattle.std.proofs.lemmas.Nat.{mod_below}
-use Rattle.fab_commit.proofs.Folding.{still_hot, step_is, left_step, from_add}
+use Rattle.fab_commit.proofs.Folding.{still_hot, step_is, left_step}
 use Rattle.fab_run.specs.RunReport.{stage_line}
 use Rattle.fab_run.specs.Piece.{cost_at, cost_here, line_here, stage_costs, stage_lines}
 
@@ -141,6 +141,7 @@ pub record IsTold (r : Run) (x : Standing) (s : Stage) : Type 0 where
   pub index : s.index ≡ x.done / r.plan.moves
   pub range : s.range ≡ x.range
   pub accepted : s.accepted ≡ x.accepted
+  pub done : s.done ≡ x.done % r.plan.moves
 
 told_by : (r : Run) (x : Standing) (s : Stage) (h : Option ℕ) → x.heat ≡ h → Some s ≡ stage_at r.plan x h → IsTold r x s
 told_by r x s None e k = absurd cc
@@ -151,6 +152,7 @@ told_by r x s (Some t) e k =
       index = ap (λ q. q.index) same;
       range = ap (λ q. q.range) same;
       accepted = ap (λ q. q.accepted) same;
+      done = ap (λ q. q.done) same;
     }
   where
     some_same : (a b : Stage) → Some a ≡ Some b → a ≡ b
@@ -165,6 +167,12 @@ left_there r x s k m =
     let left = left_some r.plan.moves x.done x.heat (ap is_some t.heat) in
     let below = mod_below x.done r.plan.moves (omega (arith, m)) in
     omega (arith, left, below)
+
+-- what the stage says is left of it
+pub left_is : (r : Run) (x : Standing) (s : Stage) (moves : ℕ) → Some s ≡ stage_of r x → moves ≡ r.plan.moves → moves - s.done ≡ moves_left r x
+left_is r x s moves k em =
+    let t = told r x s k in
+    (λ i. em i - t.done i) ∙ sym (left_some r.plan.moves x.done x.heat (ap is_some t.heat))
 
 whole_line : (r : Run) (x : Standing) (n : ℕ) → 0 < n → moves_left r x ≡ n → stage_lines r x n ≡ line_of r x (from r x n)
 whole_line r x zero pos e = absurd (omega arith)

@@ -8,10 +8,13 @@ use Rattle.fab_file.specs.Written.{IsCut}
 use Rattle.fab_cost.specs.Cost.{cost_of}
 use Rattle.fab_move.specs.Stream.{stream_moves}
 use Rattle.fab_commit.specs.Serial.{Run, Standing, accepted_among, from}
+use Rattle.fab_commit.specs.ByTurns.{IsByTurns, LeadsByTurns}
 use Rattle.fab_commit.specs.Commits.{AnnealOf, IsSameRun, run_of}
+use Rattle.fab_commit.specs.Turns.{redone_in_run}
+use Rattle.fab_commit.proofs.ByTurns.{by_no_turn, redone_by_turns}
 use Rattle.fab_run.specs.Piece.{IsOver, cost_at, end_line, head_text, last_line, run_costs, stage_costs, stage_lines}
 use Rattle.fab_run.specs.Setting.{Setting}
-use Rattle.fab_run.specs.Placed.{IsBegun, IsToldRun, report_by, run_by, start_by}
+use Rattle.fab_run.specs.Placed.{AreRedone, IsBegun, IsToldRun, report_by, run_by, start_by}
 use Rattle.fab_run.specs.declared.fault.RunFault.{RunFault}
 use Rattle.fab_run.specs.declared.fault.RunFault.TheVariants.{Report}
 use Rattle.fab_run.specs.declared.inputs.Outcome.{Outcome}
@@ -131,7 +134,7 @@ told_whole s seed old mid more new n told lined over last =
 
 -- an annealer before its first move
 abbrev pub IsFresh : Setting → ℕ → AnnealOf ℕ → Type 0
-IsFresh s seed a = a ≡ record { design = s.design; grid = s.grid; fixed = s.fixed; plan = s.plan; words = seed; standing = start_by s seed; accepted = [] }
+IsFresh s seed a = a ≡ record { design = s.design; grid = s.grid; fixed = s.fixed; plan = s.plan; words = seed; standing = start_by s seed; ahead = []; swaps = []; accepted = []; redone = 0 }
 
 -- what an annealer tells, from the standing before the first move
 pub record IsLined (s : Setting) (seed : ℕ) (y : Standing) (accepted costs : List ℕ) (mid more : Option (List ℕ)) : Type 0 where
@@ -218,3 +221,23 @@ short_run s seed old mid more new a b costs e same told lined (Err f) cut = λ q
     let over = over_there s seed b.standing lined.stands lined.over in
     let here = subst (λ l. IsCut l more new) (λ i. last_line (r i) (lined.stands i)) (cut q) in
     short_last s seed old mid more new b.standing.done told lined.lined over here)
+
+-- the moves that were judged again
+pub redone_run : (s : Setting) (seed batch : ℕ) (a b : AnnealOf ℕ) → 0 < s.plan.moves → IsFresh s seed a → IsSameRun a b → LeadsByTurns (run_of stream_moves a) batch a b
+    → b.standing ≡ from (run_of stream_moves a) a.standing (b.standing.done - a.standing.done) → b.standing.heat ≡ None
+    → (r : Result Outcome RunFault) → IfOk r (λ out. out.redone ≡ b.redone) → IfOk r (λ out. AreRedone s seed batch out.redone)
+redone_run s seed batch a b pos e same turns stands over (Err f) count = tt
+redone_run s seed batch a b pos e same turns stands over (Ok out) count =
+    let r = run_by s seed in
+    let x = start_by s seed in
+    let ra : run_of stream_moves a ≡ r = ap (run_of stream_moves) e in
+    let first : IsByTurns (run_of stream_moves a) a.standing batch a = by_no_turn (run_of stream_moves a) batch a (ap (λ (q : AnnealOf ℕ). q.ahead) e) (ap (λ (q : AnnealOf ℕ). q.swaps) e) (ap (λ (q : AnnealOf ℕ). q.redone) e) in
+    let there : a.standing ≡ x = ap (λ (q : AnnealOf ℕ). q.standing) e in
+    let by : IsByTurns r x batch b = subst (λ q. IsByTurns q x batch b) ra (subst (λ y. IsByTurns (run_of stream_moves a) y batch b) there (turns.on a.standing first)) in
+    let n : b.standing.done - x.done ≡ b.standing.done = omega arith in
+    let here : b.standing ≡ from r x b.standing.done = stands ∙ (λ i. from (ra i) (there i) (b.standing.done - (there i).done)) ∙ ap (from r x) n in
+    record {
+      moves = b.standing.done;
+      over = over_there s seed b.standing here over;
+      count = count ∙ redone_by_turns r x batch b pos by ∙ ap (redone_in_run r x batch) n;
+    }

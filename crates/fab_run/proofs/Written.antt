@@ -1,5 +1,5 @@
 -- A place text that was not written whole: its writer failed, or memory ran out.
-use Rattle.std.proofs.Common.{◌≡◌, ℕ, ◌⊎◌, true, false, List, Option, length, refl, sym, ap, subst, ◌∙◌, inl, inr}
+use Rattle.std.proofs.Common.{◌≡◌, ℕ, ◌⊎◌, List, Option, length, refl, sym, subst, ◌∙◌, inl, inr}
 use Rattle.std.specs.Io.KnownBytes.{Appends}
 use Rattle.fab_site.specs.Placement.{PlacementOf}
 use Rattle.fab_file.specs.declared.fault.PlaceFault.{PlaceFault}

@@ -19,7 +19,7 @@ use Rattle.fab_file.specs.Place.{place_size_of, StandsFor}
 use Rattle.fab_file.specs.PlaceFaults.{size_fault, first_fault as first_place_fault}
 use Rattle.fab_cost.specs.Cost.{cost_of}
 use Rattle.fab_run.specs.declared.fault.RunFault.{RunFault}
-use Rattle.fab_run.specs.declared.fault.RunFault.TheVariants.{Arch, Net, Pads, Place, Size, Schedule, BatchOutOfRange, WorkersOutOfRange, Report, NoMemory}
+use Rattle.fab_run.specs.declared.fault.RunFault.TheVariants.{Arch, Net, Place, Size, Report, NoMemory}
 use Rattle.fab_run.specs.CheckReport.{check_report}
 
 -- the two texts mean this design, and that a position of the array takes so many pads (the io_rat)

@@ -1,5 +1,5 @@
 -- What a check reports (our own): the size of the design and its array, and the cost of the placement.
-use Rattle.std.specs.Prelude.{ℕ, ◌≡◌, List, [], ◌∷◌, ◌++◌, decimal, codes, refl}
+use Rattle.std.specs.Prelude.{ℕ, ◌≡◌, List, ◌++◌, decimal, codes, refl}
 use Rattle.std.specs.Fmt.{digits}
 use Rattle.fab_text.specs.Fixed.{fixed4}
 use Rattle.fab_arch.specs.Grid.{GridShape, shape}

@@ -1,6 +1,6 @@
 -- The line that tells of a fault (our own): `vplace: `, the role of what is at fault, the fault's code and name, and its detail: a line, a block or a
 -- name. Want of memory, and a writer that failed, are told in words.
-use Rattle.std.specs.Prelude.{ℕ, ◌≡◌, nat_le, List, [], ◌∷◌, ◌++◌, Option, Some, None, if◌then◌else◌, length, codes, refl}
+use Rattle.std.specs.Prelude.{ℕ, ◌≡◌, nat_le, List, [], ◌++◌, Option, Some, None, if◌then◌else◌, length, codes, refl}
 use Rattle.std.specs.Fmt.{digits}
 use Rattle.fab_text.specs.declared.pieces.Span.{Span}
 use Rattle.fab_text.specs.Lines.{bytes_at}

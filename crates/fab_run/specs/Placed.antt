@@ -12,6 +12,7 @@ use Rattle.fab_file.specs.Written.{IsCut, place_text}
 use Rattle.fab_move.specs.Stream.{stream_moves, stream_starts}
 use Rattle.fab_commit.specs.Serial.{Run, Standing, accepted_among, at_start, from}
 use Rattle.fab_commit.specs.Commits.{run}
+use Rattle.fab_commit.specs.Turns.{redone_in_run}
 use Rattle.fab_run.specs.declared.fault.RunFault.{RunFault}
 use Rattle.fab_run.specs.declared.fault.RunFault.TheVariants.{Report, NoMemory}
 use Rattle.fab_run.specs.declared.inputs.Options.{Options}
@@ -43,6 +44,12 @@ pub record IsAnnealed (s : Setting) (seed moves : ℕ) (placement : PlacementOf)
   pub legal : IsLegal s.design s.grid s.fixed placement.sites
   pub numbers : accepted ≡ accepted_among (run_by s seed) (start_by s seed) moves
   pub values : costs ≡ run_costs (run_by s seed) (start_by s seed) moves
+
+-- so many moves of a run with turns of this batch are judged again
+pub record AreRedone (s : Setting) (seed batch redone : ℕ) : Type 0 where
+  pub moves : ℕ
+  pub over : IsOver (run_by s seed) (start_by s seed) moves
+  pub count : redone ≡ redone_in_run (run_by s seed) (start_by s seed) batch moves
 
 -- the annealing ends so, and what went out is its report
 pub record IsToldRun (s : Setting) (seed : ℕ) (placement : PlacementOf) (accepted costs : List ℕ) (old new : Option (List ℕ)) : Type 0 where

@@ -3,7 +3,6 @@
 use Rattle.std.specs.Prelude.{ℕ, ◌≡◌, false, true, List, Option, Some, None, length}
 use Rattle.fab_text.specs.Lines.{lines}
 use Rattle.fab_text.specs.Failures.{grown}
-use Rattle.fab_arch.specs.declared.architecture.PinKind.{PinKind}
 use Rattle.fab_arch.specs.declared.array.Site.{Site}
 use Rattle.fab_arch.specs.declared.fault.GridFault.{GridFault}
 use Rattle.fab_arch.specs.declared.fault.GridFault.TheVariants.{SizeOutOfRange}

@@ -41,9 +41,9 @@ pub struct Options {
     pub cooling: Cooling,
     /// The moves of a stage.
     pub moves: Moves,
-    /// How many moves a turn may take, 1 to 4,096: checked, and not used yet. What is placed does not depend on it.
+    /// How many moves a turn commits, 1 to 4,096. What is placed does not depend on it.
     pub batch: u64,
-    /// How many threads may judge, 1 to 64: checked, and not used yet. What is placed does not depend on it.
+    /// How many threads judge moves ahead, 1 to 64. What is placed does not depend on it.
     pub workers: u64,
 }
 
@@ -64,4 +64,7 @@ pub struct Outcome {
     pub accepted: Vec<u64>,
     /// The cost at the start, and after each stage, in ten-thousandths.
     pub costs: Vec<u64>,
+    /// How many moves were judged again, because a move that was accepted since had touched what their verdicts rested on.
+    /// It depends on the batch, and not on the workers.
+    pub redone: u64,
 }

@@ -1,6 +1,6 @@
 //! A whole run: from texts and numbers to a placement.
 
-ghost use Rattle.std.specs.Prelude.{◌≡◌, ◌≢◌, ◌⊎◌, ℕ, [], ◌∷◌, OnOk, OnErr, IfOk, IfErr};
+ghost use Rattle.std.specs.Prelude.{◌≡◌, ◌≢◌, ◌≤◌, ◌⊎◌, ℕ, [], ◌∷◌, OnOk, OnErr, IfOk, IfErr};
 ghost use Rattle.std.specs.Io.KnownBytes.{Appends};
 ghost use Rattle.fab_arch.specs.Grid.{Holds};
 ghost use Rattle.fab_net.specs.Netlist.{logic_count, pad_count};
@@ -12,7 +12,7 @@ ghost use Rattle.fab_run.specs.Piece.{head_text, last_line};
 ghost use Rattle.fab_run.specs.Check.{report_failed_with};
 ghost use Rattle.fab_run.specs.Setting.{IsSetting, Setting, setting_of, texts_of};
 ghost use Rattle.fab_run.specs.RunChecks.{IsRefusal, IsRunFault, place_failed_with};
-ghost use Rattle.fab_run.specs.Placed.{IsBegun, IsPlaceCut, IsPlaced, IsReportBegun, IsReportCut, IsReportFault, IsToldRun, report_by, start_by};
+ghost use Rattle.fab_run.specs.Placed.{AreRedone, IsBegun, IsPlaceCut, IsPlaced, IsReportBegun, IsReportCut, IsReportFault, IsToldRun, report_by, start_by};
 ghost use Rattle.fab_run.specs.declared.fault.RunFault.TheVariants.{Place, Report};
 ghost use Rattle.fab_file.specs.declared.fault.PlaceFault.TheVariants.{Write};
 ghost use Rattle.fab_file.specs.Written.{IsCut};
@@ -31,6 +31,8 @@ use fab_sched::Schedule;
 use fab_site::{Pins, start};
 use fab_text::{Sink, write_whole};
 use std::alloc::{AllocError, Global};
+use std::sync::Wait;
+use std::thread::Threads;
 
 /// An annealer before its first move, on the start placement that the seed draws.
 fn annealer<'a>(
@@ -43,7 +45,7 @@ fn annealer<'a>(
 ) -> Result<Anneal<'a, StreamWords>, AllocError>
     requires room { Holds grid.now (logic_count design.now) (pad_count design.now) }
     requires pins { ArePins design.now grid.now pins.fixed pins.begun }
-    ensures stands { IfOk result (λ a. a ≡ record { design = design.now; grid = grid.now; fixed = pins.fixed; plan = schedule; words = seed; standing = start_by (setting_of design.now grid.now pins.fixed pins.begun schedule) seed; accepted = [] }) }
+    ensures stands { IfOk result (λ a. a ≡ record { design = design.now; grid = grid.now; fixed = pins.fixed; plan = schedule; words = seed; standing = start_by (setting_of design.now grid.now pins.fixed pins.begun schedule) seed; ahead = []; swaps = []; accepted = []; redone = 0 }) }
 {
     let words = StreamWords::new(seed);
     let placement = start(alloc, design, grid, &pins, &words)?;
@@ -61,6 +63,7 @@ fn outcome(
     ensures legal { IfOk result (λ out. IsLegal anneal.now.design anneal.now.grid anneal.now.fixed out.placement.sites) }
     ensures accepted { IfOk result (λ out. out.accepted.items ≡ anneal.now.accepted) }
     ensures costs { IfOk result (λ out. out.costs.items ≡ costs.items) }
+    ensures redone { IfOk result (λ out. out.redone ≡ anneal.now.redone) }
 {
     let placement = anneal.placement().copy()?;
     let accepted = anneal.accepted().to_vec(alloc)?;
@@ -69,6 +72,7 @@ fn outcome(
         placement,
         accepted,
         costs,
+        redone: anneal.redone(),
     })
 }
 
@@ -106,6 +110,7 @@ fn tell_end<W: Sink>(
     ensures legal { IfOk result (λ out. IsLegal anneal.now.design anneal.now.grid anneal.now.fixed out.placement.sites) }
     ensures accepted { IfOk result (λ out. out.accepted.items ≡ anneal.now.accepted) }
     ensures costs { IfOk result (λ out. out.costs.items ≡ costs.items) }
+    ensures redone { IfOk result (λ out. out.redone ≡ anneal.now.redone) }
     ensures told { OnOk result (Appends (W.contents report.old) (W.contents report.new) (last_line (run_of stream_moves anneal.now) anneal.now.standing)) }
     ensures cut { OnErr result (IsBegun (W.contents report.old) (W.contents report.new) (last_line (run_of stream_moves anneal.now) anneal.now.standing)) }
     ensures short { IfErr result (λ e. e ≡ Report → IsCut (last_line (run_of stream_moves anneal.now) anneal.now.standing) (W.contents report.old) (W.contents report.new)) }
@@ -119,38 +124,53 @@ fn tell_end<W: Sink>(
 }
 
 /// Anneals from the start placement to the last move, and tells of it.
-fn anneal_told<W: Sink>(
+fn anneal_told<W: Sink, R: Threads + Wait + Sync>(
+    rt: &R,
     alloc: Global,
     design: &Design,
     grid: &Grid,
     pins: Pins,
     schedule: Schedule,
-    seed: u64,
+    options: &Options,
     report: &mut W,
 ) -> Result<Outcome, RunFault>
     requires room { Holds grid.now (logic_count design.now) (pad_count design.now) }
     requires pins { ArePins design.now grid.now pins.fixed pins.begun }
-    ensures annealed { IfOk result (λ out. IsToldRun (setting_of design.now grid.now pins.fixed pins.begun schedule) seed out.placement out.accepted.items out.costs.items (W.contents report.old) (W.contents report.new)) }
-    ensures cut { OnErr result ((n : ℕ) × IsBegun (W.contents report.old) (W.contents report.new) (report_by (setting_of design.now grid.now pins.fixed pins.begun schedule) seed n)) }
-    ensures short { IfErr result (λ e. e ≡ Report → (n : ℕ) × IsCut (report_by (setting_of design.now grid.now pins.fixed pins.begun schedule) seed n) (W.contents report.old) (W.contents report.new)) }
+    requires limits { (1 ≤ options.now.batch) × (options.now.batch ≤ 4096) × (1 ≤ options.now.workers) × (options.now.workers ≤ 64) }
+    ensures redone { IfOk result (λ out. AreRedone (setting_of design.now grid.now pins.fixed pins.begun schedule) options.now.seed options.now.batch out.redone) }
+    ensures annealed { IfOk result (λ out. IsToldRun (setting_of design.now grid.now pins.fixed pins.begun schedule) options.now.seed out.placement out.accepted.items out.costs.items (W.contents report.old) (W.contents report.new)) }
+    ensures cut { OnErr result ((n : ℕ) × IsBegun (W.contents report.old) (W.contents report.new) (report_by (setting_of design.now grid.now pins.fixed pins.begun schedule) options.now.seed n)) }
+    ensures short { IfErr result (λ e. e ≡ Report → (n : ℕ) × IsCut (report_by (setting_of design.now grid.now pins.fixed pins.begun schedule) options.now.seed n) (W.contents report.old) (W.contents report.new)) }
     ensures sound { OnOk result (W.failed report.new ≡ W.failed report.old) }
     ensures fault { IfErr result (IsReportFault (W.failed report.old) (W.failed report.new)) }
 {
     let moves = schedule.moves();
-    let mut anneal = annealer(alloc, design, grid, pins, schedule, seed)?;
+    let mut anneal = annealer(alloc, design, grid, pins, schedule, options.seed)?;
     let mut costs = tell_start(alloc, design, grid, anneal.cost(), report)?;
-    anneal_all(alloc, &mut anneal, moves, report, &mut costs)?;
+    let batch = options.batch;
+    let workers = options.workers;
+    anneal_all(
+        rt,
+        alloc,
+        &mut anneal,
+        moves,
+        batch,
+        workers,
+        report,
+        &mut costs,
+    )?;
     tell_end(alloc, &anneal, costs, report)
 }
 
-/// Places the design of a run: anneals it one move after another from a start placement, by random words of the seed. The
-/// report's lines go out as their stages end, and the place text once the report is whole. What is answered and written does not
-/// depend on batch and workers, where these are in their limits.
+/// Places the design of a run: anneals it from a start placement, by random words of the seed. Workers judge moves ahead, and
+/// moves are committed in order of number, so that the answer is that of one move after another. The report's lines go out as
+/// their stages end, and the place text once the report is whole. What is placed and written does not depend on batch and
+/// workers, where these are in their limits.
 ///
 /// An error is the first check that fails, in the order architecture, netlist, size (range, logic sites, pad sites), location
 /// text, labels, schedule, batch, workers: then nothing is written. Where none fails it is that of the writer that failed. Want of
 /// memory may come for any inputs.
-pub fn place_run<R: AllocGlobal, W: Sink, P: Sink>(
+pub fn place_run<R: AllocGlobal + Threads + Wait + Sync, W: Sink, P: Sink>(
     rt: &R,
     inputs: &Inputs,
     options: &Options,
@@ -159,6 +179,8 @@ pub fn place_run<R: AllocGlobal, W: Sink, P: Sink>(
 ) -> Result<Outcome, RunFault>
     // The headline: placement, accepted moves, costs, report and place text are those of annealing one move at a time.
     ensures headline { IfOk result (λ out. IsPlaced (texts_of inputs.now) options.now out.placement out.accepted.items out.costs.items (W.contents report.old) (W.contents report.new) (P.contents place.old) (P.contents place.new)) }
+    // The moves that were judged again are told by the batch alone: no worker occurs here.
+    ensures redone { IfOk result (λ out. (s : Setting) × IsSetting (texts_of inputs.now) options.now s × AreRedone s options.now.seed options.now.batch out.redone) }
     // Where no check fails, it is answered, unless memory or a writer fails.
     ensures only { (s : Setting) → IsSetting (texts_of inputs.now) options.now s → IfErr result (λ e. ¬ IsRefusal e) }
     // An error is the first check that fails, or want of memory, or that of the writer that failed.
@@ -176,7 +198,7 @@ pub fn place_run<R: AllocGlobal, W: Sink, P: Sink>(
 {
     let alloc = rt.alloc();
     let (design, grid, pins, schedule) = read_setting(alloc, inputs, options)?;
-    let outcome = anneal_told(alloc, &design, &grid, pins, schedule, options.seed, report)?;
+    let outcome = anneal_told(rt, alloc, &design, &grid, pins, schedule, options, report)?;
     write_place(
         alloc,
         place,

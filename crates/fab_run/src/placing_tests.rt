@@ -1,6 +1,7 @@
 // Whole runs: a design of three blocks whose every move finds its block's own site, and one of seven blocks whose answers were
 // made by an independent placer.
 
+use crate::fault::RunFault;
 use crate::inputs::{Inputs, Moves, Options};
 use crate::narrow::Narrow;
 use crate::place_run;
@@ -8,7 +9,9 @@ use fab_file::Labels;
 use fab_sched::Cooling;
 use fab_text::{Counted, push_number};
 use std::alloc::{AllocError, Global};
+use std::sync::Wait;
 use std::test::*;
+use std::thread::Threads;
 
 const ARCH: &[u8] = b"io_rat 1\ninpin class: 0 left\noutpin class: 1 right\n";
 
@@ -76,9 +79,9 @@ fn push_all(text: &mut Vec<u8>, name: &[u8], numbers: &[u64]) -> Result<(), Allo
 }
 
 // What a run answers and writes where its two writers take so many bytes, in one text: the report, the place text, and the
-// accepted moves and costs, or the fault.
+// accepted moves, costs and number of moves judged again, or the fault.
 fn run_narrow(
-    rt: &impl AllocGlobal,
+    rt: &(impl AllocGlobal + Threads + Wait + Sync),
     inputs: &Inputs,
     options: &Options,
     rooms: (usize, usize),
@@ -93,6 +96,7 @@ fn run_narrow(
         Ok(outcome) => {
             push_all(&mut told, b"accepted", &outcome.accepted)?;
             push_all(&mut told, b"costs", &outcome.costs)?;
+            push_all(&mut told, b"redone", &[outcome.redone])?;
         }
         Err(fault) => {
             let line = crate::fault_line(alloc, &fault, inputs.net)?;
@@ -102,11 +106,15 @@ fn run_narrow(
     Ok(told)
 }
 
-fn run(rt: &impl AllocGlobal, inputs: &Inputs, options: &Options) -> Result<Vec<u8>, AllocError> {
+fn run(
+    rt: &(impl AllocGlobal + Threads + Wait + Sync),
+    inputs: &Inputs,
+    options: &Options,
+) -> Result<Vec<u8>, AllocError> {
     run_narrow(rt, inputs, options, (10_000, 10_000))
 }
 
-const NO_MOVE: &[u8] = b"accepted\ncosts 40000 40000 40000 40000 40000 40000\n";
+const NO_MOVE: &[u8] = b"accepted\ncosts 40000 40000 40000 40000 40000 40000\nredone 0\n";
 
 #[test]
 fn blocks_that_cannot_move_are_placed(rt: HostRuntime) -> Result<(), Fail> {
@@ -139,7 +147,7 @@ start cost 4.0000
 frozen range 1.000 moves 3 accepted 0 cost 4.0000
 final cost 4.0000 accepted 0 of 3
 ";
-    let wanted = [report, PLACE, b"accepted\ncosts 40000 40000\n"].concat(rt.alloc())?;
+    let wanted = [report, PLACE, b"accepted\ncosts 40000 40000\nredone 0\n"].concat(rt.alloc())?;
     let options = Options {
         init_t: 5000,
         ..OPTIONS
@@ -161,6 +169,7 @@ Array size: 1 x 1 logic blocks
 #----------\t--\t--\t------\t------------
 accepted
 costs 0 0
+redone 0
 ";
     let inputs = Inputs {
         net: b"",
@@ -178,7 +187,7 @@ costs 0 0
 
 // The line of the fault that a run is refused with.
 fn refused(
-    rt: &impl AllocGlobal,
+    rt: &(impl AllocGlobal + Threads + Wait + Sync),
     inputs: &Inputs,
     options: &Options,
     line: &[u8],
@@ -346,6 +355,7 @@ z\t2\t2\t0\t#5
 w\t1\t1\t0\t#6
 accepted 0 2 3 4 5 11 13 16 22 29
 costs 230000 200000 230000 230000 230000
+redone 11
 ";
     let options = Options { seed: 0, ..SHORT };
     assert_eq!(rt; run(&rt, &SEVEN, &options)?.as_slice(), wanted);
@@ -375,6 +385,7 @@ z\t2\t2\t0\t#5
 w\t1\t1\t0\t#6
 accepted 1 6 7 8 9 10 11 12 15 18 19 20 28 29
 costs 240000 240000 230000 220000 210000
+redone 14
 ";
     let options = Options { seed: 1, ..SHORT };
     assert_eq!(rt; run(&rt, &SEVEN, &options)?.as_slice(), wanted);
@@ -422,6 +433,7 @@ z\t2\t2\t0\t#5
 w\t1\t1\t0\t#6
 accepted 0 1 2 3 5 7 8 10 13 14 15 16 18 20 22 23 24 26 27 29 32 33 38 39 44 45 47 49 50 51 52 56 59 60 61 62 63 65 67 68 69 74 76 77 78 79 80 81 83 84 85 88 89 91 96 99 103 104 106 107 108 116 117 118 121 125 126 132 138 147 154 167 168 170 171 172 174
 costs 200000 230000 210000 220000 230000 210000 230000 220000 220000 210000 240000 220000 230000 240000 220000 210000 220000 210000 200000 200000 200000 200000 200000
+redone 86
 ";
     let options = Options {
         seed: u64::MAX,
@@ -429,5 +441,31 @@ costs 200000 230000 210000 220000 230000 210000 230000 220000 220000 210000 2400
         ..SHORT
     };
     assert_eq!(rt; run(&rt, &SEVEN, &options)?.as_slice(), wanted);
+    Ok(())
+}
+
+// How many moves a run judges again, as the reference counts them.
+fn redone(
+    rt: &(impl AllocGlobal + Threads + Wait + Sync),
+    options: &Options,
+) -> Result<u64, RunFault> {
+    let mut report = writer_with(rt.alloc(), 10_000);
+    let mut place = writer_with(rt.alloc(), 10_000);
+    Ok(place_run(rt, &SEVEN, options, &mut report, &mut place)?.redone)
+}
+
+#[test]
+fn the_batch_alone_tells_what_is_judged_again(rt: HostRuntime) -> Result<(), Fail> {
+    for (seed, batch, wanted) in [(0, 1, 4), (0, 3, 11), (1, 1, 9), (1, 3, 13), (1, 16, 14)] {
+        for workers in [1, 5] {
+            let options = Options {
+                seed,
+                batch,
+                workers,
+                ..SHORT
+            };
+            assert_eq!(rt; redone(&rt, &options)?, wanted);
+        }
+    }
     Ok(())
 }

@@ -6,31 +6,66 @@ ghost use Rattle.fab_text.specs.Failures.{grown};
 ghost use Rattle.fab_file.specs.Written.{IsCut};
 ghost use Rattle.fab_sched.specs.Annealing.{IsCooling};
 ghost use Rattle.fab_commit.specs.Serial.{accepted_among, from, moves_left, stage_of};
+ghost use Rattle.fab_commit.specs.ByTurns.{LeadsByTurns};
 ghost use Rattle.fab_commit.specs.Commits.{IsSameRun, run_of};
 ghost use Rattle.fab_run.specs.Piece.{stage_costs, stage_lines};
 ghost use Rattle.fab_run.specs.declared.fault.RunFault.TheVariants.{Report, NoMemory};
 
 use crate::fault::RunFault;
 use crate::report::stage_line;
+use fab_board::NoGate;
 use fab_commit::Anneal;
 use fab_sched::Stage;
 use fab_site::Words;
 use fab_text::{Sink, write_whole};
 use std::alloc::{AllocError, Global};
+use std::sync::Wait;
+use std::thread::Threads;
+
+/// Makes the moves that are left in the running stage, by turns of a batch.
+fn make_stage<V: Words + Sync + Drop, R: Threads + Wait + Sync>(
+    rt: &R,
+    alloc: Global,
+    anneal: &mut Anneal<'_, V>,
+    left: u64,
+    batch: u64,
+    workers: u64,
+) -> Result<(), AllocError>
+    requires left { left ≡ moves_left (run_of V.moves anneal.old) anneal.old.standing }
+    requires limits { (1 ≤ batch) × (batch ≤ 4096) × (1 ≤ workers) × (workers ≤ 64) }
+    ensures same { IsSameRun anneal.old anneal.new }
+    ensures ok { OnOk result (anneal.new.standing.done ≡ anneal.old.standing.done + left) }
+    ensures stands { OnOk result (anneal.new.standing ≡ from (run_of V.moves anneal.old) anneal.old.standing left) }
+    ensures accepted { OnOk result (anneal.new.accepted ≡ anneal.old.accepted ++ accepted_among (run_of V.moves anneal.old) anneal.old.standing left) }
+    ensures turns { OnOk result (LeadsByTurns (run_of V.moves anneal.old) batch anneal.old anneal.new) }
+{
+    let mut made = 0;
+    while made < left {
+        let before = anneal.done();
+        anneal.turn(rt, alloc, batch, workers, &NoGate)?;
+        made += anneal.done() - before;
+    }
+    Ok(())
+}
 
 /// Makes the moves that are left in the running stage. The answer is the line that tells of the stage; its cost stands
 /// last among the costs.
-fn end_stage<V: Words + Drop>(
+fn end_stage<V: Words + Sync + Drop, R: Threads + Wait + Sync>(
+    rt: &R,
     alloc: Global,
     anneal: &mut Anneal<'_, V>,
     stage: Stage,
     moves: u64,
+    batch: u64,
+    workers: u64,
     costs: &mut Vec<u64>,
 ) -> Result<Vec<u8>, AllocError>
     requires stage { Some stage ≡ stage_of (run_of V.moves anneal.old) anneal.old.standing }
     requires moves { moves ≡ anneal.old.plan.moves }
     requires some { 1 ≤ moves }
+    requires limits { (1 ≤ batch) × (batch ≤ 4096) × (1 ≤ workers) × (workers ≤ 64) }
     ensures same { IsSameRun anneal.old anneal.new }
+    ensures turns { OnOk result (LeadsByTurns (run_of V.moves anneal.old) batch anneal.old anneal.new) }
     ensures stands { OnOk result (anneal.new.standing ≡ from (run_of V.moves anneal.old) anneal.old.standing (moves_left (run_of V.moves anneal.old) anneal.old.standing)) }
     ensures done { OnOk result (anneal.new.standing.done ≡ anneal.old.standing.done + moves_left (run_of V.moves anneal.old) anneal.old.standing) }
     ensures accepted { OnOk result (anneal.new.accepted ≡ anneal.old.accepted ++ accepted_among (run_of V.moves anneal.old) anneal.old.standing (moves_left (run_of V.moves anneal.old) anneal.old.standing)) }
@@ -39,7 +74,7 @@ fn end_stage<V: Words + Drop>(
 {
     let before = anneal.total();
     let _begun = anneal.done();
-    anneal.turn_alone(alloc, moves)?;
+    make_stage(rt, alloc, anneal, moves - stage.done, batch, workers)?;
     let _made = anneal.done();
     let cost = anneal.cost();
     let accepted = stage.accepted + (anneal.total() - before);
@@ -56,17 +91,22 @@ fn end_stage<V: Words + Drop>(
 }
 
 /// Makes all moves that are left, each stage told as it ends.
-pub(crate) fn anneal_all<V: Words + Drop, W: Sink>(
+pub(crate) fn anneal_all<V: Words + Sync + Drop, W: Sink, R: Threads + Wait + Sync>(
+    rt: &R,
     alloc: Global,
     anneal: &mut Anneal<'_, V>,
     moves: u64,
+    batch: u64,
+    workers: u64,
     report: &mut W,
     costs: &mut Vec<u64>,
 ) -> Result<(), RunFault>
     requires moves { moves ≡ anneal.old.plan.moves }
     requires some { 1 ≤ moves }
     requires cooling { IsCooling anneal.old.plan.cooling }
+    requires limits { (1 ≤ batch) × (batch ≤ 4096) × (1 ≤ workers) × (workers ≤ 64) }
     ensures same { IsSameRun anneal.old anneal.new }
+    ensures turns { OnOk result (LeadsByTurns (run_of V.moves anneal.old) batch anneal.old anneal.new) }
     ensures over { OnOk result (anneal.new.standing.heat ≡ None) }
     ensures stands { OnOk result (anneal.new.standing ≡ from (run_of V.moves anneal.old) anneal.old.standing (anneal.new.standing.done - anneal.old.standing.done)) }
     ensures accepted { OnOk result (anneal.new.accepted ≡ anneal.old.accepted ++ accepted_among (run_of V.moves anneal.old) anneal.old.standing (anneal.new.standing.done - anneal.old.standing.done)) }
@@ -78,7 +118,7 @@ pub(crate) fn anneal_all<V: Words + Drop, W: Sink>(
     ensures fault { IfErr result (λ e. ((e ≡ NoMemory) × (W.failed report.new ≡ W.failed report.old)) ⊎ ((e ≡ Report) × (W.failed report.new ≡ grown (W.failed report.old)))) }
 {
     while let Some(stage) = anneal.stage() {
-        let line = end_stage(alloc, anneal, stage, moves, costs)?;
+        let line = end_stage(rt, alloc, anneal, stage, moves, batch, workers, costs)?;
         write_whole(report, &line)?;
     }
     Ok(())

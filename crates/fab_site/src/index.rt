@@ -64,7 +64,7 @@ fn pad_index(nx: u16, ny: u16, io_rat: u16, site: Site) -> Option<usize>
 
 /// The place of a site in the table, or `None` where the array has no such site.
 #[tactic(auto, unfolding(crate::specs::Index::index_of))]
-pub(crate) fn index_of(grid: &Grid, site: Site) -> Option<usize>
+pub fn index_of(grid: &Grid, site: Site) -> Option<usize>
     ensures { result ≡ index_of grid.now site }
 {
     let nx = grid.nx();
@@ -77,7 +77,7 @@ pub(crate) fn index_of(grid: &Grid, site: Site) -> Option<usize>
 }
 
 /// How many sites the array has.
-pub(crate) fn site_count(grid: &Grid) -> usize
+pub fn site_count(grid: &Grid) -> usize
     ensures { result ≡ site_count grid.now }
 {
     let columns = usize::from(grid.nx());

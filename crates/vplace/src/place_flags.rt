@@ -40,9 +40,9 @@ const INNER: &str =
 const MOVES: &str = "The moves of a stage, 1 to 1073741824; --inner is not used then";
 
 const BATCH: &str =
-    "How many moves are judged ahead, 1 to 4096; the placement does not depend on it";
+    "How many moves are judged ahead at a time, 1 to 4096; the placement does not depend on it";
 
-const WORKERS: &str = "How many threads judge, 1 to 64; the placement does not depend on it";
+const WORKERS: &str = "How many threads judge moves, 1 to 64; the placement does not depend on it";
 
 // An option with one value, the name of a file.
 fn named_file<'a>(alloc: Global, name: &'a str, help: &'a str) -> Arg<'a> {

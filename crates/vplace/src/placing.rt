@@ -16,10 +16,12 @@ use crate::messages::{Number, Role};
 use crate::reading::read_role;
 use crate::status::Status;
 use fab_file::{Labels, PlaceFault};
-use fab_run::{Inputs, Moves, Options, Outcome, RunFault, place_run};
+use fab_run::{Inputs, Moves, Options, RunFault, place_run};
 use fab_sched::Cooling;
 use fab_text::{Counted, Sink, decimal};
 use std::alloc::Global;
+use std::sync::Wait;
+use std::thread::Threads;
 
 /// What the words of `place` say. Temperatures and the factor are texts that are not read yet.
 #[derive(Drop)]
@@ -121,7 +123,7 @@ fn read_pads<F: NamedFiles, E: Sink>(
 }
 
 /// Places the design of a run, all of whose texts are at hand. The report goes out; the answer is the place text.
-pub fn place_texts<R: AllocGlobal, O: Sink, E: Sink>(
+pub fn place_texts<R: AllocGlobal + Threads + Wait + Sync, O: Sink, E: Sink>(
     rt: &R,
     inputs: &Inputs,
     options: &Options,
@@ -156,7 +158,7 @@ pub fn place_texts<R: AllocGlobal, O: Sink, E: Sink>(
 }
 
 /// Places a design that lies in files.
-pub fn place_files<R: AllocGlobal, F: NamedFiles, O: Sink, E: Sink>(
+pub fn place_files<R: AllocGlobal + Threads + Wait + Sync, F: NamedFiles, O: Sink, E: Sink>(
     rt: &R,
     words: &PlaceWords,
     files: &F,
@@ -177,7 +179,7 @@ pub fn place_files<R: AllocGlobal, F: NamedFiles, O: Sink, E: Sink>(
 }
 
 /// The place text of a design that lies in files.
-fn placed<R: AllocGlobal, F: NamedFiles, O: Sink, E: Sink>(
+fn placed<R: AllocGlobal + Threads + Wait + Sync, F: NamedFiles, O: Sink, E: Sink>(
     rt: &R,
     words: &PlaceWords,
     files: &F,

@@ -5,7 +5,9 @@ use crate::program::program;
 use fab_text::Counted;
 use std::alloc::{AllocError, Global};
 use std::cell::RefCell;
+use std::sync::Wait;
 use std::test::*;
+use std::thread::Threads;
 
 const ARCH: &[u8] = b"io_rat 1\ninpin class: 0 left\noutpin class: 1 right\n";
 
@@ -69,7 +71,7 @@ impl NamedFiles for Desk {
 }
 
 // What a run left, in one text: its status, its two outputs, and the placement.
-fn run(rt: &impl AllocGlobal, words: &[&[u8]]) -> Result<Vec<u8>, AllocError> {
+fn run(rt: &(impl AllocGlobal + Threads + Wait + Sync), words: &[&[u8]]) -> Result<Vec<u8>, AllocError> {
     let alloc = rt.alloc();
     let desk = Desk {
         placed: RefCell::new(None),

@@ -14,6 +14,8 @@ use clap::Error;
 use clap::error::ErrorKind;
 use fab_text::{Sink, write_whole};
 use std::alloc::{AllocError, Global};
+use std::sync::Wait;
+use std::thread::Threads;
 
 // The text of what is said of a command line, as bytes.
 fn text_of(alloc: Global, error: &Error) -> Result<Vec<u8>, AllocError> {
@@ -44,7 +46,7 @@ fn tell<O: Sink, E: Sink>(alloc: Global, error: &Error, out: &mut O, err: &mut E
 }
 
 // Does what the words ask for.
-fn run<R: AllocGlobal, F: NamedFiles, O: Sink, E: Sink>(
+fn run<R: AllocGlobal + Threads + Wait + Sync, F: NamedFiles, O: Sink, E: Sink>(
     rt: &R,
     words: &[Vec<u8>],
     files: &F,
@@ -68,7 +70,7 @@ fn run<R: AllocGlobal, F: NamedFiles, O: Sink, E: Sink>(
 
 /// Does what the words ask for, and answers the status that the shell is told: 0 done, 1 a file refused or a design
 /// that does not fit, 2 the command line, 3 no memory, 4 a device. `words` are those after the program's name.
-pub fn program<R: AllocGlobal, F: NamedFiles, O: Sink, E: Sink>(
+pub fn program<R: AllocGlobal + Threads + Wait + Sync, F: NamedFiles, O: Sink, E: Sink>(
     rt: &R,
     words: &[Vec<u8>],
     files: &F,

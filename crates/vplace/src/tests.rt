@@ -8,7 +8,9 @@ use std::alloc::{AllocError, Global};
 use std::cell::Cell;
 use std::io;
 use std::io::Write;
+use std::sync::Wait;
 use std::test::*;
+use std::thread::Threads;
 
 // What the example of four blocks is answered with.
 const LEGAL: &[u8] = b"legal 4 blocks on a 3 x 3 array\ncost 6.4968\n";
@@ -103,7 +105,7 @@ fn words_of(alloc: Global, words: &[&[u8]]) -> Result<Vec<Vec<u8>>, AllocError> 
 
 // Runs the program with an output that takes so many bytes.
 fn run_narrow(
-    rt: &impl AllocGlobal,
+    rt: &(impl AllocGlobal + Threads + Wait + Sync),
     files: &Shelf,
     words: &[&[u8]],
     room: usize,
@@ -126,7 +128,7 @@ fn run_narrow(
     })
 }
 
-fn run(rt: &impl AllocGlobal, words: &[&[u8]]) -> Result<Ended, AllocError> {
+fn run(rt: &(impl AllocGlobal + Threads + Wait + Sync), words: &[&[u8]]) -> Result<Ended, AllocError> {
     run_narrow(rt, &Shelf::new(), words, 100_000)
 }
 

@@ -10,4 +10,4 @@ returns-clause-blocks g c =
     let d = c.args.given.now.design.now in
     let s = c.args.live.now in
     let after = blocks_after d s.placement.grid s.placement.sites c.args.accepted.now.items s.done (says c.args.answer.now) c.requires.sound.legal.all c.requires.lawful c.requires.blocks in
-    subst (All (HasBlocks d)) (sym c.enter.ensures) after
+    subst (All (HasBlocks d)) (sym c.enter.ensures.items) after

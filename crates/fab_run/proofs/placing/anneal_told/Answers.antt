@@ -1,23 +1,20 @@
-use Rattle.std.proofs.Common.{◌≡◌, ℕ, ◌-◌, ◌++◌, ◌∷◌, [], List, Option, Some, OnErr, IfOk, Ok, Err, Result, refl, sym, ap, subst, ◌∙◌, rules, take}
+use Rattle.std.proofs.Common.{ℕ, refl, subst, ◌∙◌, arith, rules, take}
 use Rattle.std.specs.Io.KnownBytes.{Appends}
 use Rattle.std.proofs.lemmas.Result.{err_from_is_err_and}
 use Rattle.fab_file.specs.Written.{IsCut}
-use Rattle.fab_cost.specs.Cost.{cost_of}
-use Rattle.fab_site.specs.Placement.{IsLegal}
 use Rattle.fab_move.specs.Stream.{stream_moves}
-use Rattle.fab_commit.specs.Serial.{from}
 use Rattle.fab_commit.specs.Commits.{AnnealOf, run_of}
-use Rattle.fab_run.specs.Piece.{cost_at, head_text, last_line, stage_lines}
-use Rattle.fab_run.specs.Setting.{Setting, setting_of}
-use Rattle.fab_run.specs.Placed.{IsBegun, IsToldRun, run_by, start_by}
-use Rattle.fab_run.proofs.Whole.{IsCutReport, IsLined, cut_none, cut_head, cut_stages, cost_first, cut_run, head_is, short_head, short_stages, short_run, lined_by, told_run}
+use Rattle.fab_run.specs.Piece.{stage_lines}
+use Rattle.fab_run.specs.Setting.{setting_of}
+use Rattle.fab_run.specs.Placed.{IsBegun}
+use Rattle.fab_run.proofs.Whole.{IsCutReport, cut_none, cut_head, cut_stages, cost_first, cut_run, head_is, short_head, short_stages, short_run, lined_by, redone_run, told_run}
 use Rattle.fab_run.proofs.placing.anneal_told.Goals as goal
 
 pub returns-in_err-anneal-clause-cut : goal.returns-in_err-anneal-clause-cut
 returns-in_err-anneal-clause-cut g c =
     let s = setting_of c.args.design.now c.args.grid.now c.args.pins.fixed c.args.pins.begun c.args.schedule in
     let old = g.W.Sink.contents c.args.report.now in
-    let fact : IsCutReport s c.args.seed old old = cut_none s c.args.seed old old refl in
+    let fact : IsCutReport s c.args.options.now.seed old old = cut_none s c.args.options.now.seed old old refl in
     search (rules, fact)
 
 pub returns-in_err-costs-clause-cut : goal.returns-in_err-costs-clause-cut
@@ -25,8 +22,8 @@ returns-in_err-costs-clause-cut g c =
     let s = setting_of c.args.design.now c.args.grid.now c.args.pins.fixed c.args.pins.begun c.args.schedule in
     let old = g.W.Sink.contents c.args.report.now in
     let new = g.W.Sink.contents c.tell_start.new.report in
-    let head = head_is s c.args.seed c.in_ok-anneal.anneal c.cost.result c.in_ok-anneal.ensures.stands c.cost.ensures in
-    let fact = cut_head s c.args.seed old new (subst (λ l. IsBegun old new l) head c.in_err-costs.ensures.cut) in
+    let head = head_is s c.args.options.now.seed c.in_ok-anneal.anneal c.cost.result c.in_ok-anneal.ensures.stands c.cost.ensures in
+    let fact = cut_head s c.args.options.now.seed old new (subst (λ l. IsBegun old new l) head c.in_err-costs.ensures.cut) in
     search (rules, fact)
 
 pub returns-in_err-anneal_all-clause-cut : goal.returns-in_err-anneal_all-clause-cut
@@ -36,17 +33,17 @@ returns-in_err-anneal_all-clause-cut g c =
     let mid = g.W.Sink.contents c.tell_start.new.report in
     let new = g.W.Sink.contents c.anneal_all.new.report in
     let e = c.in_ok-anneal.ensures.stands in
-    let head = head_is s c.args.seed c.in_ok-anneal.anneal c.cost.result e c.cost.ensures in
+    let head = head_is s c.args.options.now.seed c.in_ok-anneal.anneal c.cost.result e c.cost.ensures in
     let told = subst (λ l. Appends old mid l) head c.in_ok-costs.ensures.told in
     let cut = c.in_err-anneal_all.ensures.cut in
     let there = subst (λ q. Appends mid new (take cut.1 (stage_lines (run_of stream_moves q) q.standing cut.0))) e cut.2 in
-    let fact = cut_stages s c.args.seed old mid new cut.0 cut.1 told there in
+    let fact = cut_stages s c.args.options.now.seed old mid new cut.0 cut.1 told there in
     search (rules, fact)
 
 pub returns-clause-annealed : goal.returns-clause-annealed
 returns-clause-annealed g c =
     let s = setting_of c.args.design.now c.args.grid.now c.args.pins.fixed c.args.pins.begun c.args.schedule in
-    let seed = c.args.seed in
+    let seed = c.args.options.now.seed in
     let old = g.W.Sink.contents c.args.report.now in
     let mid = g.W.Sink.contents c.tell_start.new.report in
     let more = g.W.Sink.contents c.anneal_all.new.report in
@@ -64,7 +61,7 @@ returns-clause-annealed g c =
 pub returns-clause-cut : goal.returns-clause-cut
 returns-clause-cut g c =
     let s = setting_of c.args.design.now c.args.grid.now c.args.pins.fixed c.args.pins.begun c.args.schedule in
-    let seed = c.args.seed in
+    let seed = c.args.options.now.seed in
     let old = g.W.Sink.contents c.args.report.now in
     let mid = g.W.Sink.contents c.tell_start.new.report in
     let more = g.W.Sink.contents c.anneal_all.new.report in
@@ -82,7 +79,7 @@ returns-clause-cut g c =
 pub returns-clause-short : goal.returns-clause-short
 returns-clause-short g c =
     let s = setting_of c.args.design.now c.args.grid.now c.args.pins.fixed c.args.pins.begun c.args.schedule in
-    let seed = c.args.seed in
+    let seed = c.args.options.now.seed in
     let old = g.W.Sink.contents c.args.report.now in
     let mid = g.W.Sink.contents c.tell_start.new.report in
     let more = g.W.Sink.contents c.anneal_all.new.report in
@@ -102,9 +99,9 @@ returns-in_err-costs-clause-short g c =
     let s = setting_of c.args.design.now c.args.grid.now c.args.pins.fixed c.args.pins.begun c.args.schedule in
     let old = g.W.Sink.contents c.args.report.now in
     let new = g.W.Sink.contents c.tell_start.new.report in
-    let head = head_is s c.args.seed c.in_ok-anneal.anneal c.cost.result c.in_ok-anneal.ensures.stands c.cost.ensures in
+    let head = head_is s c.args.options.now.seed c.in_ok-anneal.anneal c.cost.result c.in_ok-anneal.ensures.stands c.cost.ensures in
     let p = err_from_is_err_and c.from_residual-in_err-costs.result c.from_residual-in_err-costs.ensures.1 in
-    rw (p.1, p.2) (λ q. short_head s c.args.seed old new (subst (λ l. IsCut l old new) head (c.in_err-costs.ensures.short q)))
+    rw (p.1, p.2) (λ q. short_head s c.args.options.now.seed old new (subst (λ l. IsCut l old new) head (c.in_err-costs.ensures.short q)))
 
 pub returns-in_err-anneal_all-clause-short : goal.returns-in_err-anneal_all-clause-short
 returns-in_err-anneal_all-clause-short g c =
@@ -113,8 +110,18 @@ returns-in_err-anneal_all-clause-short g c =
     let mid = g.W.Sink.contents c.tell_start.new.report in
     let new = g.W.Sink.contents c.anneal_all.new.report in
     let e = c.in_ok-anneal.ensures.stands in
-    let head = head_is s c.args.seed c.in_ok-anneal.anneal c.cost.result e c.cost.ensures in
+    let head = head_is s c.args.options.now.seed c.in_ok-anneal.anneal c.cost.result e c.cost.ensures in
     let told = subst (λ l. Appends old mid l) head c.in_ok-costs.ensures.told in
     let short = c.in_err-anneal_all.ensures.short in
     let p = err_from_is_err_and c.from_residual-in_err-anneal_all.result c.from_residual-in_err-anneal_all.ensures.1 in
-    rw (p.1, p.2) (λ q. (let cut = short q in short_stages s c.args.seed old mid new cut.0 told (subst (λ (a : AnnealOf ℕ). IsCut (stage_lines (run_of stream_moves a) a.standing cut.0) mid new) e cut.1)))
+    rw (p.1, p.2) (λ q. (let cut = short q in short_stages s c.args.options.now.seed old mid new cut.0 told (subst (λ (a : AnnealOf ℕ). IsCut (stage_lines (run_of stream_moves a) a.standing cut.0) mid new) e cut.1)))
+
+pub returns-clause-redone : goal.returns-clause-redone
+returns-clause-redone g c =
+    let s = setting_of c.args.design.now c.args.grid.now c.args.pins.fixed c.args.pins.begun c.args.schedule in
+    let a = c.in_ok-anneal.anneal in
+    let b = c.anneal_all.new.anneal in
+    let e = c.in_ok-anneal.ensures.stands in
+    let all = c.in_ok-anneal_all.ensures in
+    let moves = c.moves-moves.ensures.limits in
+    redone_run s c.args.options.now.seed c.args.options.now.batch a b (omega (arith, moves)) e all.same all.turns all.stands all.over c.tell_end.result c.tell_end.ensures.redone

@@ -1,4 +1,4 @@
-use Rattle.std.proofs.Common.{◌≡◌, ◌≢◌, ◌⊎◌, ℕ, true, false, Option, List, Result, Ok, Err, IfErr, OnErr, refl, sym, ap, subst, ◌∙◌, inl, inr, rules}
+use Rattle.std.proofs.Common.{◌≡◌, ◌≢◌, ◌⊎◌, Err, refl, sym, ap, ◌∙◌, inr, rules}
 use Rattle.std.proofs.lemmas.Bool.{false≢true}
 use Rattle.std.proofs.lemmas.Result.{err_from_is_err_and}
 use Rattle.fab_run.specs.declared.fault.RunFault.TheVariants.{Place, Report}

@@ -1,8 +1,10 @@
 use Rattle.std.proofs.Common.{◌≡◌, ℕ, ◌+◌, ◌-◌, ◌<◌, ◌≤◌, ◌++◌, length, take, refl, sym, ap, subst, ◌∙◌, arith, rules}
 use Rattle.std.specs.Io.KnownBytes.{Appends}
 use Rattle.fab_sched.specs.Annealing.{IsCooling}
-use Rattle.fab_commit.specs.Serial.{accepted_among, from, moves_left, stage_of}
-use Rattle.fab_commit.specs.Commits.{IsSameRun, run_of}
+use Rattle.fab_commit.specs.Serial.{accepted_among, from, moves_left}
+use Rattle.fab_commit.specs.ByTurns.{LeadsByTurns}
+use Rattle.fab_commit.specs.Commits.{run_of}
+use Rattle.fab_commit.proofs.ByTurns.{by_turns_then}
 use Rattle.fab_file.specs.Written.{IsCut}
 use Rattle.fab_run.specs.Piece.{stage_costs, stage_lines}
 use Rattle.fab_run.proofs.Pieces.{left_there}
@@ -78,6 +80,7 @@ loop-stage-preserved g c =
     let low = inv.done in
     let count : n + m ≡ z.done - x.done = omega (arith, done, low) in
     record {
+      turns = by_turns_then r c.args.batch c.args.anneal.now c.loop-stage.anneal c.end_stage.new.anneal inv.turns (subst (λ q. LeadsByTurns q c.args.batch c.loop-stage.anneal c.end_stage.new.anneal) same made.turns);
       same = same_twice c.args.anneal.now c.loop-stage.anneal c.end_stage.new.anneal inv.same made.same;
       at = subst (λ k. HasTold r x z c.args.anneal.now.accepted c.end_stage.new.anneal.accepted c.args.costs.now.items c.end_stage.new.costs.items (g.W.Sink.contents c.args.report.now) (g.W.Sink.contents c.write_whole.new.out) k) count on;
       done = omega (arith, done, low);

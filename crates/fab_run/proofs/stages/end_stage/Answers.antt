@@ -1,18 +1,17 @@
-use Rattle.std.proofs.Common.{◌≡◌, ◌+◌, ◌-◌, ◌≤◌, ◌∷◌, [], ◌++◌, min, IfOk, OnOk, sym, ap, subst, ◌∙◌, arith, rules}
+use Rattle.std.proofs.Common.{◌≡◌, ◌+◌, ◌-◌, ◌≤◌, ◌++◌, IfOk, sym, ap, subst, ◌∙◌, arith, rules}
 use Rattle.fab_commit.specs.Serial.{from, moves_left}
 use Rattle.fab_commit.specs.Commits.{run_of}
-use Rattle.fab_run.specs.RunReport.{stage_line}
 use Rattle.fab_cost.specs.Cost.{cost_of}
-use Rattle.fab_run.specs.Piece.{cost_at, stage_costs, stage_lines}
-use Rattle.fab_run.proofs.Pieces.{total_grows, left_le, told_line, told_cost}
+use Rattle.fab_run.specs.Piece.{cost_at}
+use Rattle.fab_run.proofs.Pieces.{left_is, total_grows, told_line, told_cost}
 use Rattle.fab_run.proofs.stages.end_stage.Goals as goal
 
 pub overflow_sub-accepted : goal.overflow_sub-accepted
 overflow_sub-accepted g c =
     let r = run_of g.V.Words.moves c.args.anneal.now in
     let x = c.args.anneal.now.standing in
-    let y = c.turn_alone.new.self.standing in
-    let grows : x.total ≤ y.total = subst (λ s. x.total ≤ s.total) (sym c.in_ok-turn_alone.ensures.stands) (total_grows r x (y.done - x.done)) in
+    let y = c.make_stage.new.anneal.standing in
+    let grows : x.total ≤ y.total = subst (λ s. x.total ≤ s.total) (sym c.in_ok-make_stage.ensures.stands) (total_grows r x (c.args.moves - c.args.stage.done)) in
     let before = c.total-before.ensures in
     let after = c.total.ensures in
     grind (arith, grows, before, after)
@@ -21,13 +20,11 @@ pub returns-clause-costs : goal.returns-clause-costs
 returns-clause-costs g c =
     let r = run_of g.V.Words.moves c.args.anneal.now in
     let x = c.args.anneal.now.standing in
-    let y = c.turn_alone.new.self.standing in
-    let same = c.in_ok-turn_alone.ensures.same in
-    let made = c.in_ok-turn_alone.ensures.ok in
-    let few = left_le r x in
+    let y = c.make_stage.new.anneal.standing in
+    let same = c.in_ok-make_stage.ensures.same in
     let em = c.requires.moves in
-    let n : y.done - x.done ≡ moves_left r x = grind (arith, made, few, em) in
-    let there = c.in_ok-turn_alone.ensures.stands ∙ ap (from r x) n in
+    let n : c.args.moves - c.args.stage.done ≡ moves_left r x = left_is r x c.args.stage c.args.moves c.requires.stage em in
+    let there = c.in_ok-make_stage.ensures.stands ∙ ap (from r x) n in
     let cost : c.cost-cost.result ≡ cost_at r y = c.cost-cost.ensures ∙ (λ i. cost_of (same.design i) (same.grid i) y.sites) in
     let one : 1 ≤ r.plan.moves = subst (λ m. 1 ≤ m) em c.requires.some in
     let fact = c.in_ok-push.ensures.items ∙ ap (λ l. c.args.costs.now.items ++ l) (told_cost r x y c.args.stage c.cost-cost.result c.requires.stage one there cost) in
@@ -37,13 +34,11 @@ pub returns-clause-line : goal.returns-clause-line
 returns-clause-line g c =
     let r = run_of g.V.Words.moves c.args.anneal.now in
     let x = c.args.anneal.now.standing in
-    let y = c.turn_alone.new.self.standing in
-    let same = c.in_ok-turn_alone.ensures.same in
-    let made = c.in_ok-turn_alone.ensures.ok in
-    let few = left_le r x in
+    let y = c.make_stage.new.anneal.standing in
+    let same = c.in_ok-make_stage.ensures.same in
     let em = c.requires.moves in
-    let n : y.done - x.done ≡ moves_left r x = grind (arith, made, few, em) in
-    let there = c.in_ok-turn_alone.ensures.stands ∙ ap (from r x) n in
+    let n : c.args.moves - c.args.stage.done ≡ moves_left r x = left_is r x c.args.stage c.args.moves c.requires.stage em in
+    let there = c.in_ok-make_stage.ensures.stands ∙ ap (from r x) n in
     let cost : c.cost-cost.result ≡ cost_at r y = c.cost-cost.ensures ∙ (λ i. cost_of (same.design i) (same.grid i) y.sites) in
     let one : 1 ≤ r.plan.moves = subst (λ m. 1 ≤ m) em c.requires.some in
     let before = c.total-before.ensures in

@@ -1,10 +1,22 @@
+use Rattle.std.proofs.Common.{map, ap, ◌∙◌}
+use Rattle.fab_commit.specs.Serial.{Standing}
+use Rattle.fab_commit.specs.Commits.{standing_of}
+use Rattle.fab_commit.specs.Owners.{verdict_of}
+use Rattle.fab_commit.specs.TurnEvents.{no_turn}
 use Rattle.fab_commit.proofs.annealers.Anneal.new.Goals as goal
 
 pub invariant_of-result : goal.invariant_of-result
-invariant_of-result g c = c.in_ok-state.ensures.sound (g.W.Words.moves c.args.words)
+invariant_of-result g c = (no_turn (standing_of c.in_ok-live.live), c.in_ok-pipeline.ensures.behind)
 
 pub returns : goal.returns
 returns g c =
-    let stands = c.in_ok-state.ensures.stands (g.W.Words.moves c.args.words) in
-    let accepted = c.in_ok-state.ensures.accepted in
-    (λ i. record { design = c.args.design.now; grid = c.args.grid.now; fixed = c.args.fixed; plan = c.args.schedule; words = c.args.words; standing = stands i; accepted = accepted i })
+    let stands = c.in_ok-pipeline.ensures.behind.here ∙ c.in_ok-live.ensures.stands (g.W.Words.moves c.args.words) in
+    let told = c.in_ok-pipeline.ensures.told in
+    let ahead = ap (map (verdict_of c.in_ok-pipeline.pipeline.base)) told.0 in
+    (λ i. record { design = c.args.design.now; grid = c.args.grid.now; fixed = c.args.fixed; plan = c.args.schedule; words = c.args.words; standing = stands i; ahead = ahead i; swaps = told.1 i; accepted = told.2 i; redone = told.3 i })
+
+pub first_pipeline-requires-clause-sound : goal.first_pipeline-requires-clause-sound
+first_pipeline-requires-clause-sound g c = c.in_ok-live.ensures.sound (g.W.Words.moves c.args.words)
+
+pub first_pipeline-requires-clause-first : goal.first_pipeline-requires-clause-first
+first_pipeline-requires-clause-first g c = ap (λ (x : Standing). x.done) (c.in_ok-live.ensures.stands (g.W.Words.moves c.args.words))

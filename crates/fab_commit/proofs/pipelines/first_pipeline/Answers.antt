@@ -1,0 +1,25 @@
+use Rattle.std.proofs.Common.{[], length, refl, sym, ap, arith}
+use Rattle.fab_commit.specs.Commits.{run, standing_of}
+use Rattle.fab_commit.proofs.Pipelining.{no_answers}
+use Rattle.fab_commit.proofs.pipelines.first_pipeline.Goals as goal
+
+pub returns-clause-behind : goal.returns-clause-behind
+returns-clause-behind g c =
+    let r = run c.args.given.now.design.now c.args.given.now.grid.now c.args.given.now.fixed.now (g.W.Words.moves c.args.given.now.words.now) c.args.given.now.schedule.now in
+    record {
+      plan = c.requires.plan;
+      stage = omega arith;
+      owned = record { sound = c.requires.sound; table = c.in_ok-stamps.ensures.table; counted = omega arith };
+      older = c.in_ok-older.ensures.sound r c.requires.sound;
+      same = c.in_ok-older.ensures.stands;
+      here = refl;
+      done_is = omega arith;
+      base_is = sym c.requires.first;
+      many = ap length c.new-3.ensures.items;
+      answers_are = no_answers r (standing_of c.args.live) c.args.live.done c.new-3.result.items c.new-3.ensures.items;
+      swaps = c.new-2.ensures.items;
+      log = [];
+      stamps = c.in_ok-stamps.ensures.none;
+      before = tt;
+      recent = refl;
+    }

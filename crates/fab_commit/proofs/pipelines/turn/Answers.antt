@@ -1,0 +1,48 @@
+use Rattle.std.proofs.Common.{◌≡◌, ◌-◌, min, Result, Ok, Err, OnErr, ap, arith}
+use Rattle.fab_commit.specs.Serial.{moves_left}
+use Rattle.fab_commit.specs.Commits.{run, standing_of}
+use Rattle.fab_commit.specs.TurnEvents.{next_turn}
+use Rattle.fab_commit.proofs.Annealing.{redone_on, world_cut, world_on}
+use Rattle.fab_commit.proofs.pipelines.turn.Goals as goal
+
+on_err : {A E : Type 0} (r : Result A E) (P : Type 0) → P → OnErr r P
+on_err (Ok a) P p = tt
+on_err (Err e) P p = p
+
+pub returns-in_err-make_turn-clause-redone : goal.returns-in_err-make_turn-clause-redone
+returns-in_err-make_turn-clause-redone g c =
+    let r = run c.args.given.now.design.now c.args.given.now.grid.now c.args.given.now.fixed.now (g.W.Words.moves c.args.given.now.words.now) c.args.given.now.schedule.now in
+    let s = c.args.state.now in
+    let now = c.make_turn.new.state in
+    let t = c.requires.turn.0 in
+    let b = c.requires.turn.1 in
+    let n = now.owner.state.done - s.owner.state.done in
+    let within = c.in_err-make_turn.ensures.within in
+    let same : min c.args.batch (moves_left r (standing_of s.owner.state)) ≡ (next_turn r c.args.batch t).made = ap (λ x. min c.args.batch (moves_left r x)) b.here in
+    redone_on r t s now c.args.batch n 0 b (c.in_err-make_turn.ensures.err t b) (omega (arith, within, same))
+
+pub returns-in_err-make_turn-clause-cut : goal.returns-in_err-make_turn-clause-cut
+returns-in_err-make_turn-clause-cut g c =
+    let r = run c.args.given.now.design.now c.args.given.now.grid.now c.args.given.now.fixed.now (g.W.Words.moves c.args.given.now.words.now) c.args.given.now.schedule.now in
+    let s = c.args.state.now in
+    let now = c.make_turn.new.state in
+    let t = c.requires.turn.0 in
+    let b = c.requires.turn.1 in
+    let n = now.owner.state.done - s.owner.state.done in
+    on_err _ _ (world_cut r t s now n b (c.in_err-make_turn.ensures.err t b))
+
+pub returns-clause-redone : goal.returns-clause-redone
+returns-clause-redone g c =
+    let r = run c.args.given.now.design.now c.args.given.now.grid.now c.args.given.now.fixed.now (g.W.Words.moves c.args.given.now.words.now) c.args.given.now.schedule.now in
+    let s = c.args.state.now in
+    let t = c.requires.turn.0 in
+    let b = c.requires.turn.1 in
+    let next = next_turn r c.args.batch t in
+    redone_on r t s c.make_turn.new.state c.args.batch next.made next.ahead b (c.in_ok-make_turn.ensures.ok t b) (omega arith)
+
+pub returns-clause-world : goal.returns-clause-world
+returns-clause-world g c =
+    let r = run c.args.given.now.design.now c.args.given.now.grid.now c.args.given.now.fixed.now (g.W.Words.moves c.args.given.now.words.now) c.args.given.now.schedule.now in
+    let t = c.requires.turn.0 in
+    let b = c.requires.turn.1 in
+    world_on r t c.args.state.now c.make_turn.new.state c.args.batch b (c.in_ok-make_turn.ensures.ok t b)
