@@ -33,6 +33,8 @@ pub fn check_files<F: NamedFiles, O: Sink, E: Sink>(
     out: &mut O,
     err: &mut E,
 ) -> Status
+    // What goes out is the report of some three texts.
+    ensures done { result ≡ Status.Done → (arch net place : List ℕ) × (cost : ℕ) × IsReported arch net place cost (O.contents out.old) (O.contents out.new) }
     ensures silent { result ≡ Status.Refused → O.contents out.new ≡ O.contents out.old }
     ensures written { result ≡ Status.Done → O.failed out.new ≡ O.failed out.old }
     ensures quiet { result ≡ Status.Done → E.contents err.new ≡ E.contents err.old }

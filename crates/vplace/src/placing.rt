@@ -1,13 +1,17 @@
 //! The subcommand `place`: the files are read, and only then is the first of their texts looked at; the placement is
 //! written once the run has answered.
 
-ghost use Rattle.std.specs.Prelude.{◌≡◌, ◌≢◌, ◌⊎◌, OnOk, OnErr, IfOk, IfErr};
+ghost use Rattle.std.specs.Prelude.{◌≡◌, ◌≢◌, ◌⊎◌, ℕ, List, OnOk, OnErr, IfOk, IfErr, MatchResult};
+ghost use Rattle.fab_text.specs.Decimal.{decimal_of};
 ghost use Rattle.fab_text.specs.Failures.{grown};
+ghost use Rattle.fab_text.specs.declared.numbers.NumFault.{NumFault as NumFaultOf};
 ghost use Rattle.fab_run.specs.Placed.{IsReportBegun};
 ghost use Rattle.fab_run.specs.RunChecks.{IsRunFault};
-ghost use Rattle.fab_run.specs.Setting.{IsSetting, Setting, texts_of};
+ghost use Rattle.fab_run.specs.Setting.{IsSetting, Setting, Texts, texts_of};
+ghost use Rattle.fab_run.specs.declared.inputs.Options.{Options as OptionsOf};
 ghost use Rattle.fab_run.specs.declared.fault.RunFault.{RunFault as RunFaultOf};
 ghost use Rattle.vplace.specs.Status.{IsRefused, status_of};
+ghost use Rattle.vplace.specs.Asked.{AreAsked, IsCoolingAsked, size_asked};
 ghost use Rattle.vplace.specs.Placing.{IsPlacedText};
 
 use crate::files::NamedFiles;
@@ -44,8 +48,9 @@ pub struct PlaceWords {
 
 /// The size of the array, where its columns and rows are given; one without the other is refused.
 fn size_of<E: Sink>(words: &PlaceWords, err: &mut E) -> Result<Option<(u16, u16)>, Status>
+    ensures value { MatchResult result (λ size. size_asked words.now.nx words.now.ny ≡ Some size) (λ _. size_asked words.now.nx words.now.ny ≡ None) }
     ensures quiet { OnOk result (E.contents err.new ≡ E.contents err.old) }
-    ensures open { IfErr result (λ status. status ≢ Status.Done) }
+    ensures open { IfErr result (λ status. (status ≡ Status.CommandLine) ⊎ (status ≡ Status.NoMemory)) }
 {
     match (words.nx, words.ny) {
         (Some(nx), Some(ny)) => Ok(Some((nx, ny))),
@@ -62,8 +67,9 @@ fn scaled<E: Sink>(
     places: u32,
     err: &mut E,
 ) -> Result<u64, Status>
+    ensures value { MatchResult result (λ n. decimal_of text.now places ≡ Ok n) (λ _. (fault : NumFaultOf) × (decimal_of text.now places ≡ Err fault)) }
     ensures quiet { OnOk result (E.contents err.new ≡ E.contents err.old) }
-    ensures open { IfErr result (λ status. status ≢ Status.Done) }
+    ensures open { IfErr result (λ status. (status ≡ Status.CommandLine) ⊎ (status ≡ Status.NoMemory)) }
 {
     match decimal(text, places) {
         Ok(number) => Ok(number),
@@ -72,8 +78,9 @@ fn scaled<E: Sink>(
 }
 
 fn cooling_of<E: Sink>(alloc: Global, text: &[u8], err: &mut E) -> Result<Cooling, Status>
+    ensures value { IfOk result (IsCoolingAsked text.now) }
     ensures quiet { OnOk result (E.contents err.new ≡ E.contents err.old) }
-    ensures open { IfErr result (λ status. status ≢ Status.Done) }
+    ensures open { IfErr result (λ status. (status ≡ Status.CommandLine) ⊎ (status ≡ Status.NoMemory)) }
 {
     if text == b"adaptive".as_slice() {
         return Ok(Cooling::Adaptive);
@@ -83,8 +90,9 @@ fn cooling_of<E: Sink>(alloc: Global, text: &[u8], err: &mut E) -> Result<Coolin
 
 /// The options of a run, or what is wrong with the first of the words that is.
 fn options_of<E: Sink>(alloc: Global, words: &PlaceWords, err: &mut E) -> Result<Options, Status>
+    ensures value { IfOk result (AreAsked words.now) }
     ensures quiet { OnOk result (E.contents err.new ≡ E.contents err.old) }
-    ensures open { IfErr result (λ status. status ≢ Status.Done) }
+    ensures open { IfErr result (λ status. (status ≡ Status.CommandLine) ⊎ (status ≡ Status.NoMemory)) }
 {
     let size = size_of(words, err)?;
     let init_t = scaled(alloc, Number::InitT, words.init_t.as_slice(), 4, err)?;
@@ -165,6 +173,8 @@ pub fn place_files<R: AllocGlobal + Threads + Wait + Sync, F: NamedFiles, O: Sin
     out: &mut O,
     err: &mut E,
 ) -> Status
+    // What goes out is the report of a run of the numbers asked for.
+    ensures placed { result ≡ Status.Done → (texts : Texts) × (options : OptionsOf) × (text : List ℕ) × AreAsked words.now options × IsPlacedText texts options (O.contents out.old) (O.contents out.new) text }
     ensures silent { IsRefused result → O.contents out.new ≡ O.contents out.old }
     ensures written { result ≡ Status.Done → O.failed out.new ≡ O.failed out.old }
     ensures quiet { result ≡ Status.Done → E.contents err.new ≡ E.contents err.old }
@@ -186,6 +196,8 @@ fn placed<R: AllocGlobal + Threads + Wait + Sync, F: NamedFiles, O: Sink, E: Sin
     out: &mut O,
     err: &mut E,
 ) -> Result<Vec<u8>, Status>
+    // What goes out is the report of a run of the numbers asked for, and the answer is the text of its placement.
+    ensures placed { IfOk result (λ text. (texts : Texts) × (options : OptionsOf) × AreAsked words.now options × IsPlacedText texts options (O.contents out.old) (O.contents out.new) text.items) }
     ensures silent { IfErr result (λ status. IsRefused status → O.contents out.new ≡ O.contents out.old) }
     ensures written { OnOk result (O.failed out.new ≡ O.failed out.old) }
     ensures quiet { OnOk result (E.contents err.new ≡ E.contents err.old) }

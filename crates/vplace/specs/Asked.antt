@@ -1,0 +1,36 @@
+-- What the words of `place` ask for (our own).
+use Rattle.std.specs.Prelude.{ℕ, ◌≡◌, List, Option, Some, None, Ok, codes}
+use Rattle.fab_text.specs.Decimal.{decimal_of}
+use Rattle.fab_sched.specs.declared.schedules.Cooling.{Cooling}
+use Rattle.fab_sched.specs.declared.schedules.Cooling.TheVariants.{Factor, Adaptive}
+use Rattle.fab_run.specs.declared.inputs.Moves.{Moves}
+use Rattle.fab_run.specs.declared.inputs.Moves.TheVariants.{Given, Inner}
+use Rattle.fab_run.specs.declared.inputs.Options.{Options}
+use Rattle.vplace.specs.declared.placing.PlaceWords.{PlaceWords}
+
+-- the size of the array is asked for by both numbers or by none; one alone asks for nothing
+abbrev pub size_asked : Option ℕ → Option ℕ → Option (Option (ℕ × ℕ))
+size_asked (Some nx) (Some ny) = Some (Some (nx, ny))
+size_asked None None = Some None
+size_asked nx ny = None
+
+-- the text asks for this cooling: by the word `adaptive`, else by a factor with at most three places
+abbrev pub IsCoolingAsked : List ℕ → Cooling → Type 0
+IsCoolingAsked text Adaptive = text ≡ codes "adaptive"
+IsCoolingAsked text (Factor alpha) = decimal_of text 3 ≡ Ok alpha
+
+-- the moves of a stage, by their number where that is given, else by VPR's rule
+abbrev pub moves_asked : Option ℕ → ℕ → Moves
+moves_asked (Some moves) inner = Given moves
+moves_asked None inner = Inner inner
+
+-- the words ask for these numbers: temperatures with at most four places, in ten-thousandths
+pub record AreAsked (w : PlaceWords) (o : Options) : Type 0 where
+  pub seed : o.seed ≡ w.seed
+  pub size : size_asked w.nx w.ny ≡ Some o.size
+  pub init : decimal_of w.init_t.items 4 ≡ Ok o.init_t
+  pub exit : decimal_of w.exit_t.items 4 ≡ Ok o.exit_t
+  pub cooling : IsCoolingAsked w.alpha_t.items o.cooling
+  pub moves : o.moves ≡ moves_asked w.moves w.inner
+  pub batch : o.batch ≡ w.batch
+  pub workers : o.workers ≡ w.workers
