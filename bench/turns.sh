@@ -26,6 +26,9 @@ use fab_run::{Inputs, Moves, Options, place_run};
 use fab_sched::Cooling;
 use fab_text::Counted;
 use std::fs;
+use std::rt::Files;
+use std::sync::Wait;
+use std::thread::Threads;
 
 const MOVES: u64 = 20_000;
 
@@ -35,7 +38,12 @@ const LABELS: Labels<'static> = Labels {
 };
 
 // How many moves a run judges again, or nothing where it is refused.
-fn redone(rt: &HostRuntime, arch: &[u8], net: &[u8], batch: u64) -> Option<u64> {
+fn redone<'x, R: AllocGlobal + Threads + Wait + Sync>(
+    rt: &R,
+    arch: &'x [u8],
+    net: &'x [u8],
+    batch: u64,
+) -> Option<u64> {
     let inputs = Inputs {
         arch,
         net,
@@ -60,20 +68,24 @@ fn redone(rt: &HostRuntime, arch: &[u8], net: &[u8], batch: u64) -> Option<u64> 
     }
 }
 
-fn told(rt: &HostRuntime, name: &str) -> anyhow::Result<()> {
+fn told<R: AllocGlobal + Files + Threads + Wait + Sync>(
+    rt: &R,
+    name: &str,
+) -> anyhow::Result<String> {
+    let mut text = String::new(rt.alloc());
     let arch = fs::read(rt, format!(in rt.alloc(); "{name}.arch")?.as_str())?;
     let net = fs::read(rt, format!(in rt.alloc(); "{name}.net")?.as_str())?;
     for batch in [64, 256, 1024, 4096] {
         if let Some(again) = redone(rt, &arch, &net, batch) {
-            println!(rt; "redone {name} {batch} {again}")?;
+            text.push_str(format!(in rt.alloc(); "redone {name} {batch} {again}\n")?.as_str())?;
         }
     }
-    Ok(())
+    Ok(text)
 }
 
 fn main(rt: HostRuntime) -> anyhow::Result<()> {
-    told(&rt, "picorv32_cl4")?;
-    told(&rt, "duo_ble")?;
+    print!(rt; "{}", told(&rt, "picorv32_cl4")?)?;
+    print!(rt; "{}", told(&rt, "duo_ble")?)?;
     Ok(())
 }
 MAIN

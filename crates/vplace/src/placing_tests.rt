@@ -71,7 +71,10 @@ impl NamedFiles for Desk {
 }
 
 // What a run left, in one text: its status, its two outputs, and the placement.
-fn run(rt: &(impl AllocGlobal + Threads + Wait + Sync), words: &[&[u8]]) -> Result<Vec<u8>, AllocError> {
+fn run(
+    rt: &(impl AllocGlobal + Threads + Wait + Sync),
+    words: &[&[u8]],
+) -> Result<Vec<u8>, AllocError> {
     let alloc = rt.alloc();
     let desk = Desk {
         placed: RefCell::new(None),

@@ -128,7 +128,10 @@ fn run_narrow(
     })
 }
 
-fn run(rt: &(impl AllocGlobal + Threads + Wait + Sync), words: &[&[u8]]) -> Result<Ended, AllocError> {
+fn run(
+    rt: &(impl AllocGlobal + Threads + Wait + Sync),
+    words: &[&[u8]],
+) -> Result<Ended, AllocError> {
     run_narrow(rt, &Shelf::new(), words, 100_000)
 }
 
