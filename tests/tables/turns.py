@@ -16,29 +16,20 @@ sys.path.insert(0, sys.argv[1])
 sys.path.insert(0, os.environ.get("WORLDS", os.path.dirname(os.path.abspath(__file__))))
 
 with contextlib.redirect_stdout(io.StringIO()), contextlib.redirect_stderr(io.StringIO()):
-    from worlds import ARCH, net_text, row
+    from worlds import at_start, net_text, row
 
 from random import Random
 
-from placer.anneal import BATCH_BEFORE, Setting, first_standing, redone, run_piece
-from placer.arch import fit, read_arch
-from placer.net import read_net
-from placer.place import Fixed, Pins, start
+from placer.anneal import BATCH_BEFORE, redone, run_piece
 from placer.schedule import Schedule
-from placer.words import StreamWords
 
 ENDS = 20
 BATCHES = (1, 2, 5)
 
 
 def run(net, plan, seed):
-    arch = read_arch(ARCH)
-    design = read_net(net.encode(), arch)
-    grid = fit(design.logic(), design.pads(), arch.io_rat)
-    words = StreamWords(seed)
-    pins = Pins(Fixed(), Fixed())
-    setting = Setting(design, grid, pins.fixed, plan, words)
-    return setting, run_piece(setting, first_standing(setting, start(design, grid, pins, words)))
+    setting, standing = at_start(net, plan, seed)
+    return setting, run_piece(setting, standing)
 
 
 def redone_in(setting, piece, batches):

@@ -56,18 +56,24 @@ def happens(world, text):
             at += 1
 
 
-def row(seed):
-    chance = random.Random(seed)
-    net = net_text(chance, chance.randrange(3, 8), chance.randrange(1, 4))
-    cooling = chance.choice([500, 800, ADAPTIVE])
-    plan = Schedule(chance.choice([1, 4000, 30000]), 3000, cooling, chance.randrange(3, 10))
+def at_start(net, plan, seed):
+    """What a run of this netlist is given, and where it stands before its first move; no block is fixed."""
     arch = read_arch(ARCH)
     design = read_net(net.encode(), arch)
     grid = fit(design.logic(), design.pads(), arch.io_rat)
     words = StreamWords(seed)
     pins = Pins(Fixed(), Fixed())
     setting = Setting(design, grid, pins.fixed, plan, words)
-    world = World(setting, first_standing(setting, start(design, grid, pins, words)))
+    return setting, first_standing(setting, start(design, grid, pins, words))
+
+
+def row(seed):
+    chance = random.Random(seed)
+    net = net_text(chance, chance.randrange(3, 8), chance.randrange(1, 4))
+    cooling = chance.choice([500, 800, ADAPTIVE])
+    plan = Schedule(chance.choice([1, 4000, 30000]), 3000, cooling, chance.randrange(3, 10))
+    setting, standing = at_start(net, plan, seed)
+    world = World(setting, standing)
     text = event_list(chance, chance.randrange(2, 7))
     happens(world, text)
     ways = "".join(world.ways[k][0] for k in sorted(world.ways))

@@ -11,7 +11,7 @@ use Rattle.fab_commit.specs.Owners.{verdict_of}
 use Rattle.fab_commit.specs.Pipelines.{HasTurned, IsBehind, world_in}
 use Rattle.fab_commit.specs.RunLaws.{is_redone_way}
 use Rattle.fab_commit.specs.TurnEvents.{LastTurn, events_from, forget, next_turn, stands, turn, turn_events, turn_making, verdict_on, world_behind}
-use Rattle.fab_commit.specs.World.{run_through, ways}
+use Rattle.fab_commit.specs.World.{World, run_through, ways}
 use Rattle.fab_commit.proofs.RunLaws.{ways_of_a_beginning}
 use Rattle.fab_commit.proofs.TurnLaws.{length_on, turn_leads, turns_lead_on}
 
@@ -67,6 +67,13 @@ world_on r t s now batch b h =
     world_is r (next_turn r batch t) now h.behind
     ∙ sym (turns_lead_on r t batch (some_moves r t s b) b.stage).0
     ∙ ap (turn r batch) (sym (world_is r t s b))
+
+-- what it judged ahead: so many moves behind its own, on the placement where it began
+pub ahead_on : (r : Run) (t : LastTurn) (s now : Pipeline) (n ahead : ℕ) → IsBehind r t s → HasTurned r t s n ahead now → map (verdict_of now.base) now.ahead.items ≡ map (verdict_on r (standing_of s.owner.state)) (range_with_len now.owner.state.done ahead)
+ahead_on r t s now n ahead b h =
+    let u : LastTurn = record { start = stands r t; made = n; ahead = ahead } in
+    ap (λ (w : World). w.verdicts) (world_is r u now h.behind)
+    ∙ (λ i. map (verdict_on r (sym b.here i)) (range_with_len (sym (done_at r u now h.behind) i) ahead))
 
 pub world_cut : (r : Run) (t : LastTurn) (s now : Pipeline) (n : ℕ) → IsBehind r t s → HasTurned r t s n 0 now → world_in now ≡ turn_making r (now.owner.state.done - s.owner.state.done) 0 (world_in s)
 world_cut r t s now n b h =

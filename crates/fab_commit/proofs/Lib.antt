@@ -2,7 +2,6 @@ pub mod Kept
 pub mod Advancing
 pub mod Committing
 pub mod Folding
-pub mod Turning
 pub mod Beginning
 pub mod Marked
 pub mod Sitings

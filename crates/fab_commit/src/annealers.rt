@@ -10,7 +10,7 @@ ghost use Rattle.fab_commit.specs.Serial.{IsStanding, accepted_among, at_start, 
 ghost use Rattle.fab_commit.specs.Commits.{IsSameRun, run, run_of, turn_of, world_of};
 ghost use Rattle.fab_commit.specs.ByTurns.{LeadsByTurns};
 ghost use Rattle.fab_commit.specs.RunLaws.{is_redone_way};
-ghost use Rattle.fab_commit.specs.TurnEvents.{turn, turn_events, turn_making};
+ghost use Rattle.fab_commit.specs.TurnEvents.{turn, turn_events, turn_making, verdict_on};
 ghost use Rattle.fab_commit.specs.World.{ways};
 
 use crate::pipelines::{Pipeline, first_pipeline, turn};
@@ -201,6 +201,10 @@ impl<'a, W: Words + Sync + Drop> Anneal<'a, W> {
         ensures world { OnOk result (world_of self.new ≡ turn (run_of W.moves self.old) batch (world_of self.old)) }
         ensures cut { OnErr result (world_of self.new ≡ turn_making (run_of W.moves self.old) (self.new.standing.done - self.old.standing.done) 0 (world_of self.old)) }
         ensures redone { self.new.redone ≡ self.old.redone + count_by is_redone_way (take (self.new.standing.done - self.old.standing.done) (ways (run_of W.moves self.old) (world_of self.old) (turn_events (run_of W.moves self.old) batch (world_of self.old)))) }
+        // What stands then are the verdicts for the next moves of the stage, as many as the batch or all that are left, on the
+        // placement at the turn's start; where memory is short, none.
+        ensures ahead { OnOk result (self.new.ahead ≡ map (verdict_on (run_of W.moves self.old) self.old.standing) (range_with_len self.new.standing.done (min batch (moves_left (run_of W.moves self.old) self.old.standing - min batch (moves_left (run_of W.moves self.old) self.old.standing))))) }
+        ensures lost { OnErr result (self.new.ahead ≡ []) }
         // Whatever standing turns of this batch led on from, this is one more of them.
         ensures turns { OnOk result (LeadsByTurns (run_of W.moves self.old) batch self.old self.new) }
     {

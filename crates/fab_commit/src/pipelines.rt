@@ -1,15 +1,15 @@
 //! Turns: the owner commits a batch on the live placement, while workers judge the next one on the older placement.
 
-ghost use Rattle.std.specs.Prelude.{◌≡◌, ℕ, ◌+◌, ◌-◌, ◌^◌, ◌<◌, ◌≤◌, ◌++◌, [], false, length, min, take, IfOk, OnOk, OnErr};
-ghost use Rattle.std.specs.List.{count_by};
+ghost use Rattle.std.specs.Prelude.{◌≡◌, ℕ, ◌+◌, ◌-◌, ◌^◌, ◌<◌, ◌≤◌, ◌++◌, [], false, length, map, min, take, IfOk, OnOk, OnErr};
+ghost use Rattle.std.specs.List.{count_by, range_with_len};
 ghost use Rattle.std.specs.Thread.{IsSync};
 ghost use Rattle.fab_sched.specs.Annealing.{IsLawful};
 ghost use Rattle.fab_commit.specs.Serial.{Run, accepted_among, from, moves_left};
 ghost use Rattle.fab_commit.specs.Commits.{IsSound, run, standing_of};
-ghost use Rattle.fab_commit.specs.Owners.{AreAnswers, AreDue, HasCounted, HasMade, HasRoom, IsOwned, Leads};
+ghost use Rattle.fab_commit.specs.Owners.{AreAnswers, AreDue, HasCounted, HasMade, HasRoom, IsOwned, Leads, verdict_of};
 ghost use Rattle.fab_commit.specs.Pipelines.{HasTurn, HasTurned, IsAnswer, IsBehind, world_in};
 ghost use Rattle.fab_commit.specs.RunLaws.{is_redone_way};
-ghost use Rattle.fab_commit.specs.TurnEvents.{LastTurn, next_turn, no_turn, turn, turn_events, turn_making};
+ghost use Rattle.fab_commit.specs.TurnEvents.{LastTurn, next_turn, no_turn, turn, turn_events, turn_making, verdict_on};
 ghost use Rattle.fab_commit.specs.World.{ways};
 
 use crate::owners::{Owner, commit_each};
@@ -361,6 +361,8 @@ pub(crate) fn turn<W: Words + Sync, G: Gate, R: Threads + Wait + Sync>(
     ensures ok { OnOk result (state.new.owner.state.done ≡ state.old.owner.state.done + min batch (moves_left (run given.now.design.now given.now.grid.now given.now.fixed.now (W.moves given.now.words.now) given.now.schedule.now) (standing_of state.old.owner.state))) }
     ensures within { (state.old.owner.state.done ≤ state.new.owner.state.done) × (state.new.owner.state.done ≤ state.old.owner.state.done + min batch (moves_left (run given.now.design.now given.now.grid.now given.now.fixed.now (W.moves given.now.words.now) given.now.schedule.now) (standing_of state.old.owner.state))) }
     ensures world { OnOk result (world_in state.new ≡ turn (run given.now.design.now given.now.grid.now given.now.fixed.now (W.moves given.now.words.now) given.now.schedule.now) batch (world_in state.old)) }
+    ensures ahead { OnOk result (map (verdict_of state.new.base) state.new.ahead.items ≡ map (verdict_on (run given.now.design.now given.now.grid.now given.now.fixed.now (W.moves given.now.words.now) given.now.schedule.now) (standing_of state.old.owner.state)) (range_with_len state.new.owner.state.done (min batch (moves_left (run given.now.design.now given.now.grid.now given.now.fixed.now (W.moves given.now.words.now) given.now.schedule.now) (standing_of state.old.owner.state) - min batch (moves_left (run given.now.design.now given.now.grid.now given.now.fixed.now (W.moves given.now.words.now) given.now.schedule.now) (standing_of state.old.owner.state)))))) }
+    ensures lost { OnErr result (map (verdict_of state.new.base) state.new.ahead.items ≡ []) }
     ensures cut { OnErr result (world_in state.new ≡ turn_making (run given.now.design.now given.now.grid.now given.now.fixed.now (W.moves given.now.words.now) given.now.schedule.now) (state.new.owner.state.done - state.old.owner.state.done) 0 (world_in state.old)) }
 {
     make_turn(rt, alloc, given, state, batch, workers, gate)?;

@@ -1,8 +1,9 @@
-use Rattle.std.proofs.Common.{◌≡◌, ◌-◌, min, Result, Ok, Err, OnErr, ap, arith}
+use Rattle.std.proofs.Common.{◌≡◌, ◌-◌, min, map, Result, Ok, Err, OnErr, sym, ap, ◌∙◌, arith}
+use Rattle.std.specs.List.{range_with_len}
 use Rattle.fab_commit.specs.Serial.{moves_left}
 use Rattle.fab_commit.specs.Commits.{run, standing_of}
-use Rattle.fab_commit.specs.TurnEvents.{next_turn}
-use Rattle.fab_commit.proofs.Annealing.{redone_on, world_cut, world_on}
+use Rattle.fab_commit.specs.TurnEvents.{next_turn, verdict_on}
+use Rattle.fab_commit.proofs.Annealing.{ahead_on, redone_on, world_cut, world_on}
 use Rattle.fab_commit.proofs.pipelines.turn.Goals as goal
 
 on_err : {A E : Type 0} (r : Result A E) (P : Type 0) → P → OnErr r P
@@ -46,3 +47,24 @@ returns-clause-world g c =
     let t = c.requires.turn.0 in
     let b = c.requires.turn.1 in
     world_on r t c.args.state.now c.make_turn.new.state c.args.batch b (c.in_ok-make_turn.ensures.ok t b)
+
+pub returns-clause-ahead : goal.returns-clause-ahead
+returns-clause-ahead g c =
+    let r = run c.args.given.now.design.now c.args.given.now.grid.now c.args.given.now.fixed.now (g.W.Words.moves c.args.given.now.words.now) c.args.given.now.schedule.now in
+    let s = c.args.state.now in
+    let t = c.requires.turn.0 in
+    let b = c.requires.turn.1 in
+    let next = next_turn r c.args.batch t in
+    let now = c.make_turn.new.state in
+    ahead_on r t s now next.made next.ahead b (c.in_ok-make_turn.ensures.ok t b)
+    ∙ (λ i. map (verdict_on r (standing_of s.owner.state)) (range_with_len now.owner.state.done (min c.args.batch (moves_left r (sym b.here i) - min c.args.batch (moves_left r (sym b.here i))))))
+
+pub returns-in_err-make_turn-clause-lost : goal.returns-in_err-make_turn-clause-lost
+returns-in_err-make_turn-clause-lost g c =
+    let r = run c.args.given.now.design.now c.args.given.now.grid.now c.args.given.now.fixed.now (g.W.Words.moves c.args.given.now.words.now) c.args.given.now.schedule.now in
+    let s = c.args.state.now in
+    let now = c.make_turn.new.state in
+    let t = c.requires.turn.0 in
+    let b = c.requires.turn.1 in
+    let n = now.owner.state.done - s.owner.state.done in
+    on_err _ _ (ahead_on r t s now n 0 b (c.in_err-make_turn.ensures.err t b))
