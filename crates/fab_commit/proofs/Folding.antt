@@ -1,22 +1,11 @@
 -- Moves one after another: they compose, and a stage goes on while it has moves left.
-use Rattle.std.proofs.Common.{◌≡◌, ℕ, zero, suc, ◌+◌, ◌-◌, ◌*◌, ◌/◌, ◌%◌, ◌<◌, Bool, true, false, cond, eqb, ◌++◌, Option, Some, None, is_some, refl, sym, ap, ◌∙◌, arith}
+use Rattle.std.proofs.Common.{◌≡◌, ℕ, zero, suc, ◌+◌, ◌-◌, ◌*◌, ◌/◌, ◌%◌, ◌<◌, Bool, true, false, cond, eqb, Option, Some, None, is_some, refl, ap, ◌∙◌, arith}
 use Rattle.std.proofs.lemmas.Bool.{ne_eqb, false≢true}
-use Rattle.std.proofs.lemmas.List.{append-nil}
-use Rattle.std.proofs.Common.{append_assoc}
 use Rattle.std.proofs.lemmas.Nat.{mod-mul-add}
 use Rattle.std.proofs.Math.Nat.{mod-add-div}
 use Rattle.fab_commit.specs.Commits.{heat_of}
-use Rattle.fab_commit.specs.Serial.{Run, Standing, step, from, after_move, judged_here, accepted_here, accepted_among, moves_left, left_at, one_if}
+use Rattle.fab_commit.specs.Serial.{Run, Standing, step, from, after_move, judged_here, moves_left, left_at, one_if}
 use Rattle.fab_sched.specs.Annealing.{next_heat}
-
--- one more move at the end
-pub from_last : (r : Run) (x : Standing) (n : ℕ) → from r x (suc n) ≡ step r (from r x n)
-from_last r x zero = refl
-from_last r x (suc n) = from_last r (step r x) n
-
-pub accepted_last : (r : Run) (x : Standing) (n : ℕ) → accepted_among r x (suc n) ≡ accepted_among r x n ++ accepted_here r (from r x n)
-accepted_last r x zero = append-nil (accepted_here r x)
-accepted_last r x (suc n) = ap (λ l. accepted_here r x ++ l) (accepted_last r (step r x) n) ∙ sym (append_assoc (accepted_here r x) (accepted_among r (step r x) n) (accepted_here r (from r (step r x) n)))
 
 -- n moves and then m moves
 pub from_add : (r : Run) (x : Standing) (n m : ℕ) → from r x (n + m) ≡ from r (from r x n) m
@@ -74,12 +63,6 @@ goes_on r x (suc n) l = (let e = left_step r x (omega (arith, l)) in goes_on r (
 
 pub step_done : (r : Run) (x : Standing) → is_some x.heat ≡ true → (step r x).done ≡ x.done + 1
 step_done r x h = ap (λ y. y.done) (step_is r x h)
-
-pub from_more : (r : Run) (x : Standing) (n : ℕ) → step r (from r x n) ≡ from r x (n + 1)
-from_more r x n = (let e : suc n ≡ n + 1 = omega arith in sym (from_last r x n) ∙ ap (from r x) e)
-
-pub accepted_more : (r : Run) (x : Standing) (n : ℕ) → accepted_among r x n ++ accepted_here r (from r x n) ≡ accepted_among r x (n + 1)
-accepted_more r x n = (let e : suc n ≡ n + 1 = omega arith in sym (accepted_last r x n) ∙ ap (accepted_among r x) e)
 
 pub not_ended : (b : Bool) (t : ℕ) → is_some (heat_of b t) ≡ true → b ≡ false
 not_ended true t e = absurd (false≢true e)
