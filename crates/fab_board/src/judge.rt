@@ -59,10 +59,11 @@ pub fn judge_batch<
     ensures len { IfOk result (λ v. length v.items ≡ count) }
     ensures each { IfOk result (λ v. (j : ℕ) (d : T) → j < count → F.post judge.now (first + j) (Ok (slice_index_or v.items j d))) }
 {
-    if count == 0 {
-        return Ok(Vec::new(alloc));
+    let threads = workers.min(count);
+    if threads < 2 {
+        return judge_in_turn(alloc, first, count, gate, judge);
     }
-    let (board, seats) = Board::new(alloc, count, workers.min(count))?;
+    let (board, seats) = Board::new(alloc, count, threads)?;
     let mut worked = spread(rt, alloc, &board, seats, first, gate, judge)?;
     let mut slots = vacant(alloc, count)?;
     let mut told = Vec::with_capacity(alloc, worked.len())?;
@@ -74,6 +75,29 @@ pub fn judge_batch<
     // All seats were told None, so each place is full.
     board.close(told);
     unwrap_all(alloc, slots)
+}
+
+// What one worker answers, who needs no board.
+fn judge_in_turn<T: Drop, G: Gate, F: Fn(u64) -> Result<T, AllocError>>(
+    alloc: Global,
+    first: u64,
+    count: u64,
+    gate: &G,
+    judge: &F,
+) -> Result<Vec<T>, AllocError>
+    requires room { first + count < 2 ^ 64 }
+    requires calls { (k : ℕ) → k < count → F.pre judge.now (first + k) }
+    ensures len { IfOk result (λ v. length v.items ≡ count) }
+    ensures each { IfOk result (λ v. (j : ℕ) (d : T) → j < count → F.post judge.now (first + j) (Ok (slice_index_or v.items j d))) }
+{
+    let mut answers = Vec::with_capacity(alloc, count as usize)?;
+    for place in 0..count {
+        gate.before_judge(first + place);
+        let judged = judge(first + place);
+        gate.after_judge(first + place);
+        answers.push(judged?)?;
+    }
+    Ok(answers)
 }
 
 // Lends the closure to a thread for each seat. Threads start here and nowhere else.

@@ -11,7 +11,7 @@ loop-seat-init g c = let P : ℕ → g.row.T.Denot → Type 0 = λ k x. given.F-
     let none : Option g.row.T.Denot = None in
     subst (λ (n : BoardName). Collecting n P (min c.args.workers c.args.count) c.in_ok-slots.slots.items c.in_ok-told.told.items c.in_ok-worked.worked.items) (sym (ap (λ (b : BoardModel). b.name) c.board.view_is))
     (collecting_begins c.in_ok-board.board.name P (min c.args.workers c.args.count) _ _ _ (c.in_ok-slots.ensures ∙ ap (λ n. replicate n none) (sym c.in_ok-board.ensures.board.0)) c.in_ok-told.ensures.items
-    (c.in_ok-worked.ensures.len ∙ c.in_ok-board.ensures.seats.0 ∙ c.min.ensures) c.in_ok-worked.ensures.each)
+    (c.in_ok-worked.ensures.len ∙ c.in_ok-board.ensures.seats.0 ∙ c.min-threads.ensures) c.in_ok-worked.ensures.each)
 
 pub fill-requires : goal.fill-requires
 fill-requires g c = let P : ℕ → g.row.T.Denot → Type 0 = λ k x. given.F-post g c.args.judge.now (c.args.first + k) (Ok x) in
@@ -33,13 +33,13 @@ ended g c = let P : ℕ → g.row.T.Denot → Type 0 = λ k x. given.F-post g c.
     (subst (λ (n : BoardName). Collecting n P (min c.args.workers c.args.count) c.loop-seat.slots.items c.loop-seat.told.items c.loop-seat.worked.items) (ap (λ (b : BoardModel). b.name) c.board.view_is) c.loop-seat.invariant).0
 
 pub close-requires-clause-all : goal.close-requires-clause-all
-close-requires-clause-all g c = let a = (ended g c).all in let s = c.in_ok-board.ensures.board.1 in let m = c.min.ensures in omega arith
+close-requires-clause-all g c = let a = (ended g c).all in let s = c.in_ok-board.ensures.board.1 in let m = c.min-threads.ensures in omega arith
 
 pub close-requires-clause-own : goal.close-requires-clause-own
 close-requires-clause-own g c = (ended g c).own
 
 pub unwrap_all-requires : goal.unwrap_all-requires
-unwrap_all-requires g c = all_full _ _ _ c.close.result.taken _ _ (ended g c.before) (let z = c.if-count-eq0.false in let r = c.requires.workers in omega arith) c.close.ensures.numbers c.close.ensures.told
+unwrap_all-requires g c = all_full _ _ _ c.close.result.taken _ _ (ended g c.before) (let z = c.if-threads-lt2.false in let m = c.min-threads.ensures in omega arith) c.close.ensures.numbers c.close.ensures.told
 
 pub returns-clause-len : goal.returns-clause-len
 returns-clause-len g c = let e = ended g c.before.before.before in
