@@ -1,5 +1,5 @@
 -- The flat tables of stamps: what a swap touches, and what each mark's stamp is then.
-use Rattle.std.proofs.Common.{◌≡◌, ℕ, zero, suc, ◌<◌, Bool, true, false, cond, eqb, ◌||◌, ◌==◌, List, [], ◌∷◌, ◌++◌, length, set, map, Option, Some, None, refl, sym, ap, ◌∙◌, get_or, arith, inl, inr}
+use Rattle.std.proofs.Common.{◌≡◌, ℕ, ◌<◌, Bool, true, false, cond, eqb, ◌||◌, ◌==◌, List, [], ◌∷◌, ◌++◌, length, set, map, Option, Some, None, refl, sym, ap, ◌∙◌, get_or, arith, inl, inr}
 use Rattle.std.specs.Prelude.{slice_index}
 use Rattle.std.specs.List.{All, list_any}
 use Rattle.std.proofs.lemmas.Bool.{cases_Bool, cases_eq, eq-eqb, ne_eqb, false≢true}
@@ -20,12 +20,6 @@ use Rattle.fab_move.specs.declared.marks.Mark.TheVariants.{Block, Place, Net}
 use Rattle.fab_move.specs.Judge.{block_marks, has_mark, other_marks, touched}
 use Rattle.fab_commit.specs.StampTables.{at_place, stamp_in}
 use Rattle.fab_commit.proofs.Listing.{block_among, net_among, place_among, has_mark-append}
-
--- what stands at a place is the same whatever is said for places behind the end
-pub same_item : {X : Type 0} (xs : List X) (k : ℕ) (d e : X) → k < length xs → get_or xs k d ≡ get_or xs k e
-same_item [] k d e l = absurd (omega arith)
-same_item (x ∷ xs) zero d e l = refl
-same_item (x ∷ xs) (suc k) d e l = same_item xs k d e (omega arith)
 
 over : (a b : Bool) (x y : ℕ) → cond a x (cond b x y) ≡ cond (a || b) x y
 over true b x y = refl

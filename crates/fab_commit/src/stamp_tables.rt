@@ -90,15 +90,7 @@ impl Stamps {
     pub(crate) fn any_above(&self, grid: &Grid, base: u64, marks: &[Mark]) -> bool
         ensures { result ≡ list_any (λ m. nat_lt base (kept_stamp grid.now self.now m)) marks.now }
     {
-        // The nets stand last, and one of many terminals is the likeliest to have been touched.
-        let mut left = marks.len();
-        while left > 0 {
-            left -= 1;
-            if base < self.of(grid, marks[left]) {
-                return true;
-            }
-        }
-        false
+        marks.iter().any(|mark| base < self.of(grid, *mark))
     }
 
     /// The stamp of a mark.
