@@ -33,8 +33,9 @@ impl Gate for NoGate {
 // A worker's seat, and its answers by number.
 type Worked<T> = (ClaimSeat, Result<Vec<(u64, T)>, AllocError>);
 
-/// Judges `count` numbers from `first` on in `workers` threads, or in `count` where that is less. They claim the numbers one by one,
-/// call `judge` at each between the gate's two calls, and all have ended when this returns. Entry j is an answer for first + j.
+/// Judges `count` numbers from `first` on by `workers` workers, or by `count` where that is less. Two and more are threads that claim the
+/// numbers one by one; one takes them in order, in the caller's thread. Each calls `judge` at a number between the gate's two calls, and
+/// all have ended when this returns. Entry j is an answer for first + j.
 ///
 /// An error comes only where memory ran out, in `judge` or here. A worker that the system refuses to start leaves its numbers to
 /// the others.
@@ -77,7 +78,7 @@ pub fn judge_batch<
     unwrap_all(alloc, slots)
 }
 
-// What one worker answers, who needs no board.
+// Judges the numbers in order, so that no board is needed and each answer is in its place at once.
 fn judge_in_turn<T: Drop, G: Gate, F: Fn(u64) -> Result<T, AllocError>>(
     alloc: Global,
     first: u64,
