@@ -21,7 +21,7 @@ full_set {T} slots i k x inside h = dite (ℕ_discrete k i)
     (λ e. subst (λ (j : ℕ). IsFull (set slots i (Some x)) j) (sym e) (full_here slots i x inside))
     (λ ne. ap (λ (o : Option T). is_some o) (get_or-set_other slots i k (Some x) None ne) ∙ h)
 
-placed_set : {T : Type 0} (P : ℕ → T → Type 0) (slots : List (Option T)) (i : ℕ) (x : T) → i < length slots → P i x → Placed P slots → Placed P (set slots i (Some x))
+pub placed_set : {T : Type 0} (P : ℕ → T → Type 0) (slots : List (Option T)) (i : ℕ) (x : T) → i < length slots → P i x → Placed P slots → Placed P (set slots i (Some x))
 placed_set {T} P slots i x inside p h k d l = dite (ℕ_discrete k i)
     (λ e. subst (λ (j : ℕ). IfSome (get_or (set slots i (Some x)) j d) (P j)) (sym e) (subst (λ (o : Option T). IfSome o (P i)) (sym (get_or-set_same slots i (Some x) d inside)) p))
     (λ ne. subst (λ (o : Option T). IfSome o (P k)) (sym (get_or-set_other slots i k (Some x) d ne)) (h k d (let n = length-set slots i (Some x) in omega arith)))
@@ -134,6 +134,9 @@ Collecting {T} board P count slots seats worked = Collected board P count (lengt
 
 vacant : {T : Type 0} (P : ℕ → T → Type 0) (n : ℕ) → Placed {T = T} P (replicate n None)
 vacant {T} P n k d l = let none : Option T = None in let e = length-replicate n none in subst (λ (o : Option T). IfSome o (P k)) (sym (get_or-replicate n k None d (omega arith))) tt
+
+pub vacant_places : {T : Type 0} (P : ℕ → T → Type 0) (n : ℕ) (slots : List (Option T)) → slots ≡ replicate n None → (length slots ≡ n) × Placed P slots
+vacant_places {T} P n slots is = let none : Option T = None in (ap (λ (l : List (Option T)). length l) is ∙ length-replicate n none, subst (λ (l : List (Option T)). Placed P l) (sym is) (vacant P n))
 
 pub collecting_begins : {T : Type 0} (board : BoardName) (P : ℕ → T → Type 0) (count : ℕ) (slots : List (Option T)) (seats : List SeatModel) (worked : List (SeatModel × Result (Vec (ℕ × T)) AllocError)) → slots ≡ replicate board.count None → seats ≡ [] → length worked ≡ count
     → All (λ w. IsWorked board P w.0 w.1) worked → Collecting board P count slots seats worked

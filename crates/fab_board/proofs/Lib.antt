@@ -3,3 +3,6 @@ pub mod Counting
 pub mod Moves
 pub mod Gathering
 pub mod Filling
+pub mod Fronts
+pub mod Adding
+pub mod Placing

@@ -3,6 +3,7 @@ use Rattle.std.specs.Prelude.{◌≡◌, ℕ, [], ◌∷◌, true, false, Some, 
 use Rattle.fab_board.specs.Counts.{times, once_below}
 use Rattle.fab_board.specs.Views.{BoardName, all_numbers}
 use Rattle.fab_board.specs.Judged.{filled, numbers}
+use Rattle.fab_board.specs.Posts.{IsKept, latest}
 
 pub twice_in_three : times 2 (2 ∷ 3 ∷ 2 ∷ []) ≡ 2
 twice_in_three = refl
@@ -26,3 +27,14 @@ two_answers_swapped = refl
 
 pub their_numbers : numbers {T = ℕ} ((1, 7) ∷ (0, 5) ∷ []) ≡ 1 ∷ 0 ∷ []
 their_numbers = refl
+
+-- the last of two that were posted
+pub last_of_two : latest {E = ℕ} (3 ∷ 8 ∷ []) ≡ Some 8
+last_of_two = refl
+
+pub last_of_none : latest {E = ℕ} [] ≡ None
+last_of_none = refl
+
+-- two jobs were posted, so the word is 2
+pub two_posted : IsKept {E = ℕ} ((2, true) ∷ (0, true) ∷ []) (3 ∷ 8 ∷ [])
+two_posted = refl

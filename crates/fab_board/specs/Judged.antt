@@ -1,5 +1,5 @@
 -- Answers by number. Our own words.
-use Rattle.std.specs.Prelude.{◌≡◌, ℕ, ◌<◌, List, [], ◌∷◌, length, map, All, true, Option, Result, Vec, Some, None, IfOk, IfSome, IsSome, slice_index_or, slice_set}
+use Rattle.std.specs.Prelude.{◌≡◌, ℕ, ◌<◌, ◌≤◌, List, [], ◌∷◌, length, map, All, true, Option, Result, Vec, Some, None, IfOk, IfSome, IsSome, slice_index_or, slice_set}
 use Rattle.std.specs.declared.alloc.AllocError.{AllocError}
 use Rattle.std.specs.Global.{Global}
 use Rattle.fab_board.specs.Views.{BoardName, SeatModel}
@@ -15,6 +15,22 @@ Answered {T} P ps = All {X = ℕ × T} (λ p. P p.0 p.1) ps
 -- each place that is full has an answer for it
 abbrev pub Placed : {T : Type 0} → (ℕ → T → Type 0) → List (Option T) → Type 0
 Placed {T} P slots = (k : ℕ) (d : Option T) → k < length slots → IfSome (slice_index_or slots k d) (P k)
+
+-- each place has an answer for it
+abbrev pub AllAnswered : {T : Type 0} → (ℕ → T → Type 0) → List T → Type 0
+AllAnswered {T} P answers = (k : ℕ) (d : T) → k < length answers → P k (slice_index_or answers k d)
+
+-- as many numbers as answers, and each answer is one for the number at its place
+abbrev pub Paired : {T : Type 0} → (ℕ → T → Type 0) → List ℕ → List T → Type 0
+Paired {T} P ns answers = (length ns ≡ length answers) × AllAnswered {T = T} (λ k answer. P (slice_index_or ns k 0) answer) answers
+
+-- the numbers below the count, in order
+abbrev pub InOrder : ℕ → List ℕ → Type 0
+InOrder count ns = (length ns ≡ count) × ((k : ℕ) → k < count → slice_index_or ns k 0 ≡ k)
+
+-- what is gathered of the answers: all of them in order, if they came so, and else places
+abbrev pub IsGathered : {T : Type 0} → (ℕ → T → Type 0) → ℕ → Option (Vec T Global) → List (Option T) → Type 0
+IsGathered {T} P count whole slots = IfSome whole (λ v. (length v.items ≡ count) × AllAnswered P v.items) × (length slots ≤ count) × Placed P slots
 
 abbrev pub IsFull : {T : Type 0} → List (Option T) → ℕ → Type 0
 IsFull slots k = IsSome (slice_index_or slots k None)

@@ -3,3 +3,4 @@ pub mod Views
 pub mod Dealt
 pub mod Judged
 pub mod Examples
+pub mod Posts

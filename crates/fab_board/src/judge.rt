@@ -166,7 +166,7 @@ fn work<R: Wait, T: Drop, G: Gate, F: Fn(u64) -> Result<T, AllocError>>(
 }
 
 // A place without an answer for each number.
-fn vacant<T: Drop>(alloc: Global, count: u64) -> Result<Vec<Option<T>>, AllocError>
+pub fn vacant<T: Drop>(alloc: Global, count: u64) -> Result<Vec<Option<T>>, AllocError>
     ensures { IfOk result (λ v. v.items ≡ replicate count None) }
 {
     let mut slots = Vec::with_capacity(alloc, count as usize)?;

@@ -1,11 +1,18 @@
-//! A board of numbers that threads claim, each number once, and a batch of numbers that threads judge by one lent closure.
+//! A board of numbers that threads claim, each number once; a batch of numbers that threads judge by one lent closure; and a crew of
+//! threads that judges one job after another.
 #![tactic(auto)]
 
 mod board;
+mod crew;
+#[cfg(test)]
+mod crew_tests;
 mod judge;
+mod past;
 mod rule;
 #[cfg(test)]
 mod tests;
 
 pub use board::{Board, ClaimSeat, Claims};
+pub use crew::{Lead, Shared, Task, found, work_all};
 pub use judge::{Gate, NoGate, judge_batch};
+pub use past::{Naming, Opened};

@@ -4,9 +4,11 @@ use Rattle.std.proofs.lemmas.Bool.{eq-eqb, ne_eqb, cases_eq}
 use Rattle.std.proofs.lemmas.Nat.{mod-mul-add}
 use Rattle.fab_cost.specs.Swapping.{CountedStandsFor}
 use Rattle.fab_arch.specs.declared.array.Site.{Site}
+use Rattle.fab_arch.specs.Grid.{GridShape}
 use Rattle.fab_site.specs.declared.pieces.Swap.{Swap}
 use Rattle.fab_site.specs.Placement.{IsLegal, IsSwapOf, swapped}
-use Rattle.fab_move.specs.Judge.{Judged, moved}
+use Rattle.fab_move.specs.declared.verdicts.Decision.{Decision}
+use Rattle.fab_move.specs.Judge.{IsDecision, Judged, moved}
 use Rattle.fab_sched.specs.Annealing.{IsLawful, IsStage, next_heat, next_range}
 use Rattle.fab_sched.proofs.Falling.{few_moves}
 use Rattle.fab_commit.specs.declared.states.State.{State}
@@ -43,6 +45,17 @@ pub record IsCommitted (r : Run) (s : State) (j : Judged) (t : State) : Type 0 w
   pub total : t.total ≡ s.total + one_if j.accepted
   pub advanced : IsAdvanced r.plan (side r) s.stage j.accepted t.stage t.ended
   pub cost : CountedStandsFor t.cost r.problem.design r.problem.grid (moved s.placement.sites j)
+
+-- the parts of a state after a decision, by the judged move that it is one of
+pub committed : (r : Run) (s t : State) (d : Decision) (j : Judged) (k : ℕ) → IsDecision d j → t.placement ≡ record s.placement { sites = moved s.placement.sites j } → t.done ≡ s.done + 1 → t.total ≡ s.total + one_if d.accepted → k ≡ side r → IsAdvanced r.plan k s.stage d.accepted t.stage t.ended → CountedStandsFor t.cost r.problem.design r.problem.grid (moved s.placement.sites j) → IsCommitted r s j t
+committed r s t d j k is placed done total side_is next cost = record {
+  grid = ap (λ p. p.grid) placed;
+  sites = ap (λ p. p.sites) placed;
+  done = done;
+  total = total ∙ ap (λ b. s.total + one_if b) is.accepted;
+  advanced = subst (λ b. IsAdvanced r.plan (side r) s.stage b t.stage t.ended) is.accepted (subst (λ n. IsAdvanced r.plan n s.stage d.accepted t.stage t.ended) side_is next);
+  cost = cost;
+}
 
 pub stands_after : (r : Run) (s t : State) (j : Judged) → IsSound r s → s.ended ≡ false → IsCommitted r s j t → standing_of t ≡ after_move r (standing_of s) j
 stands_after r s t j sound e c =
@@ -96,6 +109,10 @@ moved_legal r s j sound lawful may true (Some x) eb eo =
   where
     moved_some : (sites : List Site) (j : Judged) (x : Swap) → j.accepted ≡ true → j.swap ≡ Some x → moved sites j ≡ swapped sites x
     moved_some sites j x e q = rw (e, q) refl
+
+-- what is decided is what the judged move does
+pub decided_lawful : (g : GridShape) (sites : List Site) (d : Decision) (j : Judged) → IsDecision d j → ((x : Swap) → d.swap ≡ Some x → IsSwapOf g sites x) → (x : Swap) → j.swap ≡ Some x → IsSwapOf g sites x
+decided_lawful g sites d j is lawful x e = lawful x (is.swap ∙ e)
 
 -- a judged move leaves a legal placement
 pub judged_legal : (r : Run) (s : State) (j : Judged) (k : ℕ) → IsSound r s → j ≡ judged_here r (standing_of s) k → ((x : Swap) → j.swap ≡ Some x → IsSwapOf s.placement.grid s.placement.sites x) → IsLegal r.problem.design r.problem.grid r.problem.fixed (moved s.placement.sites j)

@@ -245,7 +245,7 @@ found_in P k (u ∷ vs) v h e = here (found_in P k vs v h.1) (u.number == k) e
     here later true q = subst P (same u v q) h.0
     here later false q = later q
 
-usable_is : (r : Run) (w : World) (v : Verdict) → verdict_here w ≡ Some v → clash r.problem.design w.accepted v.base v.judged.footprint ≡ false → usable r w (verdict_here w) ≡ Some v
+pub usable_is : (r : Run) (w : World) (v : Verdict) → verdict_here w ≡ Some v → clash r.problem.design w.accepted v.base v.judged.footprint ≡ false → usable r w (verdict_here w) ≡ Some v
 usable_is r w v found free = ap (usable r w) found ∙ ap (λ b. cond b None (Some v)) free
 
 -- a verdict that stands and that no accepted swap touched

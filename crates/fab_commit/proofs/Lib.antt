@@ -5,6 +5,7 @@ pub mod Folding
 pub mod Beginning
 pub mod Marked
 pub mod Sitings
+pub mod CatchingUp
 pub mod Changes
 pub mod Noninterference
 pub mod Schedules

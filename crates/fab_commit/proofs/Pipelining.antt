@@ -1,5 +1,6 @@
 -- Turns on two placements: what is judged, committed and caught up leads from behind one turn to behind the next.
 use Rattle.std.proofs.Common.{◌≡◌, ℕ, zero, suc, ◌+◌, ◌-◌, ◌<◌, ◌≤◌, min, Bool, true, false, cond, take, inl, inr, List, [], ◌∷◌, ◌++◌, length, map, get_or, refl, sym, ap, subst, ◌∙◌, arith}
+use Rattle.std.specs.Arc.{arc_value}
 use Rattle.std.specs.List.{count_by, filter, range_with_len}
 use Rattle.std.proofs.lemmas.List.{ext_get_or, get_or-map, get_or-take, length-map, length-take}
 use Rattle.std.proofs.lemmas.List.Sums.{sum_by-append}
@@ -68,18 +69,6 @@ due_next r o mid base ahead missing due made are left =
       recent = recent_after r y due.log (length ahead) due.before;
     } in
     record { due = next; is = refl }
-
--- commits of the answers of before alone
-pub redone_first : (r : Run) (o now : Owner) (base first : ℕ) (start : Standing) → base ≡ start.done → now.state.done - o.state.done ≤ first
-    → now.redone ≡ o.redone + count_by (is_redone r start base) (range_with_len o.state.done (now.state.done - o.state.done)) → now.redone ≡ o.redone + redone_of_both r start first (standing_of o.state) (now.state.done - o.state.done)
-redone_first r o now base first start b low is =
-    let n = now.state.done - o.state.done in
-    let all : n ≡ min first n = omega (arith, low) in
-    let none : 0 ≡ n - first = omega (arith, low) in
-    let f = is_redone r (standing_of o.state) o.state.done in
-    let zero_more : count_by f (range_with_len (o.state.done + first) (n - first)) ≡ 0 = ap (λ m. count_by f (range_with_len (o.state.done + first) m)) (sym none) in
-    let same : count_by (is_redone r start base) (range_with_len o.state.done n) ≡ count_by (is_redone r start start.done) (range_with_len o.state.done (min first n)) = (λ i. count_by (is_redone r start (b i)) (range_with_len o.state.done (all i))) in
-    omega (arith, is, same, zero_more)
 
 -- commits of all of these, and then of others
 pub redone_then : (r : Run) (o mid now : Owner) (base first : ℕ) (start next : Standing) → next ≡ standing_of o.state → base ≡ start.done → mid.state.done ≡ o.state.done + first → mid.state.done ≤ now.state.done
@@ -251,8 +240,8 @@ pub record IsMadeOf (r : Run) (s : Pipeline) (o : Owner) (n ahead : ℕ) (now : 
   pub stamps : o.stamps ≡ s.owner.stamps
   pub redone : o.redone ≡ s.owner.redone
   pub made : HasMade r o n now.owner
-  pub older : IsSound r now.older
-  pub same : standing_of now.older ≡ standing_of now.owner.state
+  pub older : IsSound r (arc_value now.older)
+  pub same : standing_of (arc_value now.older) ≡ standing_of now.owner.state
   pub base_is : now.base ≡ s.owner.state.done
   pub many : length now.ahead.items ≡ ahead
   pub answers_are : AreAnswers r (standing_of s.owner.state) now.owner.state.done now.ahead.items

@@ -10,6 +10,7 @@ use Rattle.fab_sched.specs.Annealing.{Plan, IsStage, MayStand, next_heat, next_r
 use Rattle.fab_move.specs.Judge.{problem}
 use Rattle.fab_commit.specs.declared.turns.Turn.{Turn}
 use Rattle.fab_commit.specs.declared.turns.Turn.TheVariants.{More, Finished}
+use Rattle.fab_commit.specs.declared.states.Given.{Given}
 use Rattle.fab_commit.specs.declared.states.State.{State}
 use Rattle.fab_commit.specs.declared.verdicts.Accepted.{Accepted}
 use Rattle.fab_commit.specs.declared.verdicts.Verdict.{Verdict}
@@ -18,6 +19,10 @@ use Rattle.fab_commit.specs.World.{World}
 
 abbrev pub run : Netlist → GridShape → List (Option Site) → (ℕ → List ℕ) → Plan → Run
 run d g fixed words plan = record { problem = problem d g fixed words; plan = plan }
+
+-- the run of what was given, where a value of `W` stands for these words
+abbrev pub run_for : {W : Type 0} → (W → ℕ → List ℕ) → Given W → Run
+run_for moves g = run g.design.now g.grid.now g.fixed (moves g.words) g.schedule
 
 -- an annealer: what its run is given, where it stands, what was judged ahead of that, the swaps that its last turn accepted,
 -- the numbers of all moves that it accepted, and how many it judged again

@@ -16,3 +16,4 @@ pub mod Pipelines
 pub mod ByTurns
 pub mod StampTables
 pub mod Owners
+pub mod Workers

@@ -1,5 +1,6 @@
 -- What an annealer that judges ahead keeps, as contracts see it (our own).
 use Rattle.std.specs.Prelude.{ℕ, ◌≡◌, ◌+◌, List, [], ◌++◌, length, map}
+use Rattle.std.specs.Arc.{arc_value}
 use Rattle.std.specs.List.{count_by, filter, range_with_len}
 use Rattle.fab_sched.specs.Annealing.{IsLawful}
 use Rattle.fab_move.specs.declared.verdicts.Verdict.{Verdict as Answer}
@@ -25,8 +26,8 @@ pub record IsBehind (r : Run) (t : LastTurn) (s : Pipeline) : Type 0 where
   pub plan : IsLawful r.plan
   pub stage : IsOfAStage r t
   pub owned : IsOwned r s.owner
-  pub older : IsSound r s.older
-  pub same : standing_of s.older ≡ standing_of s.owner.state
+  pub older : IsSound r (arc_value s.older)
+  pub same : standing_of (arc_value s.older) ≡ standing_of s.owner.state
   pub here : standing_of s.owner.state ≡ stands r t
   pub done_is : s.owner.state.done ≡ t.start.done + t.made
   pub base_is : s.base ≡ t.start.done

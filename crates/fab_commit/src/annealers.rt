@@ -1,13 +1,14 @@
 //! An annealer: moves are judged ahead by workers, and committed in order of number.
 
-ghost use Rattle.std.specs.Prelude.{◌≡◌, ℕ, ◌+◌, ◌-◌, ◌<◌, ◌≤◌, ◌++◌, [], map, min, take, IfOk, OnOk, OnErr};
+ghost use Rattle.std.specs.Prelude.{◌≡◌, ◌+◌, ◌-◌, ◌<◌, ◌≤◌, ◌++◌, [], map, min, take, IfOk, OnOk, OnErr};
+ghost use Rattle.std.specs.Arc.{arc_value};
 ghost use Rattle.std.specs.List.{count_by, range_with_len};
 ghost use Rattle.fab_cost.specs.Cost.{cost_of};
 ghost use Rattle.fab_site.specs.Placement.{IsLegal};
 ghost use Rattle.fab_move.specs.Judge.{says};
 ghost use Rattle.fab_commit.specs.declared.verdicts.Verdict.{Verdict as Judged};
-ghost use Rattle.fab_commit.specs.Serial.{IsStanding, accepted_among, at_start, from, judged_here, moves_left, stage_of};
-ghost use Rattle.fab_commit.specs.Commits.{IsSameRun, run, run_of, turn_of, world_of};
+ghost use Rattle.fab_commit.specs.Serial.{IsStanding, accepted_among, at_start, from, moves_left, stage_of};
+ghost use Rattle.fab_commit.specs.Commits.{IsSameRun, run, run_for, run_of, turn_of, world_of};
 ghost use Rattle.fab_commit.specs.ByTurns.{LeadsByTurns};
 ghost use Rattle.fab_commit.specs.RunLaws.{is_redone_way};
 ghost use Rattle.fab_commit.specs.TurnEvents.{turn, turn_events, turn_making, verdict_on};
@@ -16,43 +17,41 @@ ghost use Rattle.fab_commit.specs.World.{ways};
 use crate::pipelines::{Pipeline, first_pipeline, turn};
 use crate::states::{Given, first_state, running};
 use crate::turns::Turn;
+use crate::workers::Workers;
 use fab_arch::Grid;
-use fab_board::Gate;
+use fab_board::{Gate, Naming};
 use fab_cost::WireCost;
 use fab_move::Verdict;
 use fab_net::Design;
 use fab_sched::{Schedule, Stage};
 use fab_site::{Fixed, Placement, Words};
 use std::alloc::{AllocError, Global};
-use std::marker::Model;
-use std::sync::Wait;
+use std::marker::{Brand, Model};
+use std::sync::{Arc, Wait};
 use std::thread::Threads;
 
 /// Anneals a placement of a design on an array.
 #[derive(Drop)]
 pub struct Anneal<'a, W: Words + Drop> {
-    design: &'a Design,
-    grid: &'a Grid,
-    fixed: Fixed,
-    schedule: Schedule,
-    words: W,
+    given: Arc<Given<'a, W>>,
     pipeline: Pipeline,
 }
 
 impl<'a, W: Words + Drop> Model for Anneal<'a, W> {
     ghost use Rattle.std.specs.Prelude.{map};
-    ghost use Rattle.fab_commit.specs.Commits.{AnnealOf, run, standing_of};
+    ghost use Rattle.std.specs.Arc.{arc_value};
+    ghost use Rattle.fab_commit.specs.Commits.{AnnealOf, run, run_for, standing_of};
     ghost use Rattle.fab_commit.specs.Owners.{verdict_of};
     ghost use Rattle.fab_commit.specs.Pipelines.{HasTurn};
 
     ghost Value = { AnnealOf W };
 
     ghost view = { λ a. record {
-      design = a.design.now;
-      grid = a.grid.now;
-      fixed = a.fixed;
-      plan = a.schedule;
-      words = a.words;
+      design = (arc_value a.given).design.now;
+      grid = (arc_value a.given).grid.now;
+      fixed = (arc_value a.given).fixed;
+      plan = (arc_value a.given).schedule;
+      words = (arc_value a.given).words;
       standing = standing_of a.pipeline.owner.state;
       ahead = map (verdict_of a.pipeline.base) a.pipeline.ahead.items;
       swaps = a.pipeline.owner.swaps.items;
@@ -60,7 +59,7 @@ impl<'a, W: Words + Drop> Model for Anneal<'a, W> {
       redone = a.pipeline.owner.redone;
     } };
 
-    ghost invariant = { λ a. HasTurn (run a.design.now a.grid.now a.fixed (W.moves a.words) a.schedule) a.pipeline };
+    ghost invariant = { λ a. HasTurn (run_for W.moves (arc_value a.given)) a.pipeline };
 }
 
 impl<'a, W: Words + Drop> Anneal<'a, W> {
@@ -83,19 +82,15 @@ impl<'a, W: Words + Drop> Anneal<'a, W> {
         let given = Given {
             design,
             grid,
-            fixed: &fixed,
-            schedule: &schedule,
-            words: &words,
-        };
-        let pipeline = first_pipeline(alloc, &given, live)?;
-        Ok(Anneal {
-            design,
-            grid,
             fixed,
             schedule,
             words,
-            pipeline,
-        })
+        };
+        let pipeline = first_pipeline(alloc, &given, live)?;
+        match Arc::new(alloc, given) {
+            Ok(given) => Ok(Anneal { given, pipeline }),
+            Err(_) => Err(AllocError),
+        }
     }
 
     /// How many moves are made.
@@ -134,14 +129,7 @@ impl<'a, W: Words + Drop> Anneal<'a, W> {
     pub fn stage(&self) -> Option<Stage>
         ensures { result ≡ stage_of (run_of W.moves self.now) self.now.standing }
     {
-        let given = Given {
-            design: self.design,
-            grid: self.grid,
-            fixed: &self.fixed,
-            schedule: &self.schedule,
-            words: &self.words,
-        };
-        running(&given, &self.pipeline.owner.state)
+        running(&self.given, &self.pipeline.owner.state)
     }
 
     /// The numbers of the moves that this value accepted, in order.
@@ -169,6 +157,50 @@ impl<'a, W: Words + Drop> Anneal<'a, W> {
 }
 
 impl<'a, W: Words + Sync + Drop> Anneal<'a, W> {
+    /// Makes the next moves of the running stage, at most `batch` of them, from 1 to 4,096. `Finished` where no move is left
+    /// then.
+    ///
+    /// While they are committed in order of number, workers judge as many moves of the stage behind them on the placement at the
+    /// turn's start, which nobody changes meanwhile. What was judged ahead so before and is not asked for now is lost, and what is
+    /// missing of this batch is judged first. A move whose verdict rests on something that a move accepted since has touched is
+    /// judged again. The workers' gate is called before and after each of their judgements, and before each commit.
+    ///
+    /// Where memory is short, the moves that were committed stay, as `done` says, no worker is at a judgement, nothing is judged
+    /// ahead, and another turn goes on.
+    pub fn turn_by<'g, G: Gate, J: Naming, R: Threads + Wait + Sync>(
+        &mut self,
+        rt: &R,
+        alloc: Global,
+        batch: u64,
+        workers: &mut Workers<'a, 'g, W, G, J>,
+    ) -> Result<Turn, AllocError>
+        requires batch { (1 ≤ batch) × (batch ≤ 4096) }
+        ensures same { IsSameRun self.old self.new }
+        // So many moves are made, one at a time.
+        ensures stands { self.new.standing ≡ from (run_of W.moves self.old) self.old.standing (self.new.standing.done - self.old.standing.done) }
+        ensures accepted { self.new.accepted ≡ self.old.accepted ++ accepted_among (run_of W.moves self.old) self.old.standing (self.new.standing.done - self.old.standing.done) }
+        ensures ok { OnOk result (self.new.standing.done ≡ self.old.standing.done + min batch (moves_left (run_of W.moves self.old) self.old.standing)) }
+        ensures within { (self.old.standing.done ≤ self.new.standing.done) × (self.new.standing.done ≤ self.old.standing.done + min batch (moves_left (run_of W.moves self.old) self.old.standing)) }
+        ensures turn { IfOk result (λ t. t ≡ turn_of self.new.standing.heat) }
+        // It is a run of a world over a turn's events; where memory is short, of one that judges nothing ahead.
+        ensures world { OnOk result (world_of self.new ≡ turn (run_of W.moves self.old) batch (world_of self.old)) }
+        ensures cut { OnErr result (world_of self.new ≡ turn_making (run_of W.moves self.old) (self.new.standing.done - self.old.standing.done) 0 (world_of self.old)) }
+        ensures redone { self.new.redone ≡ self.old.redone + count_by is_redone_way (take (self.new.standing.done - self.old.standing.done) (ways (run_of W.moves self.old) (world_of self.old) (turn_events (run_of W.moves self.old) batch (world_of self.old)))) }
+        // What stands then are the verdicts for the next moves of the stage, as many as the batch or all that are left, on the
+        // placement at the turn's start; where memory is short, none.
+        ensures ahead { OnOk result (self.new.ahead ≡ map (verdict_on (run_of W.moves self.old) self.old.standing) (range_with_len self.new.standing.done (min batch (moves_left (run_of W.moves self.old) self.old.standing - min batch (moves_left (run_of W.moves self.old) self.old.standing))))) }
+        ensures lost { OnErr result (self.new.ahead ≡ []) }
+        // Whatever standing turns of this batch led on from, this is one more of them.
+        ensures turns { OnOk result (LeadsByTurns (run_of W.moves self.old) batch self.old self.new) }
+    {
+        turn(rt, alloc, &self.given, &mut self.pipeline, batch, workers)?;
+        Ok(if self.pipeline.owner.state.ended {
+            Turn::Finished
+        } else {
+            Turn::More
+        })
+    }
+
     /// Makes the next moves of the running stage, at most `batch` of them, from 1 to 4,096. `Finished` where no move is left
     /// then.
     ///
@@ -208,18 +240,7 @@ impl<'a, W: Words + Sync + Drop> Anneal<'a, W> {
         // Whatever standing turns of this batch led on from, this is one more of them.
         ensures turns { OnOk result (LeadsByTurns (run_of W.moves self.old) batch self.old self.new) }
     {
-        let given = Given {
-            design: self.design,
-            grid: self.grid,
-            fixed: &self.fixed,
-            schedule: &self.schedule,
-            words: &self.words,
-        };
-        turn(rt, alloc, &given, &mut self.pipeline, batch, workers, gate)?;
-        Ok(if self.pipeline.owner.state.ended {
-            Turn::Finished
-        } else {
-            Turn::More
-        })
+        let mut workers = Workers::<'_, '_, W, G, Brand>::started(workers, gate);
+        self.turn_by(rt, alloc, batch, &mut workers)
     }
 }

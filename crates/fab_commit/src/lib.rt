@@ -18,6 +18,8 @@ mod turn_tables;
 mod turn_tests;
 pub mod turns;
 mod verdicts;
+pub mod workers;
+pub mod works;
 mod world_states;
 #[cfg(test)]
 mod world_tables;
@@ -32,4 +34,6 @@ pub use laws::{
     turns_are_serial, verdicts_are_of_their_base,
 };
 pub use turns::Turn;
+pub use workers::Workers;
+pub use works::Work;
 pub use worlds::World;

@@ -1,12 +1,12 @@
 //! The owner of the live placement, who commits moves in order of number.
 
-ghost use Rattle.std.specs.Prelude.{◌≡◌, ℕ, ◌+◌, ◌-◌, ◌^◌, ◌<◌, ◌≤◌, List, ◌++◌, false, length, Some, OnOk, OnErr};
+ghost use Rattle.std.specs.Prelude.{◌≡◌, ℕ, ◌+◌, ◌-◌, ◌^◌, ◌<◌, List, ◌++◌, false, length, Some};
 ghost use Rattle.std.specs.List.{count_by, range_with_len};
 ghost use Rattle.fab_sched.specs.Annealing.{IsLawful};
 ghost use Rattle.fab_site.specs.Placement.{IsSwapOf};
-ghost use Rattle.fab_move.specs.Judge.{says};
+ghost use Rattle.fab_move.specs.Judge.{IsDecision, Judged, says};
 ghost use Rattle.fab_commit.specs.Serial.{judged_here, one_if};
-ghost use Rattle.fab_commit.specs.Commits.{run, standing_of};
+ghost use Rattle.fab_commit.specs.Commits.{run_for, standing_of};
 ghost use Rattle.fab_commit.specs.History.{is_redone};
 ghost use Rattle.fab_commit.specs.Owners.{AreDue, HasMade, HasRoom, IsOwned, KeepsKind, is_touched};
 ghost use Rattle.fab_commit.specs.StampTables.{AreStamps, IsTable, IsWithin};
@@ -14,13 +14,12 @@ ghost use Rattle.fab_commit.specs.Stamps.{AreBefore};
 ghost use Rattle.fab_commit.specs.World.{accepted_now};
 
 use crate::stamp_tables::Stamps;
-use crate::states::{Given, State, commit, judge_on};
+use crate::states::{Given, State, commit, decide_on, decision_of};
 use crate::verdicts::Accepted;
 use crate::world_states::enter;
 use fab_board::Gate;
-use fab_move::Verdict;
+use fab_move::{Decision, Verdict};
 use fab_site::{Swap, Words};
-use std::alloc::{AllocError, Global};
 
 /// What the owner of the live placement keeps.
 #[derive(Drop)]
@@ -33,93 +32,82 @@ pub(crate) struct Owner {
     pub(crate) redone: u64,
 }
 
-/// Makes the next move as it was judged.
-fn make<W: Words>(given: &Given<'_, W>, owner: &mut Owner, verdict: &Verdict)
-    requires plan { IsLawful given.now.schedule.now }
-    requires owned { IsOwned (run given.now.design.now given.now.grid.now given.now.fixed.now (W.moves given.now.words.now) given.now.schedule.now) owner.old }
+/// Makes the next move as it was decided.
+fn make<W: Words>(given: &Given<'_, W>, owner: &mut Owner, decision: &Decision)
+    requires plan { IsLawful given.now.schedule }
+    requires owned { IsOwned (run_for W.moves given.now) owner.old }
     requires going { owner.old.state.ended ≡ false }
     requires room { HasRoom owner.old 1 }
-    requires lawful { (s : Swap) → verdict.now.swap ≡ Some s → IsSwapOf owner.old.state.placement.grid owner.old.state.placement.sites s }
-    requires says { says verdict.now ≡ judged_here (run given.now.design.now given.now.grid.now given.now.fixed.now (W.moves given.now.words.now) given.now.schedule.now) (standing_of owner.old.state) owner.old.state.done }
-    ensures made { HasMade (run given.now.design.now given.now.grid.now given.now.fixed.now (W.moves given.now.words.now) given.now.schedule.now) owner.old 1 owner.new }
+    requires lawful { (s : Swap) → decision.now.swap ≡ Some s → IsSwapOf owner.old.state.placement.grid owner.old.state.placement.sites s }
+    requires decides { IsDecision decision.now (judged_here (run_for W.moves given.now) (standing_of owner.old.state) owner.old.state.done) }
+    ensures made { HasMade (run_for W.moves given.now) owner.old 1 owner.new }
     ensures redone { owner.new.redone ≡ owner.old.redone }
     ensures room { (n : ℕ) → HasRoom owner.old (1 + n) → HasRoom owner.new n }
 {
     let number = owner.state.done;
-    enter(&mut owner.swaps, number, verdict);
-    stamp(given, &mut owner.stamps, number, verdict);
-    commit(given, &mut owner.state, verdict);
+    enter(&mut owner.swaps, number, decision);
+    stamp(given, &mut owner.stamps, number, decision);
+    commit(given, &mut owner.state, decision);
 }
 
 /// Stamps what a move touches, if it is accepted.
-fn stamp<W: Words>(given: &Given<'_, W>, stamps: &mut Stamps, number: u64, verdict: &Verdict)
+fn stamp<W: Words>(given: &Given<'_, W>, stamps: &mut Stamps, number: u64, decision: &Decision)
     requires table { IsTable given.now.design.now given.now.grid.now stamps.old }
-    requires within { (s : Swap) → verdict.now.swap ≡ Some s → IsWithin given.now.design.now given.now.grid.now s }
+    requires within { (s : Swap) → decision.now.swap ≡ Some s → IsWithin given.now.design.now given.now.grid.now s }
     requires number { number < 2 ^ 61 }
     ensures table { IsTable given.now.design.now given.now.grid.now stamps.new }
-    ensures stamped { (log : List Accepted) → AreBefore number log → AreStamps given.now.design.now given.now.grid.now stamps.old log → AreStamps given.now.design.now given.now.grid.now stamps.new (log ++ accepted_now number (says verdict.now)) }
+    ensures stamped { (j : Judged) → IsDecision decision.now j → (log : List Accepted) → AreBefore number log → AreStamps given.now.design.now given.now.grid.now stamps.old log → AreStamps given.now.design.now given.now.grid.now stamps.new (log ++ accepted_now number j) }
 {
-    if !verdict.accepted {
+    if !decision.accepted {
         return;
     }
-    if let Some(swap) = verdict.swap {
+    if let Some(swap) = decision.swap {
         stamps.touch(given.design, given.grid, &swap, number + 1);
     }
 }
 
 /// Commits the next move: as it was judged where `base` moves were made, if no accepted move has touched what that rests on
-/// since, and else judged again on the live placement. Where memory is short, all stays as it was.
-fn commit_next<W: Words>(
-    alloc: Global,
-    given: &Given<'_, W>,
-    owner: &mut Owner,
-    verdict: &Verdict,
-    base: u64,
-) -> Result<(), AllocError>
-    requires plan { IsLawful given.now.schedule.now }
-    requires owned { IsOwned (run given.now.design.now given.now.grid.now given.now.fixed.now (W.moves given.now.words.now) given.now.schedule.now) owner.old }
+/// since, and else as it is decided again on the live placement. Takes no memory.
+fn commit_next<W: Words>(given: &Given<'_, W>, owner: &mut Owner, verdict: &Verdict, base: u64)
+    requires plan { IsLawful given.now.schedule }
+    requires owned { IsOwned (run_for W.moves given.now) owner.old }
     requires going { owner.old.state.ended ≡ false }
     requires room { HasRoom owner.old 1 }
     requires kinds { KeepsKind given.now.grid.now verdict.now }
-    requires fresh { is_touched (run given.now.design.now given.now.grid.now given.now.fixed.now (W.moves given.now.words.now) given.now.schedule.now) owner.old base verdict.now ≡ false → says verdict.now ≡ judged_here (run given.now.design.now given.now.grid.now given.now.fixed.now (W.moves given.now.words.now) given.now.schedule.now) (standing_of owner.old.state) owner.old.state.done }
-    ensures made { OnOk result (HasMade (run given.now.design.now given.now.grid.now given.now.fixed.now (W.moves given.now.words.now) given.now.schedule.now) owner.old 1 owner.new) }
-    ensures redone { OnOk result (owner.new.redone ≡ owner.old.redone + one_if (is_touched (run given.now.design.now given.now.grid.now given.now.fixed.now (W.moves given.now.words.now) given.now.schedule.now) owner.old base verdict.now)) }
-    ensures room { OnOk result ((n : ℕ) → HasRoom owner.old (1 + n) → HasRoom owner.new n) }
-    ensures unchanged { OnErr result (owner.new ≡ owner.old) }
+    requires fresh { is_touched (run_for W.moves given.now) owner.old base verdict.now ≡ false → says verdict.now ≡ judged_here (run_for W.moves given.now) (standing_of owner.old.state) owner.old.state.done }
+    ensures made { HasMade (run_for W.moves given.now) owner.old 1 owner.new }
+    ensures redone { owner.new.redone ≡ owner.old.redone + one_if (is_touched (run_for W.moves given.now) owner.old base verdict.now) }
+    ensures room { (n : ℕ) → HasRoom owner.old (1 + n) → HasRoom owner.new n }
 {
     if owner.stamps.any_above(given.grid, base, &verdict.footprint) {
-        let again = judge_on(alloc, given, &owner.state, owner.state.done)?;
+        let again = decide_on(given, &owner.state, owner.state.done);
         make(given, owner, &again);
         owner.redone += 1;
     } else {
-        make(given, owner, verdict);
+        let decision = decision_of(verdict);
+        make(given, owner, &decision);
     }
-    Ok(())
 }
 
-/// Commits moves in order of number, which were judged where `base` moves were made. Where memory is short, those before
-/// stay committed.
+/// Commits moves in order of number, which were judged where `base` moves were made. Takes no memory.
 pub(crate) fn commit_each<W: Words, G: Gate>(
-    alloc: Global,
     given: &Given<'_, W>,
     owner: &mut Owner,
     verdicts: &[Verdict],
     base: u64,
     gate: &G,
-) -> Result<(), AllocError>
-    requires plan { IsLawful given.now.schedule.now }
-    requires owned { IsOwned (run given.now.design.now given.now.grid.now given.now.fixed.now (W.moves given.now.words.now) given.now.schedule.now) owner.old }
+)
+    requires plan { IsLawful given.now.schedule }
+    requires owned { IsOwned (run_for W.moves given.now) owner.old }
     requires room { HasRoom owner.old (length verdicts.now) }
-    requires due { AreDue (run given.now.design.now given.now.grid.now given.now.fixed.now (W.moves given.now.words.now) given.now.schedule.now) owner.old base verdicts.now }
-    ensures made { HasMade (run given.now.design.now given.now.grid.now given.now.fixed.now (W.moves given.now.words.now) given.now.schedule.now) owner.old (owner.new.state.done - owner.old.state.done) owner.new }
-    ensures ok { OnOk result (owner.new.state.done ≡ owner.old.state.done + length verdicts.now) }
-    ensures within { (owner.old.state.done ≤ owner.new.state.done) × (owner.new.state.done ≤ owner.old.state.done + length verdicts.now) }
-    ensures redone { (due : AreDue (run given.now.design.now given.now.grid.now given.now.fixed.now (W.moves given.now.words.now) given.now.schedule.now) owner.old base verdicts.now) → owner.new.redone ≡ owner.old.redone + count_by (is_redone (run given.now.design.now given.now.grid.now given.now.fixed.now (W.moves given.now.words.now) given.now.schedule.now) due.start base) (range_with_len owner.old.state.done (owner.new.state.done - owner.old.state.done)) }
+    requires due { AreDue (run_for W.moves given.now) owner.old base verdicts.now }
+    ensures made { HasMade (run_for W.moves given.now) owner.old (owner.new.state.done - owner.old.state.done) owner.new }
+    ensures done { owner.new.state.done ≡ owner.old.state.done + length verdicts.now }
+    ensures redone { (due : AreDue (run_for W.moves given.now) owner.old base verdicts.now) → owner.new.redone ≡ owner.old.redone + count_by (is_redone (run_for W.moves given.now) due.start base) (range_with_len owner.old.state.done (owner.new.state.done - owner.old.state.done)) }
     ensures room { (n : ℕ) → HasRoom owner.old (length verdicts.now + n) → HasRoom owner.new n }
 {
     for verdict in verdicts {
         gate.before_commit(owner.state.done);
-        commit_next(alloc, given, owner, verdict, base)?;
+        commit_next(given, owner, verdict, base);
     }
-    Ok(())
 }

@@ -1,38 +1,51 @@
 //! Turns: the owner commits a batch on the live placement, while workers judge the next one on the older placement.
 
-ghost use Rattle.std.specs.Prelude.{◌≡◌, ℕ, ◌+◌, ◌-◌, ◌^◌, ◌<◌, ◌≤◌, ◌++◌, [], false, length, map, min, take, IfOk, OnOk, OnErr};
+ghost use Rattle.std.specs.Prelude.{◌≡◌, ◌+◌, ◌-◌, ◌<◌, ◌≤◌, ◌++◌, [], length, map, min, take, IfOk, OnOk, OnErr};
+ghost use Rattle.std.specs.Arc.{arc_value};
 ghost use Rattle.std.specs.List.{count_by, range_with_len};
-ghost use Rattle.std.specs.Thread.{IsSync};
 ghost use Rattle.fab_sched.specs.Annealing.{IsLawful};
 ghost use Rattle.fab_commit.specs.Serial.{Run, accepted_among, from, moves_left};
-ghost use Rattle.fab_commit.specs.Commits.{IsSound, run, standing_of};
+ghost use Rattle.fab_commit.specs.Commits.{IsSound, run_for, standing_of};
 ghost use Rattle.fab_commit.specs.Owners.{AreAnswers, AreDue, HasCounted, HasMade, HasRoom, IsOwned, Leads, verdict_of};
-ghost use Rattle.fab_commit.specs.Pipelines.{HasTurn, HasTurned, IsAnswer, IsBehind, world_in};
+ghost use Rattle.fab_commit.specs.Pipelines.{HasTurn, HasTurned, IsBehind, world_in};
 ghost use Rattle.fab_commit.specs.RunLaws.{is_redone_way};
 ghost use Rattle.fab_commit.specs.TurnEvents.{LastTurn, next_turn, no_turn, turn, turn_events, turn_making, verdict_on};
 ghost use Rattle.fab_commit.specs.World.{ways};
 
 use crate::owners::{Owner, commit_each};
 use crate::stamp_tables::Stamps;
-use crate::states::{Given, State, copy_of, judge_on, moves_left};
+use crate::states::{Given, State, copy_of, moves_left};
 use crate::verdicts::Accepted;
-use fab_board::{Gate, judge_batch};
-use fab_cost::WireCost;
+use crate::workers::{Workers, commit_and_judge, judge_missing};
+use fab_board::{Gate, Naming};
 use fab_move::Verdict;
 use fab_site::Words;
 use std::alloc::{AllocError, Global};
-use std::sync::Wait;
-use std::thread::{Threads, join_mut};
+use std::sync::{Arc, Wait};
+use std::thread;
+use std::thread::Threads;
 
 /// What an annealer keeps: the live placement with its owner, an older copy for the workers, which is the same between
 /// turns, and what was judged ahead on the older one before it caught up.
 #[derive(Drop)]
 pub(crate) struct Pipeline {
     pub(crate) owner: Owner,
-    pub(crate) older: State,
+    pub(crate) older: Arc<State>,
     pub(crate) ahead: Vec<Verdict>,
     /// The moves that were made in the placement that these were judged on.
     pub(crate) base: u64,
+}
+
+/// A copy that workers may share.
+fn shared_copy(alloc: Global, live: &State) -> Result<Arc<State>, AllocError>
+    ensures sound { IfOk result (λ c. (r : Run) → IsSound r live.now → IsSound r (arc_value c)) }
+    ensures stands { IfOk result (λ c. standing_of (arc_value c) ≡ standing_of live.now) }
+{
+    let copy = copy_of(alloc, live)?;
+    match Arc::new(alloc, copy) {
+        Ok(shared) => Ok(shared),
+        Err(_) => Err(AllocError),
+    }
 }
 
 /// Nothing was judged ahead of the first move.
@@ -41,14 +54,14 @@ pub(crate) fn first_pipeline<W: Words>(
     given: &Given<'_, W>,
     live: State,
 ) -> Result<Pipeline, AllocError>
-    requires plan { IsLawful given.now.schedule.now }
-    requires sound { IsSound (run given.now.design.now given.now.grid.now given.now.fixed.now (W.moves given.now.words.now) given.now.schedule.now) live }
+    requires plan { IsLawful given.now.schedule }
+    requires sound { IsSound (run_for W.moves given.now) live }
     requires first { live.done ≡ 0 }
     requires none { live.accepted.items ≡ [] }
-    ensures behind { IfOk result (λ s. IsBehind (run given.now.design.now given.now.grid.now given.now.fixed.now (W.moves given.now.words.now) given.now.schedule.now) (no_turn (standing_of live)) s) }
+    ensures behind { IfOk result (λ s. IsBehind (run_for W.moves given.now) (no_turn (standing_of live)) s) }
     ensures told { IfOk result (λ s. (s.ahead.items ≡ []) × (s.owner.swaps.items ≡ []) × (s.owner.state.accepted.items ≡ []) × (s.owner.redone ≡ 0)) }
 {
-    let older = copy_of(alloc, &live)?;
+    let older = shared_copy(alloc, &live)?;
     let stamps = Stamps::new(alloc, given.design, given.grid)?;
     let owner = Owner {
         state: live,
@@ -64,125 +77,28 @@ pub(crate) fn first_pipeline<W: Words>(
     })
 }
 
-/// Judges one move on a placement.
-fn answer<W: Words>(
-    alloc: Global,
-    given: &Given<'_, W>,
-    older: &State,
-    number: u64,
-) -> Result<Verdict, AllocError>
-    requires sound { IsSound (run given.now.design.now given.now.grid.now given.now.fixed.now (W.moves given.now.words.now) given.now.schedule.now) older.now }
-    requires going { older.now.ended ≡ false }
-    ensures { IfOk result (λ v. IsAnswer (run given.now.design.now given.now.grid.now given.now.fixed.now (W.moves given.now.words.now) given.now.schedule.now) (standing_of older.now) number v) }
-{
-    judge_on(alloc, given, older, number)
-}
-
-/// Judges moves of the running stage on a placement, by so many workers.
-fn judged<W: Words + Sync, G: Gate, R: Threads + Wait + Sync>(
-    rt: &R,
-    alloc: Global,
-    given: &Given<'_, W>,
-    older: &State,
-    first: u64,
-    moves: u64,
-    workers: u64,
-    gate: &G,
-) -> Result<Vec<Verdict>, AllocError>
-    requires sound { IsSound (run given.now.design.now given.now.grid.now given.now.fixed.now (W.moves given.now.words.now) given.now.schedule.now) older.now }
-    requires going { 0 < moves → older.now.ended ≡ false }
-    requires limits { (first ≤ 2 ^ 62) × (moves ≤ 4096) × (0 < workers) × (workers ≤ 64) }
-    ensures many { IfOk result (λ v. length v.items ≡ moves) }
-    ensures answers { IfOk result (λ v. AreAnswers (run given.now.design.now given.now.grid.now given.now.fixed.now (W.moves given.now.words.now) given.now.schedule.now) (standing_of older.now) first v.items) }
-{
-    let verdicts = judge_batch(
-        rt,
-        alloc,
-        first,
-        moves,
-        workers,
-        gate,
-        &|k: u64| -> Result<Verdict, AllocError>
-            requires { IsSound (run given.now.design.now given.now.grid.now given.now.fixed.now (W.moves given.now.words.now) given.now.schedule.now) older.now × (older.now.ended ≡ false) }
-            ensures { IfOk result (λ v. IsAnswer (run given.entry.now.design.now given.entry.now.grid.now given.entry.now.fixed.now (W.moves given.entry.now.words.now) given.entry.now.schedule.now) (standing_of older.entry.now) k v) }
-        { answer(alloc, given, older, k) },
-    )?;
-    Ok(verdicts)
-}
-
-/// Commits what was judged ahead, and then what was judged at the turn's start. Where memory is short, the moves before
-/// stay committed.
-fn commit_all<W: Words, G: Gate>(
-    alloc: Global,
+/// Commits what was judged ahead, and then what was judged at the turn's start. Takes no memory.
+pub(crate) fn commit_all<W: Words, G: Gate>(
     given: &Given<'_, W>,
     owner: &mut Owner,
     ahead: &[Verdict],
     base: u64,
     missing: &[Verdict],
     gate: &G,
-) -> Result<(), AllocError>
-    requires plan { IsLawful given.now.schedule.now }
-    requires owned { IsOwned (run given.now.design.now given.now.grid.now given.now.fixed.now (W.moves given.now.words.now) given.now.schedule.now) owner.old }
+)
+    requires plan { IsLawful given.now.schedule }
+    requires owned { IsOwned (run_for W.moves given.now) owner.old }
     requires room { HasRoom owner.old (length ahead.now + length missing.now) }
-    requires due { AreDue (run given.now.design.now given.now.grid.now given.now.fixed.now (W.moves given.now.words.now) given.now.schedule.now) owner.old base ahead.now }
-    requires answers { AreAnswers (run given.now.design.now given.now.grid.now given.now.fixed.now (W.moves given.now.words.now) given.now.schedule.now) (standing_of owner.old.state) (owner.old.state.done + length ahead.now) missing.now }
-    requires left { length ahead.now + length missing.now ≤ moves_left (run given.now.design.now given.now.grid.now given.now.fixed.now (W.moves given.now.words.now) given.now.schedule.now) (standing_of owner.old.state) }
-    ensures made { HasMade (run given.now.design.now given.now.grid.now given.now.fixed.now (W.moves given.now.words.now) given.now.schedule.now) owner.old (owner.new.state.done - owner.old.state.done) owner.new }
-    ensures ok { OnOk result (owner.new.state.done ≡ owner.old.state.done + (length ahead.now + length missing.now)) }
-    ensures within { (owner.old.state.done ≤ owner.new.state.done) × (owner.new.state.done ≤ owner.old.state.done + (length ahead.now + length missing.now)) }
-    ensures redone { HasCounted (run given.now.design.now given.now.grid.now given.now.fixed.now (W.moves given.now.words.now) given.now.schedule.now) owner.old base ahead.now owner.new }
+    requires due { AreDue (run_for W.moves given.now) owner.old base ahead.now }
+    requires answers { AreAnswers (run_for W.moves given.now) (standing_of owner.old.state) (owner.old.state.done + length ahead.now) missing.now }
+    requires left { length ahead.now + length missing.now ≤ moves_left (run_for W.moves given.now) (standing_of owner.old.state) }
+    ensures made { HasMade (run_for W.moves given.now) owner.old (owner.new.state.done - owner.old.state.done) owner.new }
+    ensures done { owner.new.state.done ≡ owner.old.state.done + (length ahead.now + length missing.now) }
+    ensures redone { HasCounted (run_for W.moves given.now) owner.old base ahead.now owner.new }
 {
     let start = owner.state.done;
-    commit_each(alloc, given, owner, ahead, base, gate)?;
-    commit_each(alloc, given, owner, missing, start, gate)
-}
-
-/// The owner commits a batch, while workers judge the next moves on the older placement.
-fn commit_and_judge<W: Words + Sync, G: Gate, R: Threads + Wait + Sync>(
-    rt: &R,
-    alloc: Global,
-    given: &Given<'_, W>,
-    owner: &mut Owner,
-    older: &State,
-    ahead: &[Verdict],
-    base: u64,
-    missing: &[Verdict],
-    next: u64,
-    workers: u64,
-    gate: &G,
-) -> (Result<Vec<Verdict>, AllocError>, Result<(), AllocError>)
-    requires plan { IsLawful given.now.schedule.now }
-    requires owned { IsOwned (run given.now.design.now given.now.grid.now given.now.fixed.now (W.moves given.now.words.now) given.now.schedule.now) owner.old }
-    requires older { IsSound (run given.now.design.now given.now.grid.now given.now.fixed.now (W.moves given.now.words.now) given.now.schedule.now) older.now }
-    requires going { 0 < next → older.now.ended ≡ false }
-    requires room { HasRoom owner.old (length ahead.now + length missing.now) }
-    requires due { AreDue (run given.now.design.now given.now.grid.now given.now.fixed.now (W.moves given.now.words.now) given.now.schedule.now) owner.old base ahead.now }
-    requires answers { AreAnswers (run given.now.design.now given.now.grid.now given.now.fixed.now (W.moves given.now.words.now) given.now.schedule.now) (standing_of owner.old.state) (owner.old.state.done + length ahead.now) missing.now }
-    requires left { length ahead.now + length missing.now ≤ moves_left (run given.now.design.now given.now.grid.now given.now.fixed.now (W.moves given.now.words.now) given.now.schedule.now) (standing_of owner.old.state) }
-    requires limits { (owner.old.state.done + length ahead.now + length missing.now ≤ 2 ^ 62) × (next ≤ 4096) × (0 < workers) × (workers ≤ 64) }
-    ensures made { HasMade (run given.now.design.now given.now.grid.now given.now.fixed.now (W.moves given.now.words.now) given.now.schedule.now) owner.old (owner.new.state.done - owner.old.state.done) owner.new }
-    ensures ok { OnOk result.1 (owner.new.state.done ≡ owner.old.state.done + (length ahead.now + length missing.now)) }
-    ensures within { (owner.old.state.done ≤ owner.new.state.done) × (owner.new.state.done ≤ owner.old.state.done + (length ahead.now + length missing.now)) }
-    ensures redone { HasCounted (run given.now.design.now given.now.grid.now given.now.fixed.now (W.moves given.now.words.now) given.now.schedule.now) owner.old base ahead.now owner.new }
-    ensures many { IfOk result.0 (λ v. length v.items ≡ next) }
-    ensures answers { IfOk result.0 (λ v. AreAnswers (run given.now.design.now given.now.grid.now given.now.fixed.now (W.moves given.now.words.now) given.now.schedule.now) (standing_of older.now) (owner.old.state.done + length ahead.now + length missing.now) v.items) }
-{
-    let first = owner.state.done + ahead.len() as u64 + missing.len() as u64;
-    join_mut(
-        rt,
-        &mut || -> Result<Vec<Verdict>, AllocError>
-            requires { IsSync R.row × IsSync W.row × IsSound (run given.now.design.now given.now.grid.now given.now.fixed.now (W.moves given.now.words.now) given.now.schedule.now) older.now × (0 < next → older.now.ended ≡ false) × (first ≤ 2 ^ 62) × (next ≤ 4096) × (0 < workers) × (workers ≤ 64) }
-            ensures many { IfOk result (λ v. length v.items ≡ next) }
-            ensures answers { IfOk result (λ v. AreAnswers (run given.entry.now.design.now given.entry.now.grid.now given.entry.now.fixed.now (W.moves given.entry.now.words.now) given.entry.now.schedule.now) (standing_of older.entry.now) first v.items) }
-        { judged(rt, alloc, given, older, first, next, workers, gate) },
-        &mut || -> Result<(), AllocError>
-            requires { IsLawful given.now.schedule.now × IsOwned (run given.now.design.now given.now.grid.now given.now.fixed.now (W.moves given.now.words.now) given.now.schedule.now) owner.now × HasRoom owner.now (length ahead.now + length missing.now) × AreDue (run given.now.design.now given.now.grid.now given.now.fixed.now (W.moves given.now.words.now) given.now.schedule.now) owner.now base ahead.now × AreAnswers (run given.now.design.now given.now.grid.now given.now.fixed.now (W.moves given.now.words.now) given.now.schedule.now) (standing_of owner.now.state) (owner.now.state.done + length ahead.now) missing.now × (length ahead.now + length missing.now ≤ moves_left (run given.now.design.now given.now.grid.now given.now.fixed.now (W.moves given.now.words.now) given.now.schedule.now) (standing_of owner.now.state)) }
-            ensures made { HasMade (run given.entry.now.design.now given.entry.now.grid.now given.entry.now.fixed.now (W.moves given.entry.now.words.now) given.entry.now.schedule.now) owner.entry.now (owner.exit.now.state.done - owner.entry.now.state.done) owner.exit.now }
-            ensures ok { OnOk result (owner.exit.now.state.done ≡ owner.entry.now.state.done + (length ahead.entry.now + length missing.entry.now)) }
-            ensures within { (owner.entry.now.state.done ≤ owner.exit.now.state.done) × (owner.exit.now.state.done ≤ owner.entry.now.state.done + (length ahead.entry.now + length missing.entry.now)) }
-            ensures redone { HasCounted (run given.entry.now.design.now given.entry.now.grid.now given.entry.now.fixed.now (W.moves given.entry.now.words.now) given.entry.now.schedule.now) owner.entry.now base ahead.entry.now owner.exit.now }
-        { commit_all(alloc, given, owner, ahead, base, missing, gate) },
-    )
+    commit_each(given, owner, ahead, base, gate);
+    commit_each(given, owner, missing, start, gate);
 }
 
 /// Finds room for so many accepted moves.
@@ -200,94 +116,91 @@ fn reserve(owner: &mut Owner, moves: u64) -> Result<(), AllocError>
     Ok(())
 }
 
-/// Judges what of so many moves was not judged ahead, commits them all, and judges the moves behind them meanwhile. The
+/// Judges what of so many moves was not judged ahead, commits them all, and workers the moves behind them meanwhile. The
 /// answer is what was judged so.
-fn judge_and_commit<W: Words + Sync, G: Gate, R: Threads + Wait + Sync>(
+fn judge_and_commit<'a, 'g, W: Words + Sync + Drop, G: Gate, J: Naming, R: Threads + Wait + Sync>(
     rt: &R,
     alloc: Global,
-    given: &Given<'_, W>,
+    given: &Arc<Given<'a, W>>,
     owner: &mut Owner,
-    older: &State,
+    older: &Arc<State>,
     ahead: &[Verdict],
     base: u64,
     moves: u64,
     next: u64,
-    workers: u64,
-    gate: &G,
+    workers: &mut Workers<'a, 'g, W, G, J>,
 ) -> Result<Vec<Verdict>, AllocError>
-    requires plan { IsLawful given.now.schedule.now }
-    requires owned { IsOwned (run given.now.design.now given.now.grid.now given.now.fixed.now (W.moves given.now.words.now) given.now.schedule.now) owner.old }
-    requires older { IsSound (run given.now.design.now given.now.grid.now given.now.fixed.now (W.moves given.now.words.now) given.now.schedule.now) older.now }
-    requires same { standing_of older.now ≡ standing_of owner.old.state }
-    requires due { AreDue (run given.now.design.now given.now.grid.now given.now.fixed.now (W.moves given.now.words.now) given.now.schedule.now) owner.old base ahead.now }
+    requires plan { IsLawful (arc_value given.now).schedule }
+    requires owned { IsOwned (run_for W.moves (arc_value given.now)) owner.old }
+    requires older { IsSound (run_for W.moves (arc_value given.now)) (arc_value older.now) }
+    requires same { standing_of (arc_value older.now) ≡ standing_of owner.old.state }
+    requires due { AreDue (run_for W.moves (arc_value given.now)) owner.old base ahead.now }
     requires fits { length ahead.now ≤ moves }
-    requires left { moves + next ≤ moves_left (run given.now.design.now given.now.grid.now given.now.fixed.now (W.moves given.now.words.now) given.now.schedule.now) (standing_of owner.old.state) }
-    requires limits { (moves ≤ 4096) × (next ≤ 4096) × (0 < workers) × (workers ≤ 64) }
+    requires left { moves + next ≤ moves_left (run_for W.moves (arc_value given.now)) (standing_of owner.old.state) }
+    requires limits { (moves ≤ 4096) × (next ≤ 4096) }
     requires room { HasRoom owner.old moves }
-    ensures made { HasMade (run given.now.design.now given.now.grid.now given.now.fixed.now (W.moves given.now.words.now) given.now.schedule.now) owner.old (owner.new.state.done - owner.old.state.done) owner.new }
+    ensures made { HasMade (run_for W.moves (arc_value given.now)) owner.old (owner.new.state.done - owner.old.state.done) owner.new }
     ensures ok { OnOk result (owner.new.state.done ≡ owner.old.state.done + moves) }
     ensures within { (owner.old.state.done ≤ owner.new.state.done) × (owner.new.state.done ≤ owner.old.state.done + moves) }
-    ensures redone { HasCounted (run given.now.design.now given.now.grid.now given.now.fixed.now (W.moves given.now.words.now) given.now.schedule.now) owner.old base ahead.now owner.new }
+    ensures redone { HasCounted (run_for W.moves (arc_value given.now)) owner.old base ahead.now owner.new }
     ensures many { IfOk result (λ v. length v.items ≡ next) }
-    ensures answers { IfOk result (λ v. AreAnswers (run given.now.design.now given.now.grid.now given.now.fixed.now (W.moves given.now.words.now) given.now.schedule.now) (standing_of older.now) (owner.old.state.done + moves) v.items) }
+    ensures answers { IfOk result (λ v. AreAnswers (run_for W.moves (arc_value given.now)) (standing_of (arc_value older.now)) (owner.old.state.done + moves) v.items) }
 {
     let kept = ahead.len() as u64;
     let first = owner.state.done + kept;
-    let missing = judged(rt, alloc, given, older, first, moves - kept, workers, gate)?;
-    let (judged, committed) = commit_and_judge(
-        rt, alloc, given, owner, older, ahead, base, &missing, next, workers, gate,
-    );
-    committed?;
-    judged
+    let missing = judge_missing(rt, alloc, workers, given, older, first, moves - kept)?;
+    commit_and_judge(
+        rt, alloc, workers, given, owner, older, ahead, base, &missing, next,
+    )
 }
 
-/// Makes so many moves of the running stage, and judges the moves behind them. The answer is what was judged so.
-fn make_moves<W: Words + Sync, G: Gate, R: Threads + Wait + Sync>(
+/// Makes so many moves of the running stage, and workers the moves behind them. The answer is what was judged so.
+fn make_moves<'a, 'g, W: Words + Sync + Drop, G: Gate, J: Naming, R: Threads + Wait + Sync>(
     rt: &R,
     alloc: Global,
-    given: &Given<'_, W>,
+    given: &Arc<Given<'a, W>>,
     owner: &mut Owner,
-    older: &State,
+    older: &Arc<State>,
     ahead: &[Verdict],
     base: u64,
     moves: u64,
     next: u64,
-    workers: u64,
-    gate: &G,
+    workers: &mut Workers<'a, 'g, W, G, J>,
 ) -> Result<Vec<Verdict>, AllocError>
-    requires plan { IsLawful given.now.schedule.now }
-    requires owned { IsOwned (run given.now.design.now given.now.grid.now given.now.fixed.now (W.moves given.now.words.now) given.now.schedule.now) owner.old }
-    requires older { IsSound (run given.now.design.now given.now.grid.now given.now.fixed.now (W.moves given.now.words.now) given.now.schedule.now) older.now }
-    requires same { standing_of older.now ≡ standing_of owner.old.state }
-    requires due { AreDue (run given.now.design.now given.now.grid.now given.now.fixed.now (W.moves given.now.words.now) given.now.schedule.now) owner.old base ahead.now }
+    requires plan { IsLawful (arc_value given.now).schedule }
+    requires owned { IsOwned (run_for W.moves (arc_value given.now)) owner.old }
+    requires older { IsSound (run_for W.moves (arc_value given.now)) (arc_value older.now) }
+    requires same { standing_of (arc_value older.now) ≡ standing_of owner.old.state }
+    requires due { AreDue (run_for W.moves (arc_value given.now)) owner.old base ahead.now }
     requires fits { length ahead.now ≤ moves }
-    requires left { moves + next ≤ moves_left (run given.now.design.now given.now.grid.now given.now.fixed.now (W.moves given.now.words.now) given.now.schedule.now) (standing_of owner.old.state) }
-    requires limits { (moves ≤ 4096) × (next ≤ 4096) × (0 < workers) × (workers ≤ 64) }
-    ensures made { HasMade (run given.now.design.now given.now.grid.now given.now.fixed.now (W.moves given.now.words.now) given.now.schedule.now) owner.old (owner.new.state.done - owner.old.state.done) owner.new }
+    requires left { moves + next ≤ moves_left (run_for W.moves (arc_value given.now)) (standing_of owner.old.state) }
+    requires limits { (moves ≤ 4096) × (next ≤ 4096) }
+    ensures made { HasMade (run_for W.moves (arc_value given.now)) owner.old (owner.new.state.done - owner.old.state.done) owner.new }
     ensures ok { OnOk result (owner.new.state.done ≡ owner.old.state.done + moves) }
     ensures within { (owner.old.state.done ≤ owner.new.state.done) × (owner.new.state.done ≤ owner.old.state.done + moves) }
-    ensures redone { HasCounted (run given.now.design.now given.now.grid.now given.now.fixed.now (W.moves given.now.words.now) given.now.schedule.now) owner.old base ahead.now owner.new }
+    ensures redone { HasCounted (run_for W.moves (arc_value given.now)) owner.old base ahead.now owner.new }
     ensures many { IfOk result (λ v. length v.items ≡ next) }
-    ensures answers { IfOk result (λ v. AreAnswers (run given.now.design.now given.now.grid.now given.now.fixed.now (W.moves given.now.words.now) given.now.schedule.now) (standing_of older.now) (owner.old.state.done + moves) v.items) }
+    ensures answers { IfOk result (λ v. AreAnswers (run_for W.moves (arc_value given.now)) (standing_of (arc_value older.now)) (owner.old.state.done + moves) v.items) }
 {
     reserve(owner, moves)?;
     judge_and_commit(
-        rt, alloc, given, owner, older, ahead, base, moves, next, workers, gate,
+        rt, alloc, given, owner, older, ahead, base, moves, next, workers,
     )
 }
 
-/// Makes the older placement the live one, by the swaps that were accepted since.
+/// Makes the older placement the live one, by the swaps that were accepted since. No box is made anew: those of the nets that
+/// the swaps touched are taken over.
 fn catch_up<W: Words>(given: &Given<'_, W>, older: &mut State, live: &State, swaps: &[Accepted])
-    requires older { IsSound (run given.now.design.now given.now.grid.now given.now.fixed.now (W.moves given.now.words.now) given.now.schedule.now) older.old }
-    requires live { IsSound (run given.now.design.now given.now.grid.now given.now.fixed.now (W.moves given.now.words.now) given.now.schedule.now) live.now }
+    requires older { IsSound (run_for W.moves given.now) older.old }
+    requires live { IsSound (run_for W.moves given.now) live.now }
     requires leads { Leads given.now.grid.now older.old.placement.sites swaps.now live.now.placement.sites }
     ensures stands { standing_of older.new ≡ standing_of live.now }
-    ensures sound { IsSound (run given.now.design.now given.now.grid.now given.now.fixed.now (W.moves given.now.words.now) given.now.schedule.now) older.new }
+    ensures sound { IsSound (run_for W.moves given.now) older.new }
 {
     for accepted in swaps {
         older
             .cost
-            .apply(given.design, given.grid, &older.placement, &accepted.swap);
+            .take_over(given.design, &accepted.swap, &live.cost);
         older.placement.apply(&accepted.swap);
     }
     older.stage = live.stage;
@@ -296,24 +209,55 @@ fn catch_up<W: Words>(given: &Given<'_, W>, older: &mut State, live: &State, swa
     older.total = live.total;
 }
 
+/// Makes the older placement the live one, as soon as no worker looks at it any more.
+fn catch_up_alone<W: Words, R: Wait>(
+    rt: &R,
+    given: &Given<'_, W>,
+    older: &mut Arc<State>,
+    live: &State,
+    swaps: &[Accepted],
+)
+    requires older { IsSound (run_for W.moves given.now) (arc_value older.old) }
+    requires live { IsSound (run_for W.moves given.now) live.now }
+    requires leads { Leads given.now.grid.now (arc_value older.old).placement.sites swaps.now live.now.placement.sites }
+    ensures stands { standing_of (arc_value older.new) ≡ standing_of live.now }
+    ensures sound { IsSound (run_for W.moves given.now) (arc_value older.new) }
+{
+    for _look in rt.forever() {
+        if let Some(alone) = Arc::get_mut(older) {
+            catch_up(given, alone, live, swaps);
+            return;
+        }
+        thread::yield_now();
+    }
+    unreachable!()
+}
+
 /// Makes a turn. Where memory is short, the moves that it committed stay, and nothing is judged ahead.
-pub(crate) fn make_turn<W: Words + Sync, G: Gate, R: Threads + Wait + Sync>(
+pub(crate) fn make_turn<
+    'a,
+    'g,
+    W: Words + Sync + Drop,
+    G: Gate,
+    J: Naming,
+    R: Threads + Wait + Sync,
+>(
     rt: &R,
     alloc: Global,
-    given: &Given<'_, W>,
+    given: &Arc<Given<'a, W>>,
     state: &mut Pipeline,
     batch: u64,
-    workers: u64,
-    gate: &G,
+    workers: &mut Workers<'a, 'g, W, G, J>,
 ) -> Result<(), AllocError>
-    requires behind { (t : LastTurn) × IsBehind (run given.now.design.now given.now.grid.now given.now.fixed.now (W.moves given.now.words.now) given.now.schedule.now) t state.old }
-    requires limits { (batch ≤ 4096) × (0 < workers) × (workers ≤ 64) }
-    ensures within { (state.old.owner.state.done ≤ state.new.owner.state.done) × (state.new.owner.state.done ≤ state.old.owner.state.done + min batch (moves_left (run given.now.design.now given.now.grid.now given.now.fixed.now (W.moves given.now.words.now) given.now.schedule.now) (standing_of state.old.owner.state))) }
-    ensures ok { OnOk result ((t : LastTurn) → IsBehind (run given.now.design.now given.now.grid.now given.now.fixed.now (W.moves given.now.words.now) given.now.schedule.now) t state.old → HasTurned (run given.now.design.now given.now.grid.now given.now.fixed.now (W.moves given.now.words.now) given.now.schedule.now) t state.old (next_turn (run given.now.design.now given.now.grid.now given.now.fixed.now (W.moves given.now.words.now) given.now.schedule.now) batch t).made (next_turn (run given.now.design.now given.now.grid.now given.now.fixed.now (W.moves given.now.words.now) given.now.schedule.now) batch t).ahead state.new) }
-    ensures err { OnErr result ((t : LastTurn) → IsBehind (run given.now.design.now given.now.grid.now given.now.fixed.now (W.moves given.now.words.now) given.now.schedule.now) t state.old → HasTurned (run given.now.design.now given.now.grid.now given.now.fixed.now (W.moves given.now.words.now) given.now.schedule.now) t state.old (state.new.owner.state.done - state.old.owner.state.done) 0 state.new) }
+    requires behind { (t : LastTurn) × IsBehind (run_for W.moves (arc_value given.now)) t state.old }
+    requires limits { batch ≤ 4096 }
+    ensures within { (state.old.owner.state.done ≤ state.new.owner.state.done) × (state.new.owner.state.done ≤ state.old.owner.state.done + min batch (moves_left (run_for W.moves (arc_value given.now)) (standing_of state.old.owner.state))) }
+    ensures ok { OnOk result ((t : LastTurn) → IsBehind (run_for W.moves (arc_value given.now)) t state.old → HasTurned (run_for W.moves (arc_value given.now)) t state.old (next_turn (run_for W.moves (arc_value given.now)) batch t).made (next_turn (run_for W.moves (arc_value given.now)) batch t).ahead state.new) }
+    ensures err { OnErr result ((t : LastTurn) → IsBehind (run_for W.moves (arc_value given.now)) t state.old → HasTurned (run_for W.moves (arc_value given.now)) t state.old (state.new.owner.state.done - state.old.owner.state.done) 0 state.new) }
 {
+    let lent: &Given<'_, W> = given;
     let start = state.owner.state.done;
-    let left = moves_left(given.schedule, &state.owner.state);
+    let left = moves_left(&lent.schedule, &state.owner.state);
     let moves = batch.min(left);
     state.owner.swaps.clear();
     state.ahead.truncate(moves as usize);
@@ -328,10 +272,10 @@ pub(crate) fn make_turn<W: Words + Sync, G: Gate, R: Threads + Wait + Sync>(
         moves,
         batch.min(left - moves),
         workers,
-        gate,
     );
-    catch_up(
-        given,
+    catch_up_alone(
+        rt,
+        lent,
         &mut state.older,
         &state.owner.state,
         &state.owner.swaps,
@@ -343,28 +287,27 @@ pub(crate) fn make_turn<W: Words + Sync, G: Gate, R: Threads + Wait + Sync>(
 }
 
 /// Makes a turn, told as a world's.
-pub(crate) fn turn<W: Words + Sync, G: Gate, R: Threads + Wait + Sync>(
+pub(crate) fn turn<'a, 'g, W: Words + Sync + Drop, G: Gate, J: Naming, R: Threads + Wait + Sync>(
     rt: &R,
     alloc: Global,
-    given: &Given<'_, W>,
+    given: &Arc<Given<'a, W>>,
     state: &mut Pipeline,
     batch: u64,
-    workers: u64,
-    gate: &G,
+    workers: &mut Workers<'a, 'g, W, G, J>,
 ) -> Result<(), AllocError>
-    requires turn { HasTurn (run given.now.design.now given.now.grid.now given.now.fixed.now (W.moves given.now.words.now) given.now.schedule.now) state.old }
-    requires limits { (batch ≤ 4096) × (0 < workers) × (workers ≤ 64) }
-    ensures turn { HasTurn (run given.now.design.now given.now.grid.now given.now.fixed.now (W.moves given.now.words.now) given.now.schedule.now) state.new }
-    ensures stands { standing_of state.new.owner.state ≡ from (run given.now.design.now given.now.grid.now given.now.fixed.now (W.moves given.now.words.now) given.now.schedule.now) (standing_of state.old.owner.state) (state.new.owner.state.done - state.old.owner.state.done) }
-    ensures accepted { state.new.owner.state.accepted.items ≡ state.old.owner.state.accepted.items ++ accepted_among (run given.now.design.now given.now.grid.now given.now.fixed.now (W.moves given.now.words.now) given.now.schedule.now) (standing_of state.old.owner.state) (state.new.owner.state.done - state.old.owner.state.done) }
-    ensures redone { state.new.owner.redone ≡ state.old.owner.redone + count_by is_redone_way (take (state.new.owner.state.done - state.old.owner.state.done) (ways (run given.now.design.now given.now.grid.now given.now.fixed.now (W.moves given.now.words.now) given.now.schedule.now) (world_in state.old) (turn_events (run given.now.design.now given.now.grid.now given.now.fixed.now (W.moves given.now.words.now) given.now.schedule.now) batch (world_in state.old)))) }
-    ensures ok { OnOk result (state.new.owner.state.done ≡ state.old.owner.state.done + min batch (moves_left (run given.now.design.now given.now.grid.now given.now.fixed.now (W.moves given.now.words.now) given.now.schedule.now) (standing_of state.old.owner.state))) }
-    ensures within { (state.old.owner.state.done ≤ state.new.owner.state.done) × (state.new.owner.state.done ≤ state.old.owner.state.done + min batch (moves_left (run given.now.design.now given.now.grid.now given.now.fixed.now (W.moves given.now.words.now) given.now.schedule.now) (standing_of state.old.owner.state))) }
-    ensures world { OnOk result (world_in state.new ≡ turn (run given.now.design.now given.now.grid.now given.now.fixed.now (W.moves given.now.words.now) given.now.schedule.now) batch (world_in state.old)) }
-    ensures ahead { OnOk result (map (verdict_of state.new.base) state.new.ahead.items ≡ map (verdict_on (run given.now.design.now given.now.grid.now given.now.fixed.now (W.moves given.now.words.now) given.now.schedule.now) (standing_of state.old.owner.state)) (range_with_len state.new.owner.state.done (min batch (moves_left (run given.now.design.now given.now.grid.now given.now.fixed.now (W.moves given.now.words.now) given.now.schedule.now) (standing_of state.old.owner.state) - min batch (moves_left (run given.now.design.now given.now.grid.now given.now.fixed.now (W.moves given.now.words.now) given.now.schedule.now) (standing_of state.old.owner.state)))))) }
+    requires turn { HasTurn (run_for W.moves (arc_value given.now)) state.old }
+    requires limits { batch ≤ 4096 }
+    ensures turn { HasTurn (run_for W.moves (arc_value given.now)) state.new }
+    ensures stands { standing_of state.new.owner.state ≡ from (run_for W.moves (arc_value given.now)) (standing_of state.old.owner.state) (state.new.owner.state.done - state.old.owner.state.done) }
+    ensures accepted { state.new.owner.state.accepted.items ≡ state.old.owner.state.accepted.items ++ accepted_among (run_for W.moves (arc_value given.now)) (standing_of state.old.owner.state) (state.new.owner.state.done - state.old.owner.state.done) }
+    ensures redone { state.new.owner.redone ≡ state.old.owner.redone + count_by is_redone_way (take (state.new.owner.state.done - state.old.owner.state.done) (ways (run_for W.moves (arc_value given.now)) (world_in state.old) (turn_events (run_for W.moves (arc_value given.now)) batch (world_in state.old)))) }
+    ensures ok { OnOk result (state.new.owner.state.done ≡ state.old.owner.state.done + min batch (moves_left (run_for W.moves (arc_value given.now)) (standing_of state.old.owner.state))) }
+    ensures within { (state.old.owner.state.done ≤ state.new.owner.state.done) × (state.new.owner.state.done ≤ state.old.owner.state.done + min batch (moves_left (run_for W.moves (arc_value given.now)) (standing_of state.old.owner.state))) }
+    ensures world { OnOk result (world_in state.new ≡ turn (run_for W.moves (arc_value given.now)) batch (world_in state.old)) }
+    ensures ahead { OnOk result (map (verdict_of state.new.base) state.new.ahead.items ≡ map (verdict_on (run_for W.moves (arc_value given.now)) (standing_of state.old.owner.state)) (range_with_len state.new.owner.state.done (min batch (moves_left (run_for W.moves (arc_value given.now)) (standing_of state.old.owner.state) - min batch (moves_left (run_for W.moves (arc_value given.now)) (standing_of state.old.owner.state)))))) }
     ensures lost { OnErr result (map (verdict_of state.new.base) state.new.ahead.items ≡ []) }
-    ensures cut { OnErr result (world_in state.new ≡ turn_making (run given.now.design.now given.now.grid.now given.now.fixed.now (W.moves given.now.words.now) given.now.schedule.now) (state.new.owner.state.done - state.old.owner.state.done) 0 (world_in state.old)) }
+    ensures cut { OnErr result (world_in state.new ≡ turn_making (run_for W.moves (arc_value given.now)) (state.new.owner.state.done - state.old.owner.state.done) 0 (world_in state.old)) }
 {
-    make_turn(rt, alloc, given, state, batch, workers, gate)?;
+    make_turn(rt, alloc, given, state, batch, workers)?;
     Ok(())
 }

@@ -1,29 +1,29 @@
 //! What an annealer keeps, and how one move changes it.
 
-ghost use Rattle.std.specs.Prelude.{◌≡◌, ℕ, ◌+◌, ◌-◌, ◌*◌, ◌^◌, ◌<◌, ◌≤◌, List, [], ◌++◌, min, max, true, false, length, vec_len, vec_capacity, Some, IfOk, OnOk, OnErr};
+ghost use Rattle.std.specs.Prelude.{◌≡◌, ℕ, ◌+◌, ◌-◌, ◌*◌, ◌^◌, ◌<◌, ◌≤◌, List, [], ◌++◌, max, true, false, length, vec_len, vec_capacity, Some, IfOk};
 ghost use Rattle.fab_sched.specs.Annealing.{IsStage, next_range};
 ghost use Rattle.fab_site.specs.Placement.{IsLegal, IsSwapOf};
 ghost use Rattle.fab_cost.specs.Swapping.{CountedStandsFor};
-ghost use Rattle.fab_move.specs.Judge.{judged, moved, says};
+ghost use Rattle.fab_move.specs.Judge.{IsDecision, Judged, moved, says};
 ghost use Rattle.fab_commit.specs.Serial.{Run, after_move, at_start, judged_here, left_at, numbers_if, one_if, side, stage_of};
-ghost use Rattle.fab_commit.specs.Commits.{IsAdvanced, IsSound, heat_of, run, standing_of};
+ghost use Rattle.fab_commit.specs.Commits.{IsAdvanced, IsSound, heat_of, run, run_for, standing_of};
 
 use fab_arch::Grid;
 use fab_cost::{EdgeBoxes, WireCost};
-use fab_move::{Verdict, View, judge};
+use fab_move::{Decision, Verdict, View, decide, judge};
 use fab_net::Design;
 use fab_sched::{Schedule, Stage};
 use fab_site::{Fixed, Placement, Swap, Words};
 use std::alloc::{AllocError, Global};
 
-/// What a run is given, lent.
+/// What a run is given.
 #[derive(Drop)]
 pub(crate) struct Given<'a, W> {
     pub(crate) design: &'a Design,
     pub(crate) grid: &'a Grid,
-    pub(crate) fixed: &'a Fixed,
-    pub(crate) schedule: &'a Schedule,
-    pub(crate) words: &'a W,
+    pub(crate) fixed: Fixed,
+    pub(crate) schedule: Schedule,
+    pub(crate) words: W,
 }
 
 /// Where a run stands, and what is kept for that.
@@ -87,24 +87,24 @@ fn behind_the_last(schedule: &Schedule, side: u16, frozen: &Stage) -> Stage
     }
 }
 
-/// Makes the swap of a verdict, if it is accepted.
+/// Makes the swap of a decision, if it is accepted.
 fn swap_if_accepted(
     design: &Design,
     grid: &Grid,
     placement: &mut Placement,
     cost: &mut EdgeBoxes,
-    verdict: &Verdict,
+    decision: &Decision,
 )
     requires whole { length design.now.kinds ≡ length placement.old.sites }
     requires cost { CountedStandsFor cost.old design.now grid.now placement.old.sites }
-    requires lawful { (s : Swap) → verdict.now.swap ≡ Some s → IsSwapOf placement.old.grid placement.old.sites s }
-    ensures placement { placement.new ≡ record placement.old { sites = moved placement.old.sites (says verdict.now) } }
-    ensures cost { CountedStandsFor cost.new design.now grid.now (moved placement.old.sites (says verdict.now)) }
+    requires lawful { (s : Swap) → decision.now.swap ≡ Some s → IsSwapOf placement.old.grid placement.old.sites s }
+    ensures placement { (j : Judged) → IsDecision decision.now j → placement.new ≡ record placement.old { sites = moved placement.old.sites j } }
+    ensures cost { (j : Judged) → IsDecision decision.now j → CountedStandsFor cost.new design.now grid.now (moved placement.old.sites j) }
 {
-    if !verdict.accepted {
+    if !decision.accepted {
         return;
     }
-    if let Some(swap) = verdict.swap {
+    if let Some(swap) = decision.swap {
         cost.apply(design, grid, placement, &swap);
         placement.apply(&swap);
     }
@@ -124,17 +124,17 @@ fn count(accepted: &mut Vec<u64>, total: &mut u64, number: u64, took: bool)
     }
 }
 
-/// Commits a verdict on the next move.
-pub(crate) fn commit<W: Words>(given: &Given<'_, W>, state: &mut State, verdict: &Verdict)
-    requires sound { IsSound (run given.now.design.now given.now.grid.now given.now.fixed.now (W.moves given.now.words.now) given.now.schedule.now) state.old }
+/// Commits what is decided of the next move.
+pub(crate) fn commit<W: Words>(given: &Given<'_, W>, state: &mut State, decision: &Decision)
+    requires sound { IsSound (run_for W.moves given.now) state.old }
     requires going { state.old.ended ≡ false }
     requires room { vec_len state.old.accepted < vec_capacity state.old.accepted }
-    requires lawful { (s : Swap) → verdict.now.swap ≡ Some s → IsSwapOf state.old.placement.grid state.old.placement.sites s }
-    requires says { says verdict.now ≡ judged_here (run given.now.design.now given.now.grid.now given.now.fixed.now (W.moves given.now.words.now) given.now.schedule.now) (standing_of state.old) state.old.done }
-    ensures stands { standing_of state.new ≡ after_move (run given.now.design.now given.now.grid.now given.now.fixed.now (W.moves given.now.words.now) given.now.schedule.now) (standing_of state.old) (says verdict.now) }
-    ensures accepted { state.new.accepted.items ≡ state.old.accepted.items ++ numbers_if state.old.done verdict.now.accepted }
+    requires lawful { (s : Swap) → decision.now.swap ≡ Some s → IsSwapOf state.old.placement.grid state.old.placement.sites s }
+    requires decides { IsDecision decision.now (judged_here (run_for W.moves given.now) (standing_of state.old) state.old.done) }
+    ensures stands { standing_of state.new ≡ after_move (run_for W.moves given.now) (standing_of state.old) (judged_here (run_for W.moves given.now) (standing_of state.old) state.old.done) }
+    ensures accepted { state.new.accepted.items ≡ state.old.accepted.items ++ numbers_if state.old.done (judged_here (run_for W.moves given.now) (standing_of state.old) state.old.done).accepted }
     ensures room { (vec_len state.new.accepted ≤ vec_len state.old.accepted + 1) × (vec_capacity state.new.accepted ≡ vec_capacity state.old.accepted) }
-    ensures sound { IsSound (run given.now.design.now given.now.grid.now given.now.fixed.now (W.moves given.now.words.now) given.now.schedule.now) state.new }
+    ensures sound { IsSound (run_for W.moves given.now) state.new }
 {
     let side = side_of(given.grid);
     let _moves = given.schedule.moves();
@@ -143,18 +143,53 @@ pub(crate) fn commit<W: Words>(given: &Given<'_, W>, state: &mut State, verdict:
         given.grid,
         &mut state.placement,
         &mut state.cost,
-        verdict,
+        decision,
     );
     count(
         &mut state.accepted,
         &mut state.total,
         state.done,
-        verdict.accepted,
+        decision.accepted,
     );
-    let (stage, ended) = advanced(given.schedule, side, state.stage, verdict.accepted);
+    let (stage, ended) = advanced(&given.schedule, side, state.stage, decision.accepted);
     state.stage = stage;
     state.ended = ended;
     state.done += 1;
+}
+
+/// What a verdict decides.
+pub(crate) fn decision_of(verdict: &Verdict) -> Decision
+    ensures { IsDecision result (says verdict.now) }
+{
+    Decision {
+        swap: verdict.swap,
+        delta: verdict.delta,
+        accepted: verdict.accepted,
+    }
+}
+
+/// What a judgement in the running stage looks at.
+#[inline(always)]
+fn view_of<'a, W: Words>(given: &'a Given<'_, W>, state: &'a State) -> View<'a, EdgeBoxes, W>
+    ensures design { result.design.now ≡ given.now.design.now }
+    ensures grid { result.grid.now ≡ given.now.grid.now }
+    ensures fixed { result.fixed.now ≡ given.now.fixed }
+    ensures placement { result.placement.now ≡ state.now.placement }
+    ensures cost { result.cost.now ≡ state.now.cost }
+    ensures words { result.words.now ≡ given.now.words }
+    ensures t { result.t ≡ state.now.stage.t }
+    ensures range { result.range ≡ state.now.stage.range }
+{
+    View {
+        design: given.design,
+        grid: given.grid,
+        fixed: &given.fixed,
+        placement: &state.placement,
+        cost: &state.cost,
+        words: &given.words,
+        t: state.stage.t,
+        range: state.stage.range,
+    }
 }
 
 /// Judges a move of the running stage on the placement as it stands.
@@ -164,29 +199,30 @@ pub(crate) fn judge_on<W: Words>(
     state: &State,
     number: u64,
 ) -> Result<Verdict, AllocError>
-    requires sound { IsSound (run given.now.design.now given.now.grid.now given.now.fixed.now (W.moves given.now.words.now) given.now.schedule.now) state.now }
+    requires sound { IsSound (run_for W.moves given.now) state.now }
     requires going { state.now.ended ≡ false }
     ensures number { IfOk result (λ v. v.k ≡ number) }
     ensures lawful { IfOk result (λ v. (s : Swap) → v.swap ≡ Some s → IsSwapOf state.now.placement.grid state.now.placement.sites s) }
-    ensures says { IfOk result (λ v. says v ≡ judged_here (run given.now.design.now given.now.grid.now given.now.fixed.now (W.moves given.now.words.now) given.now.schedule.now) (standing_of state.now) number) }
+    ensures says { IfOk result (λ v. says v ≡ judged_here (run_for W.moves given.now) (standing_of state.now) number) }
 {
-    let view = View {
-        design: given.design,
-        grid: given.grid,
-        fixed: given.fixed,
-        placement: &state.placement,
-        cost: &state.cost,
-        words: given.words,
-        t: state.stage.t,
-        range: state.stage.range,
-    };
-    judge(alloc, &view, number)
+    judge(alloc, &view_of(given, state), number)
+}
+
+/// Decides a move of the running stage on the placement as it stands: what [`judge_on`] says without what that rests on.
+/// Takes no memory.
+pub(crate) fn decide_on<W: Words>(given: &Given<'_, W>, state: &State, number: u64) -> Decision
+    requires sound { IsSound (run_for W.moves given.now) state.now }
+    requires going { state.now.ended ≡ false }
+    ensures lawful { (s : Swap) → result.swap ≡ Some s → IsSwapOf state.now.placement.grid state.now.placement.sites s }
+    ensures decides { IsDecision result (judged_here (run_for W.moves given.now) (standing_of state.now) number) }
+{
+    decide(&view_of(given, state), number)
 }
 
 /// The running stage, `None` after the last move.
 pub(crate) fn running<W: Words>(given: &Given<'_, W>, state: &State) -> Option<Stage>
-    requires { IsSound (run given.now.design.now given.now.grid.now given.now.fixed.now (W.moves given.now.words.now) given.now.schedule.now) state.now }
-    ensures { result ≡ stage_of (run given.now.design.now given.now.grid.now given.now.fixed.now (W.moves given.now.words.now) given.now.schedule.now) (standing_of state.now) }
+    requires { IsSound (run_for W.moves given.now) state.now }
+    ensures { result ≡ stage_of (run_for W.moves given.now) (standing_of state.now) }
 {
     let _moves = given.schedule.moves();
     if state.ended { None } else { Some(state.stage) }

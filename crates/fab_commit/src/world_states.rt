@@ -1,25 +1,24 @@
 //! What a world keeps, and how each event changes it.
 
-ghost use Rattle.std.specs.Prelude.{◌≡◌, ◌+◌, ◌*◌, ◌^◌, ◌<◌, ◌≤◌, ◌∷◌, ◌++◌, [], false, Some, vec_len, vec_capacity, IfOk, OnOk, OnErr};
+ghost use Rattle.std.specs.Prelude.{◌≡◌, ◌+◌, ◌<◌, ◌≤◌, ◌∷◌, ◌++◌, [], false, Some, vec_len, vec_capacity, IfOk, OnOk, OnErr};
 ghost use Rattle.std.specs.List.{All};
-ghost use Rattle.fab_net.specs.Netlist.{Netlist};
-ghost use Rattle.fab_site.specs.Placement.{IsLegal, IsSwapOf};
+ghost use Rattle.fab_site.specs.Placement.{IsSwapOf};
 ghost use Rattle.fab_sched.specs.Annealing.{IsLawful};
-ghost use Rattle.fab_move.specs.Judge.{says};
+ghost use Rattle.fab_move.specs.Judge.{IsDecision, Judged};
 ghost use Rattle.fab_commit.specs.declared.events.Event.TheVariants.{Claim, Judge, Lose, Commit, Refresh};
-ghost use Rattle.fab_commit.specs.Serial.{Run, after_move, at_start, judged_here};
-ghost use Rattle.fab_commit.specs.Commits.{IsSound, run, standing_of};
+ghost use Rattle.fab_commit.specs.Serial.{Run, after_move, judged_here};
+ghost use Rattle.fab_commit.specs.Commits.{IsSound, run_for, standing_of};
 ghost use Rattle.fab_commit.specs.World.{accepted_now, commit as commit_of, end, happens, stage_end, usable, verdict_here, way_of, ways_now, without_number, world};
-ghost use Rattle.fab_commit.specs.Worlds.{HasBlocks, IsReached, IsWhole, KeepsKind, world_of};
+ghost use Rattle.fab_commit.specs.Worlds.{HasBlocks, IsReached, IsWhole, world_of};
 
 use crate::claims::{
     claim_of, drop_claim, drop_last_verdict, drop_verdict_for, first_free, verdict_for,
 };
 use crate::clashes::clash;
 use crate::events::{Event, Way};
-use crate::states::{Given, State, commit, copy_of, judge_on, moves_left};
+use crate::states::{Given, State, commit, copy_of, decision_of, judge_on, moves_left};
 use crate::verdicts::{Accepted, Claimed, Judgement, Verdict};
-use fab_move::Verdict as Answer;
+use fab_move::Decision;
 use fab_sched::Schedule;
 use fab_site::{Swap, Words};
 use std::alloc::{AllocError, Global};
@@ -39,11 +38,11 @@ pub(crate) struct WorldState {
 
 /// The number behind the last move of the stage that runs in a state.
 fn end_of<W: Words>(given: &Given<'_, W>, state: &State) -> u64
-    requires plan { IsLawful given.now.schedule.now }
-    requires sound { IsSound (run given.now.design.now given.now.grid.now given.now.fixed.now (W.moves given.now.words.now) given.now.schedule.now) state.now }
-    ensures { result ≡ stage_end (run given.now.design.now given.now.grid.now given.now.fixed.now (W.moves given.now.words.now) given.now.schedule.now) (standing_of state.now) }
+    requires plan { IsLawful given.now.schedule }
+    requires sound { IsSound (run_for W.moves given.now) state.now }
+    ensures { result ≡ stage_end (run_for W.moves given.now) (standing_of state.now) }
 {
-    state.done + moves_left(given.schedule, state)
+    state.done + moves_left(&given.schedule, state)
 }
 
 /// A worker without a claim takes the first move that is free.
@@ -52,10 +51,10 @@ fn claim<W: Words>(
     state: &mut WorldState,
     worker: u64,
 ) -> Result<(), AllocError>
-    requires whole { IsWhole (run given.now.design.now given.now.grid.now given.now.fixed.now (W.moves given.now.words.now) given.now.schedule.now) state.old }
-    ensures whole { IsWhole (run given.now.design.now given.now.grid.now given.now.fixed.now (W.moves given.now.words.now) given.now.schedule.now) state.new }
+    requires whole { IsWhole (run_for W.moves given.now) state.old }
+    ensures whole { IsWhole (run_for W.moves given.now) state.new }
     ensures ways { state.new.ways.items ≡ state.old.ways.items }
-    ensures ok { OnOk result (world_of state.new ≡ happens (run given.now.design.now given.now.grid.now given.now.fixed.now (W.moves given.now.words.now) given.now.schedule.now) (world_of state.old) (Claim worker)) }
+    ensures ok { OnOk result (world_of state.new ≡ happens (run_for W.moves given.now) (world_of state.old) (Claim worker)) }
     ensures err { OnErr result (world_of state.new ≡ world_of state.old) }
 {
     if claim_of(&state.claims, worker).is_some() {
@@ -75,11 +74,11 @@ fn judge<W: Words>(
     state: &mut WorldState,
     worker: u64,
 ) -> Result<(), AllocError>
-    requires whole { IsWhole (run given.now.design.now given.now.grid.now given.now.fixed.now (W.moves given.now.words.now) given.now.schedule.now) state.old }
-    requires reached { IsReached (run given.now.design.now given.now.grid.now given.now.fixed.now (W.moves given.now.words.now) given.now.schedule.now) (world_of state.old) state.old.ways.items }
-    ensures whole { IsWhole (run given.now.design.now given.now.grid.now given.now.fixed.now (W.moves given.now.words.now) given.now.schedule.now) state.new }
+    requires whole { IsWhole (run_for W.moves given.now) state.old }
+    requires reached { IsReached (run_for W.moves given.now) (world_of state.old) state.old.ways.items }
+    ensures whole { IsWhole (run_for W.moves given.now) state.new }
     ensures ways { state.new.ways.items ≡ state.old.ways.items }
-    ensures ok { OnOk result (world_of state.new ≡ happens (run given.now.design.now given.now.grid.now given.now.fixed.now (W.moves given.now.words.now) given.now.schedule.now) (world_of state.old) (Judge worker)) }
+    ensures ok { OnOk result (world_of state.new ≡ happens (run_for W.moves given.now) (world_of state.old) (Judge worker)) }
     ensures err { OnErr result (world_of state.new ≡ world_of state.old) }
 {
     let Some(number) = claim_of(&state.claims, worker) else {
@@ -102,10 +101,10 @@ fn judge<W: Words>(
 
 /// A worker's claim is lost, or else its verdict of the greatest number.
 fn lose<W: Words>(given: &Given<'_, W>, state: &mut WorldState, worker: u64)
-    requires whole { IsWhole (run given.now.design.now given.now.grid.now given.now.fixed.now (W.moves given.now.words.now) given.now.schedule.now) state.old }
-    ensures whole { IsWhole (run given.now.design.now given.now.grid.now given.now.fixed.now (W.moves given.now.words.now) given.now.schedule.now) state.new }
+    requires whole { IsWhole (run_for W.moves given.now) state.old }
+    ensures whole { IsWhole (run_for W.moves given.now) state.new }
     ensures ways { state.new.ways.items ≡ state.old.ways.items }
-    ensures lost { world_of state.new ≡ happens (run given.now.design.now given.now.grid.now given.now.fixed.now (W.moves given.now.words.now) given.now.schedule.now) (world_of state.old) (Lose worker) }
+    ensures lost { world_of state.new ≡ happens (run_for W.moves given.now) (world_of state.old) (Lose worker) }
 {
     if claim_of(&state.claims, worker).is_some() {
         drop_claim(&mut state.claims, worker);
@@ -120,10 +119,10 @@ fn refresh<W: Words>(
     given: &Given<'_, W>,
     state: &mut WorldState,
 ) -> Result<(), AllocError>
-    requires whole { IsWhole (run given.now.design.now given.now.grid.now given.now.fixed.now (W.moves given.now.words.now) given.now.schedule.now) state.old }
-    ensures whole { IsWhole (run given.now.design.now given.now.grid.now given.now.fixed.now (W.moves given.now.words.now) given.now.schedule.now) state.new }
+    requires whole { IsWhole (run_for W.moves given.now) state.old }
+    ensures whole { IsWhole (run_for W.moves given.now) state.new }
     ensures ways { state.new.ways.items ≡ state.old.ways.items }
-    ensures ok { OnOk result (world_of state.new ≡ happens (run given.now.design.now given.now.grid.now given.now.fixed.now (W.moves given.now.words.now) given.now.schedule.now) (world_of state.old) Refresh) }
+    ensures ok { OnOk result (world_of state.new ≡ happens (run_for W.moves given.now) (world_of state.old) Refresh) }
     ensures err { OnErr result (world_of state.new ≡ world_of state.old) }
 {
     state.older = copy_of(alloc, &state.live)?;
@@ -131,39 +130,39 @@ fn refresh<W: Words>(
 }
 
 /// Enters the swap of the next move, if it is accepted.
-pub(crate) fn enter(accepted: &mut Vec<Accepted>, number: u64, answer: &Answer)
+pub(crate) fn enter(accepted: &mut Vec<Accepted>, number: u64, decision: &Decision)
     requires room { vec_len accepted.old < vec_capacity accepted.old }
-    ensures items { accepted.new.items ≡ accepted.old.items ++ accepted_now number (says answer.now) }
+    ensures items { (j : Judged) → IsDecision decision.now j → accepted.new.items ≡ accepted.old.items ++ accepted_now number j }
     ensures room { (vec_len accepted.new ≤ vec_len accepted.old + 1) × (vec_capacity accepted.new ≡ vec_capacity accepted.old) }
 {
-    if answer.accepted {
-        if let Some(swap) = answer.swap {
+    if decision.accepted {
+        if let Some(swap) = decision.swap {
             accepted.push_reserved(Accepted { number, swap });
         }
     }
 }
 
-/// Makes the next move as it was judged.
+/// Makes the next move as it was decided.
 fn make<W: Words>(
     given: &Given<'_, W>,
     live: &mut State,
     accepted: &mut Vec<Accepted>,
-    answer: &Answer,
+    decision: &Decision,
 )
-    requires sound { IsSound (run given.now.design.now given.now.grid.now given.now.fixed.now (W.moves given.now.words.now) given.now.schedule.now) live.old }
+    requires sound { IsSound (run_for W.moves given.now) live.old }
     requires going { live.old.ended ≡ false }
     requires blocks { All (HasBlocks given.now.design.now) accepted.old.items }
     requires room { vec_len live.old.accepted < vec_capacity live.old.accepted }
     requires swap_room { vec_len accepted.old < vec_capacity accepted.old }
-    requires lawful { (s : Swap) → answer.now.swap ≡ Some s → IsSwapOf live.old.placement.grid live.old.placement.sites s }
-    requires says { says answer.now ≡ judged_here (run given.now.design.now given.now.grid.now given.now.fixed.now (W.moves given.now.words.now) given.now.schedule.now) (standing_of live.old) live.old.done }
-    ensures sound { IsSound (run given.now.design.now given.now.grid.now given.now.fixed.now (W.moves given.now.words.now) given.now.schedule.now) live.new }
+    requires lawful { (s : Swap) → decision.now.swap ≡ Some s → IsSwapOf live.old.placement.grid live.old.placement.sites s }
+    requires decides { IsDecision decision.now (judged_here (run_for W.moves given.now) (standing_of live.old) live.old.done) }
+    ensures sound { IsSound (run_for W.moves given.now) live.new }
     ensures blocks { All (HasBlocks given.now.design.now) accepted.new.items }
-    ensures stands { standing_of live.new ≡ after_move (run given.now.design.now given.now.grid.now given.now.fixed.now (W.moves given.now.words.now) given.now.schedule.now) (standing_of live.old) (says answer.now) }
-    ensures accepted { accepted.new.items ≡ accepted.old.items ++ accepted_now live.old.done (says answer.now) }
+    ensures stands { standing_of live.new ≡ after_move (run_for W.moves given.now) (standing_of live.old) (judged_here (run_for W.moves given.now) (standing_of live.old) live.old.done) }
+    ensures accepted { accepted.new.items ≡ accepted.old.items ++ accepted_now live.old.done (judged_here (run_for W.moves given.now) (standing_of live.old) live.old.done) }
 {
-    enter(accepted, live.done, answer);
-    commit(given, live, answer);
+    enter(accepted, live.done, decision);
+    commit(given, live, decision);
 }
 
 /// Judges the next move on the live placement, and makes it.
@@ -173,19 +172,19 @@ fn judge_and_make<W: Words>(
     live: &mut State,
     accepted: &mut Vec<Accepted>,
 ) -> Result<(), AllocError>
-    requires sound { IsSound (run given.now.design.now given.now.grid.now given.now.fixed.now (W.moves given.now.words.now) given.now.schedule.now) live.old }
+    requires sound { IsSound (run_for W.moves given.now) live.old }
     requires going { live.old.ended ≡ false }
     requires blocks { All (HasBlocks given.now.design.now) accepted.old.items }
     requires room { vec_len live.old.accepted < vec_capacity live.old.accepted }
     requires swap_room { vec_len accepted.old < vec_capacity accepted.old }
-    ensures sound { IsSound (run given.now.design.now given.now.grid.now given.now.fixed.now (W.moves given.now.words.now) given.now.schedule.now) live.new }
+    ensures sound { IsSound (run_for W.moves given.now) live.new }
     ensures blocks { All (HasBlocks given.now.design.now) accepted.new.items }
-    ensures stands { OnOk result (standing_of live.new ≡ after_move (run given.now.design.now given.now.grid.now given.now.fixed.now (W.moves given.now.words.now) given.now.schedule.now) (standing_of live.old) (judged_here (run given.now.design.now given.now.grid.now given.now.fixed.now (W.moves given.now.words.now) given.now.schedule.now) (standing_of live.old) live.old.done)) }
-    ensures accepted { OnOk result (accepted.new.items ≡ accepted.old.items ++ accepted_now live.old.done (judged_here (run given.now.design.now given.now.grid.now given.now.fixed.now (W.moves given.now.words.now) given.now.schedule.now) (standing_of live.old) live.old.done)) }
+    ensures stands { OnOk result (standing_of live.new ≡ after_move (run_for W.moves given.now) (standing_of live.old) (judged_here (run_for W.moves given.now) (standing_of live.old) live.old.done)) }
+    ensures accepted { OnOk result (accepted.new.items ≡ accepted.old.items ++ accepted_now live.old.done (judged_here (run_for W.moves given.now) (standing_of live.old) live.old.done)) }
     ensures err { OnErr result ((standing_of live.new ≡ standing_of live.old) × (accepted.new.items ≡ accepted.old.items)) }
 {
     let answer = judge_on(alloc, given, live, live.done)?;
-    make(given, live, accepted, &answer);
+    make(given, live, accepted, &decision_of(&answer));
     Ok(())
 }
 
@@ -209,15 +208,15 @@ fn commit_next<W: Words>(
     given: &Given<'_, W>,
     state: &mut WorldState,
 ) -> Result<(), AllocError>
-    requires whole { IsWhole (run given.now.design.now given.now.grid.now given.now.fixed.now (W.moves given.now.words.now) given.now.schedule.now) state.old }
-    requires reached { IsReached (run given.now.design.now given.now.grid.now given.now.fixed.now (W.moves given.now.words.now) given.now.schedule.now) (world_of state.old) state.old.ways.items }
-    requires before { state.old.live.done < end (run given.now.design.now given.now.grid.now given.now.fixed.now (W.moves given.now.words.now) given.now.schedule.now) (world_of state.old) }
+    requires whole { IsWhole (run_for W.moves given.now) state.old }
+    requires reached { IsReached (run_for W.moves given.now) (world_of state.old) state.old.ways.items }
+    requires before { state.old.live.done < end (run_for W.moves given.now) (world_of state.old) }
     requires room { vec_len state.old.live.accepted < vec_capacity state.old.live.accepted }
     requires swap_room { vec_len state.old.accepted < vec_capacity state.old.accepted }
     requires way_room { vec_len state.old.ways < vec_capacity state.old.ways }
-    ensures whole { IsWhole (run given.now.design.now given.now.grid.now given.now.fixed.now (W.moves given.now.words.now) given.now.schedule.now) state.new }
-    ensures ways { OnOk result (state.new.ways.items ≡ state.old.ways.items ++ way_of (verdict_here (world_of state.old)) (usable (run given.now.design.now given.now.grid.now given.now.fixed.now (W.moves given.now.words.now) given.now.schedule.now) (world_of state.old) (verdict_here (world_of state.old))) ∷ []) }
-    ensures ok { OnOk result (world_of state.new ≡ commit_of (run given.now.design.now given.now.grid.now given.now.fixed.now (W.moves given.now.words.now) given.now.schedule.now) (world_of state.old)) }
+    ensures whole { IsWhole (run_for W.moves given.now) state.new }
+    ensures ways { OnOk result (state.new.ways.items ≡ state.old.ways.items ++ way_of (verdict_here (world_of state.old)) (usable (run_for W.moves given.now) (world_of state.old) (verdict_here (world_of state.old))) ∷ []) }
+    ensures ok { OnOk result (world_of state.new ≡ commit_of (run_for W.moves given.now) (world_of state.old)) }
     ensures err { OnErr result ((world_of state.new ≡ world_of state.old) × (state.new.ways.items ≡ state.old.ways.items)) }
 {
     let number = state.live.done;
@@ -236,7 +235,7 @@ fn commit_next<W: Words>(
                     given,
                     &mut state.live,
                     &mut state.accepted,
-                    verdict.judged.answer(),
+                    &decision_of(verdict.judged.answer()),
                 );
                 settle(state, number, Way::Taken);
             }
@@ -251,11 +250,11 @@ fn commit_one<W: Words>(
     given: &Given<'_, W>,
     state: &mut WorldState,
 ) -> Result<(), AllocError>
-    requires whole { IsWhole (run given.now.design.now given.now.grid.now given.now.fixed.now (W.moves given.now.words.now) given.now.schedule.now) state.old }
-    requires reached { IsReached (run given.now.design.now given.now.grid.now given.now.fixed.now (W.moves given.now.words.now) given.now.schedule.now) (world_of state.old) state.old.ways.items }
-    ensures whole { IsWhole (run given.now.design.now given.now.grid.now given.now.fixed.now (W.moves given.now.words.now) given.now.schedule.now) state.new }
-    ensures ways { OnOk result (state.new.ways.items ≡ state.old.ways.items ++ ways_now (run given.now.design.now given.now.grid.now given.now.fixed.now (W.moves given.now.words.now) given.now.schedule.now) (world_of state.old) Commit) }
-    ensures ok { OnOk result (world_of state.new ≡ happens (run given.now.design.now given.now.grid.now given.now.fixed.now (W.moves given.now.words.now) given.now.schedule.now) (world_of state.old) Commit) }
+    requires whole { IsWhole (run_for W.moves given.now) state.old }
+    requires reached { IsReached (run_for W.moves given.now) (world_of state.old) state.old.ways.items }
+    ensures whole { IsWhole (run_for W.moves given.now) state.new }
+    ensures ways { OnOk result (state.new.ways.items ≡ state.old.ways.items ++ ways_now (run_for W.moves given.now) (world_of state.old) Commit) }
+    ensures ok { OnOk result (world_of state.new ≡ happens (run_for W.moves given.now) (world_of state.old) Commit) }
     ensures err { OnErr result ((world_of state.new ≡ world_of state.old) × (state.new.ways.items ≡ state.old.ways.items)) }
 {
     if state.live.done >= end_of(given, &state.older) {
@@ -274,11 +273,11 @@ fn one_event<W: Words>(
     state: &mut WorldState,
     event: Event,
 ) -> Result<(), AllocError>
-    requires whole { IsWhole (run given.now.design.now given.now.grid.now given.now.fixed.now (W.moves given.now.words.now) given.now.schedule.now) state.old }
-    requires reached { IsReached (run given.now.design.now given.now.grid.now given.now.fixed.now (W.moves given.now.words.now) given.now.schedule.now) (world_of state.old) state.old.ways.items }
-    ensures whole { IsWhole (run given.now.design.now given.now.grid.now given.now.fixed.now (W.moves given.now.words.now) given.now.schedule.now) state.new }
-    ensures ways { OnOk result (state.new.ways.items ≡ state.old.ways.items ++ ways_now (run given.now.design.now given.now.grid.now given.now.fixed.now (W.moves given.now.words.now) given.now.schedule.now) (world_of state.old) event) }
-    ensures ok { OnOk result (world_of state.new ≡ happens (run given.now.design.now given.now.grid.now given.now.fixed.now (W.moves given.now.words.now) given.now.schedule.now) (world_of state.old) event) }
+    requires whole { IsWhole (run_for W.moves given.now) state.old }
+    requires reached { IsReached (run_for W.moves given.now) (world_of state.old) state.old.ways.items }
+    ensures whole { IsWhole (run_for W.moves given.now) state.new }
+    ensures ways { OnOk result (state.new.ways.items ≡ state.old.ways.items ++ ways_now (run_for W.moves given.now) (world_of state.old) event) }
+    ensures ok { OnOk result (world_of state.new ≡ happens (run_for W.moves given.now) (world_of state.old) event) }
     ensures err { OnErr result ((world_of state.new ≡ world_of state.old) × (state.new.ways.items ≡ state.old.ways.items)) }
 {
     match event {
@@ -300,12 +299,12 @@ pub(crate) fn step<W: Words>(
     state: &mut WorldState,
     event: Event,
 ) -> Result<(), AllocError>
-    requires whole { IsWhole (run given.now.design.now given.now.grid.now given.now.fixed.now (W.moves given.now.words.now) given.now.schedule.now) state.old }
-    requires reached { IsReached (run given.now.design.now given.now.grid.now given.now.fixed.now (W.moves given.now.words.now) given.now.schedule.now) (world_of state.old) state.old.ways.items }
-    ensures whole { IsWhole (run given.now.design.now given.now.grid.now given.now.fixed.now (W.moves given.now.words.now) given.now.schedule.now) state.new }
-    ensures reached { IsReached (run given.now.design.now given.now.grid.now given.now.fixed.now (W.moves given.now.words.now) given.now.schedule.now) (world_of state.new) state.new.ways.items }
-    ensures ways { OnOk result (state.new.ways.items ≡ state.old.ways.items ++ ways_now (run given.now.design.now given.now.grid.now given.now.fixed.now (W.moves given.now.words.now) given.now.schedule.now) (world_of state.old) event) }
-    ensures ok { OnOk result (world_of state.new ≡ happens (run given.now.design.now given.now.grid.now given.now.fixed.now (W.moves given.now.words.now) given.now.schedule.now) (world_of state.old) event) }
+    requires whole { IsWhole (run_for W.moves given.now) state.old }
+    requires reached { IsReached (run_for W.moves given.now) (world_of state.old) state.old.ways.items }
+    ensures whole { IsWhole (run_for W.moves given.now) state.new }
+    ensures reached { IsReached (run_for W.moves given.now) (world_of state.new) state.new.ways.items }
+    ensures ways { OnOk result (state.new.ways.items ≡ state.old.ways.items ++ ways_now (run_for W.moves given.now) (world_of state.old) event) }
+    ensures ok { OnOk result (world_of state.new ≡ happens (run_for W.moves given.now) (world_of state.old) event) }
     ensures err { OnErr result ((world_of state.new ≡ world_of state.old) × (state.new.ways.items ≡ state.old.ways.items)) }
 {
     one_event(alloc, given, state, event)

@@ -3,7 +3,7 @@
 ghost use Rattle.std.specs.Prelude.{◌≡◌, ◌++◌, [], slice_get, IfOk, OnOk, OnErr};
 ghost use Rattle.fab_site.specs.Placement.{IsLegal};
 ghost use Rattle.fab_commit.specs.Serial.{at_start};
-ghost use Rattle.fab_commit.specs.Commits.{run};
+ghost use Rattle.fab_commit.specs.Commits.{run, run_for};
 ghost use Rattle.fab_commit.specs.World.{happens, ways_now, world};
 ghost use Rattle.fab_commit.specs.Worlds.{IsReached, IsSameGiven, IsSerial, run_in};
 
@@ -21,31 +21,27 @@ use std::marker::Model;
 /// next. Whatever that is, the placement is that of one move at a time.
 #[derive(Drop)]
 pub struct World<'a, W: Words + Drop> {
-    design: &'a Design,
-    grid: &'a Grid,
-    fixed: Fixed,
-    schedule: Schedule,
-    words: W,
+    given: Given<'a, W>,
     state: WorldState,
 }
 
 impl<'a, W: Words + Drop> Model for World<'a, W> {
-    ghost use Rattle.fab_commit.specs.Commits.{run};
+    ghost use Rattle.fab_commit.specs.Commits.{run, run_for};
     ghost use Rattle.fab_commit.specs.Worlds.{IsReached, IsWhole, WorldOf, world_of};
 
     ghost Value = { WorldOf W };
 
     ghost view = { λ w. record {
-      design = w.design.now;
-      grid = w.grid.now;
-      fixed = w.fixed;
-      plan = w.schedule;
-      words = w.words;
+      design = w.given.design.now;
+      grid = w.given.grid.now;
+      fixed = w.given.fixed;
+      plan = w.given.schedule;
+      words = w.given.words;
       world = world_of w.state;
       ways = w.state.ways.items;
     } };
 
-    ghost invariant = { λ w. IsWhole (run w.design.now w.grid.now w.fixed (W.moves w.words) w.schedule) w.state × IsReached (run w.design.now w.grid.now w.fixed (W.moves w.words) w.schedule) (world_of w.state) w.state.ways.items };
+    ghost invariant = { λ w. IsWhole (run_for W.moves w.given) w.state × IsReached (run_for W.moves w.given) (world_of w.state) w.state.ways.items };
 }
 
 impl<'a, W: Words + Drop> World<'a, W> {
@@ -68,11 +64,13 @@ impl<'a, W: Words + Drop> World<'a, W> {
         let live = first_state(alloc, design, grid, &fixed, &schedule, placement)?;
         let state = first_world(alloc, live)?;
         Ok(World {
-            design,
-            grid,
-            fixed,
-            schedule,
-            words,
+            given: Given {
+                design,
+                grid,
+                fixed,
+                schedule,
+                words,
+            },
             state,
         })
     }
@@ -84,14 +82,7 @@ impl<'a, W: Words + Drop> World<'a, W> {
         ensures ways { OnOk result (self.new.ways ≡ self.old.ways ++ ways_now (run_in W.moves self.old) self.old.world event) }
         ensures unchanged { OnErr result (self.new ≡ self.old) }
     {
-        let given = Given {
-            design: self.design,
-            grid: self.grid,
-            fixed: &self.fixed,
-            schedule: &self.schedule,
-            words: &self.words,
-        };
-        step(alloc, &given, &mut self.state, event)
+        step(alloc, &self.given, &mut self.state, event)
     }
 
     /// How many moves are made.

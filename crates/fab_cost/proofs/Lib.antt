@@ -8,7 +8,9 @@ pub mod Split
 pub mod Nets
 pub mod Changes
 pub mod Shares
+pub mod Seen
 pub mod Renewals
+pub mod TakenOver
 pub mod PlainRenewals
 pub mod Bounds
 pub mod Making

@@ -1,29 +1,27 @@
 //! What a swap makes of the cost, where no box is renewed: most judged moves are rejected, so this is what an annealer
-//! waits for. Most nets are passed at a look at their box; few are looked at terminal by terminal.
+//! waits for. A net of few terminals is looked at terminal by terminal; most others are passed at a look at their box.
 
-ghost use Rattle.std.specs.Prelude.{◌≡◌, ◌≢◌, ◌<◌, ◌+◌, ◌^◌, List, Some, IsTrue, MatchOption, length, slice_index};
+ghost use Rattle.std.specs.Prelude.{◌≡◌, ◌≢◌, ℕ, ◌<◌, ◌+◌, ◌^◌, List, [], Some, IsTrue, MatchOption, length, map, slice_index, slice_index_or};
 ghost use Rattle.std.specs.List.{sum_by};
 ghost use Rattle.fab_arch.specs.declared.array.Site.{Site as ArraySite};
 ghost use Rattle.fab_arch.specs.Grid.{GridShape};
 ghost use Rattle.fab_net.specs.declared.pieces.BlockId.{BlockId as Block};
-ghost use Rattle.fab_net.specs.Netlist.{nets_of};
+ghost use Rattle.fab_net.specs.BlockNets.{net_id};
+ghost use Rattle.fab_net.specs.Netlist.{nets_of, has_number};
 ghost use Rattle.fab_site.specs.Placement.{swapped, IsSwapOf};
 ghost use Rattle.fab_cost.specs.Boxes.{Counts, box_of};
 ghost use Rattle.fab_cost.specs.Changes.{IsChange, IsPlainAfter, IsPlainSwapped, Surrounds, reach_between};
 ghost use Rattle.fab_cost.specs.Cost.{cost_of, net_box, net_cost};
 ghost use Rattle.fab_cost.specs.Edges.{times, counted_box as box_counted};
-ghost use Rattle.fab_cost.specs.Swapping.{HaveBoxes, IsPart, blocks_of, cost_unless, times_other};
+ghost use Rattle.fab_cost.specs.Swapping.{HaveBoxes, IsPart, blocks_of, cost_unless, has_block, times_other};
 
-use crate::block_nets::{
-    Shares, count_of_nets, is_left_out, is_on, net_of, own_pins, partner_pins, shares_with,
-};
-use crate::edge_boxes::{NO_TALLY, Tally, cost_of_counted, kept_box, plus};
+use crate::block_nets::{Shares, is_left_out, net_of, own_pins, partner_pins, shares_with};
+use crate::edge_boxes::{NO_TALLY, Tally, kept_box, plus};
 use crate::edge_counts::{CountedBox, ends_after};
 use crate::net_box::{NetBox, clipped};
-use crate::net_boxes::cost_of_net;
 use crate::whole_boxes::box_after;
 use fab_arch::{Grid, Site};
-use fab_net::{BlockId, Design, NetId};
+use fab_net::{BlockId, Design, NetId, Terminal};
 use fab_site::{Placement, Swap};
 
 /// Up to so many terminals are looked at, one by one, rather than the edges of a box.
@@ -137,42 +135,70 @@ fn new_box(
     }
 }
 
-/// What the net costs with the box after the swap, and with that before it.
-fn tally_of_boxes(design: &Design, net: NetId, old: CountedBox, new: NetBox) -> Tally
-    requires { Counts design.now net.0 }
+#[tactic(auto, using(crate::proofs::Making::net_cost_from, crate::proofs::Nets::counted_cost_from, crate::proofs::Making::terminals_some, crate::proofs::Bounds::terminals_few))]
+/// What a net of these terminals costs with the box after the swap, and with that before it.
+fn tally_of_boxes(
+    design: &Design,
+    net: NetId,
+    terminals: &[Terminal],
+    old: CountedBox,
+    new: NetBox,
+) -> Tally
+    requires net { Counts design.now net.0 }
+    requires terminals { terminals.now ≡ slice_index_or design.now.terminals net.0 [] }
     ensures gained { (g : GridShape) (sites : List ArraySite) → box_of new ≡ net_box design.now g sites net.0 → result.gained ≡ net_cost design.now g sites net.0 }
     ensures lost { (g : GridShape) (sites : List ArraySite) → old ≡ box_counted design.now g sites net.0 → result.lost ≡ net_cost design.now g sites net.0 }
 {
+    let _nets = design.nets();
+    let count = terminals.len() as u32;
     Tally {
-        gained: cost_of_net(design, net, new),
-        lost: cost_of_counted(design, net, old),
+        gained: new.cost(count),
+        lost: old.cost(count),
     }
 }
 
-#[tactic(auto, using(crate::proofs::Changes::left_out, crate::proofs::Changes::changed))]
+#[tactic(auto, using(crate::proofs::Seen::left_out_none, crate::proofs::Seen::left_out_some))]
+#[inline(always)]
+/// Whether a net is left out for being of the block `but` too, where `on` says whether it is of the swap's first block.
+fn is_left_out_on(swap: &Swap, but: Option<BlockId>, on: bool) -> bool
+    requires first { (b : Block) → but ≡ Some b → b ≡ swap.now.block }
+    ensures { (bs : List ℕ) → on ≡ has_number swap.now.block.0 bs → result ≡ has_block but bs }
+{
+    match but {
+        None => false,
+        Some(_) => on,
+    }
+}
+
+#[tactic(auto, using(crate::proofs::Changes::left_out, crate::proofs::Changes::changed, crate::proofs::Making::net_box_from, crate::proofs::Making::net_cost_from, crate::proofs::Making::terminals_some, crate::proofs::Making::terminals_within, crate::proofs::Bounds::terminals_few, crate::proofs::Seen::seen_on))]
 /// What the swap makes of the cost of a net of few terminals, which are all looked at; nothing where it is also one of
 /// the block `but`.
 fn change_of_few(
-    old: CountedBox,
     design: &Design,
     grid: &Grid,
     placement: &Placement,
     swap: &Swap,
     but: Option<BlockId>,
     net: NetId,
+    terminals: &[Terminal],
 ) -> Tally
-    requires old { old ≡ box_counted design.now grid.now placement.now.sites net.0 }
     requires net { Counts design.now net.0 }
-    requires left_out { (b : Block) → but ≡ Some b → b.0 < length design.now.kinds }
+    requires terminals { terminals.now ≡ slice_index_or design.now.terminals net.0 [] }
+    requires first { (b : Block) → but ≡ Some b → b ≡ swap.now.block }
     requires lawful { IsSwapOf placement.now.grid placement.now.sites swap.now }
     requires whole { length design.now.kinds ≡ length placement.now.sites }
     ensures { IsChange (cost_unless design.now grid.now placement.now.sites but net.0) (cost_unless design.now grid.now (swapped placement.now.sites swap.now) but net.0) result.gained result.lost }
 {
-    if is_on(design, but, net) {
+    let _nets = design.nets();
+    let (before, after, on) = NetBox::around_both(placement, swap, grid, terminals);
+    if is_left_out_on(swap, but, on) {
         return NO_TALLY;
     }
-    let new = box_after(design, grid, placement, swap, net);
-    tally_of_boxes(design, net, old, new)
+    let count = terminals.len() as u32;
+    Tally {
+        gained: after.cost(count),
+        lost: before.cost(count),
+    }
 }
 
 #[tactic(auto, using(crate::proofs::Changes::left_out, crate::proofs::Changes::still, crate::proofs::Changes::changed))]
@@ -207,10 +233,22 @@ fn change_of_many(
         return NO_TALLY;
     }
     let new = new_box(old, design, grid, placement, swap, net, shares);
-    tally_of_boxes(design, net, old, new)
+    tally_of_boxes(design, net, design.terminals(net), old, new)
 }
 
-#[tactic(auto, using(crate::proofs::Changes::passed, crate::proofs::Changes::alone, crate::proofs::Changes::old_is))]
+#[tactic(auto, using(crate::proofs::Nets::net_number, crate::proofs::Nets::net_counts, crate::proofs::Nets::net_within))]
+#[inline(always)]
+/// One of a block's nets, where `nets` are all of them.
+fn net_among(design: &Design, block: BlockId, nets: &[NetId], i: usize) -> NetId
+    requires nets { nets.now ≡ map net_id (nets_of design.now block.0) }
+    requires within { i < length (nets_of design.now block.0) }
+    ensures number { result.0 ≡ slice_index (nets_of design.now block.0) i }
+    ensures counts { Counts design.now result.0 }
+{
+    nets[i]
+}
+
+#[tactic(auto, using(crate::proofs::Changes::passed, crate::proofs::Changes::alone, crate::proofs::Changes::old_is, crate::proofs::Seen::first_of_part))]
 #[inline(always)]
 /// What the swap makes of the cost of net `i` of a block; nothing where it is also one of the block `but`.
 fn change_of_net(
@@ -222,8 +260,10 @@ fn change_of_net(
     reach: Reach,
     block: BlockId,
     but: Option<BlockId>,
+    nets: &[NetId],
     i: usize,
 ) -> Tally
+    requires nets { nets.now ≡ map net_id (nets_of design.now block.0) }
     requires have { HaveBoxes boxes.now.items design.now grid.now placement.now.sites }
     requires reach { reach ≡ reach_between grid.now swap.now }
     requires part { IsPart swap.now block but }
@@ -235,21 +275,23 @@ fn change_of_net(
     ensures { IsChange (cost_unless design.now grid.now placement.now.sites but (slice_index (nets_of design.now block.0) i)) (cost_unless design.now grid.now (swapped placement.now.sites swap.now) but (slice_index (nets_of design.now block.0) i)) result.gained result.lost }
 {
     let _nets = design.nets();
-    let net = net_of(design, block, i);
-    let old = kept_box(boxes, net);
-    let terminals = design.terminals(net).len();
-    if surrounds(old, reach) {
+    let net = net_among(design, block, nets, i);
+    let terminals = design.terminals(net);
+    if terminals.len() <= 1 {
         NO_TALLY
-    } else if terminals <= 1 {
-        NO_TALLY
-    } else if terminals <= FEW {
-        change_of_few(old, design, grid, placement, swap, but, net)
+    } else if terminals.len() <= FEW {
+        change_of_few(design, grid, placement, swap, but, net, terminals)
     } else {
-        change_of_many(old, design, grid, placement, swap, block, but, i)
+        let old = kept_box(boxes, net);
+        if surrounds(old, reach) {
+            NO_TALLY
+        } else {
+            change_of_many(old, design, grid, placement, swap, block, but, i)
+        }
     }
 }
 
-#[tactic(auto, using(crate::proofs::Changes::none, crate::proofs::Changes::more, crate::proofs::Changes::all, crate::proofs::Changes::gained_fits, crate::proofs::Changes::lost_fits))]
+#[tactic(auto, using(crate::proofs::Changes::none, crate::proofs::Changes::more, crate::proofs::Changes::all, crate::proofs::Seen::inside, crate::proofs::Seen::past, crate::proofs::Changes::gained_fits, crate::proofs::Changes::lost_fits))]
 /// What the swap makes of the cost of the nets of a block, those of the block `but` left out.
 fn change_of_nets(
     boxes: &Vec<CountedBox>,
@@ -273,11 +315,13 @@ fn change_of_nets(
     let _nx = grid.nx();
     let _ny = grid.ny();
     let _nets = design.nets();
-    let nets = count_of_nets(design, block);
+    let nets = design.nets_of(block);
     let mut gained: u64 = 0;
     let mut lost: u64 = 0;
-    'nets: for i in 0..nets {
-        let one = change_of_net(boxes, design, grid, placement, swap, reach, block, but, i);
+    'nets: for i in 0..nets.len() {
+        let one = change_of_net(
+            boxes, design, grid, placement, swap, reach, block, but, nets, i,
+        );
         gained += one.gained;
         lost += one.lost;
     }

@@ -483,3 +483,88 @@ fn both_kinds_agree_with_whole_sums(rt: HostRuntime) -> Result<(), Fail> {
     assert_eq!(rt; agree_over(rt.alloc(), 10000)?, Some(true));
     Ok(())
 }
+
+// Whether both have the same edge counts of each net.
+fn have_same_counts(design: &Design, one: &EdgeBoxes, other: &EdgeBoxes) -> bool
+    requires one { length one.now.boxes ≡ length design.now.terminals }
+    requires other { length other.now.boxes ≡ length design.now.terminals }
+{
+    let nets = design.nets();
+    for number in 0..nets {
+        let net = NetId(number as u32);
+        if one.edge_counts(net) != other.edge_counts(net) {
+            return false;
+        }
+    }
+    true
+}
+
+#[tactic(auto, using(crate::proofs::Sited::block_below))]
+// The cost of a copy before and after it takes over a swap, and whether it then is as the value that made the swap.
+fn caught_up(
+    design: &Design,
+    grid: &Grid,
+    placement: &Placement,
+    mut edges: EdgeBoxes,
+    swap: &Swap,
+) -> Result<(u64, u64, bool), AllocError>
+    requires stands { CountedStandsFor edges design.now grid.now placement.now.sites }
+    requires lawful { IsSwapOf placement.now.grid placement.now.sites swap.now }
+{
+    let mut copy = edges.copy()?;
+    let before = WireCost::cost(&copy);
+    let (_, cost) = made(&mut edges, design, grid, placement, swap);
+    copy.take_over(design, swap, &edges);
+    let after = WireCost::cost(&copy);
+    Ok((
+        before,
+        after,
+        after == cost && have_same_counts(design, &copy, &edges),
+    ))
+}
+
+fn caught_up_on(
+    alloc: Global,
+    design: &Design,
+    grid: &Grid,
+    sites: &[Site],
+    block: BlockId,
+    to: Site,
+) -> Result<Option<(u64, u64, bool)>, AllocError>
+    requires { IsLegal design.now grid.now [] sites.now }
+{
+    let placement = Placement::of_sites(alloc, design, grid, sites)?;
+    let edges = EdgeBoxes::new(alloc, design, grid, &placement)?;
+    match swap_to(&placement, grid, block, to) {
+        None => Ok(None),
+        Some(swap) => Ok(Some(caught_up(design, grid, &placement, edges, &swap)?)),
+    }
+}
+
+// A ring of four blocks whose first goes to this site: what `caught_up` says of it.
+fn ring_caught_up(alloc: Global, to: Site) -> Result<Option<(u64, u64, bool)>, Fail> {
+    let arch = read_arch(
+        alloc,
+        b"io_rat 1\ninpin class: 0 left\noutpin class: 1 right\n",
+    )?;
+    let design = read_net(
+        alloc,
+        b".clb a\npinlist: m n\n.clb b\npinlist: n p\n.clb c\npinlist: p q\n.clb d\npinlist: q m\n",
+        &arch,
+    )?;
+    let grid = Grid::new(3, 3, arch.io_rat)?;
+    let sites = [site(1, 1, 0), site(3, 2, 0), site(2, 3, 0), site(3, 3, 0)];
+    if !is_legal(&design, &grid, &sites) {
+        return Ok(None);
+    }
+    Ok(caught_up_on(alloc, &design, &grid, &sites, BlockId(0), to)?)
+}
+
+#[test]
+fn a_copy_takes_over_a_swap(rt: HostRuntime) -> Result<(), Fail> {
+    let displacing = ring_caught_up(rt.alloc(), site(3, 2, 0))?;
+    assert_eq!(rt; displacing, Some((180000, 160000, true)));
+    let alone = ring_caught_up(rt.alloc(), site(2, 2, 0))?;
+    assert_eq!(rt; alone, Some((180000, 140000, true)));
+    Ok(())
+}

@@ -12,6 +12,7 @@ use Rattle.fab_site.specs.declared.pieces.Swap.{Swap}
 use Rattle.fab_site.specs.Placement.{same_site, site}
 use Rattle.fab_cost.specs.Swapping.{change, swapped_by}
 use Rattle.fab_move.specs.declared.marks.Mark.{Mark}
+use Rattle.fab_move.specs.declared.verdicts.Decision.{Decision}
 use Rattle.fab_move.specs.declared.verdicts.Verdict.{Verdict}
 use Rattle.fab_move.specs.declared.marks.Mark.TheVariants.{Block, Place, Net}
 use Rattle.fab_move.specs.declared.proposals.Proposal.{Proposal}
@@ -72,6 +73,12 @@ pub record Judged : Type 0 where
 -- what a verdict says of its move, beside the move's number
 abbrev pub says : Verdict → Judged
 says v = record { swap = v.swap; change = v.delta; accepted = v.accepted; footprint = v.footprint.items }
+
+-- what is decided of a move, without what it rests on
+pub record IsDecision (d : Decision) (j : Judged) : Type 0 where
+  pub swap : d.swap ≡ j.swap
+  pub change : d.delta ≡ j.change
+  pub accepted : d.accepted ≡ j.accepted
 
 -- a proposal on these sites at a temperature, by a word
 abbrev pub judged_as : Problem → List Site → ℕ → ℕ → Proposal → Judged

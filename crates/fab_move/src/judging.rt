@@ -1,15 +1,16 @@
 //! Judging a move on a view.
 
-ghost use Rattle.std.specs.Prelude.{◌≡◌, ℕ, ◌<◌, ◌++◌, length, map, false, pos, None, Some, IfOk, OnOk};
+ghost use Rattle.std.specs.Prelude.{◌≡◌, ℕ, ◌<◌, ◌++◌, length, map, false, pos, None, Some, slice_index, IfOk, OnOk};
 ghost use Rattle.fab_site.specs.Placement.{IsLegal, IsSwapOf};
 ghost use Rattle.fab_move.specs.declared.marks.Mark.TheVariants.{Net as net_mark};
 ghost use Rattle.fab_move.specs.declared.proposals.Proposal.TheVariants.{Move as proposes};
-ghost use Rattle.fab_move.specs.Judge.{block_marks, footprint as footprint_is, judged, problem, says};
+ghost use Rattle.fab_move.specs.Judge.{IsDecision, block_marks, footprint as footprint_is, judged, judged_as, problem, says};
+ghost use Rattle.fab_move.specs.Propose.{proposal};
 
 use crate::acceptance::accepts;
 use crate::marks::{Footprint, Mark};
 use crate::proposals::{Proposal, propose};
-use crate::verdicts::{Verdict, View};
+use crate::verdicts::{Decision, Verdict, View};
 use fab_cost::WireCost;
 use fab_net::{BlockId, Design, NetId};
 use fab_site::{Swap, Words};
@@ -30,6 +31,40 @@ pub fn judge<C: WireCost, W: Words>(
     ensures lawful { IfOk result (λ v. (s : Swap) → v.swap ≡ Some s → IsSwapOf view.now.placement.now.grid view.now.placement.now.sites s) }
     ensures judged { IfOk result (λ v. says v ≡ judged (problem view.now.design.now view.now.grid.now view.now.fixed.now (W.moves view.now.words.now)) view.now.placement.now.sites k view.now.t view.now.range) }
 {
+    let (proposal, word) = proposed(view, k);
+    let footprint = footprint_of(alloc, view.design, proposal)?;
+    let decision = weighed(view, proposal, word);
+    Ok(Verdict {
+        k,
+        swap: decision.swap,
+        delta: decision.delta,
+        accepted: decision.accepted,
+        footprint,
+    })
+}
+
+/// Decides a move on a view: what [`judge`] says of it, without what that rests on. Takes no memory. The placement is
+/// legal and the wire cost stands for it by condition.
+pub fn decide<C: WireCost, W: Words>(view: &View<'_, C, W>, k: u64) -> Decision
+    requires legal { IsLegal view.now.design.now view.now.grid.now view.now.fixed.now view.now.placement.now.sites }
+    requires array { view.now.placement.now.grid ≡ view.now.grid.now }
+    requires stands { C.StandsFor view.now.cost.now view.now.design.now view.now.grid.now view.now.placement.now.sites }
+    ensures lawful { (s : Swap) → result.swap ≡ Some s → IsSwapOf view.now.placement.now.grid view.now.placement.now.sites s }
+    ensures decided { IsDecision result (judged (problem view.now.design.now view.now.grid.now view.now.fixed.now (W.moves view.now.words.now)) view.now.placement.now.sites k view.now.t view.now.range) }
+{
+    let (proposal, word) = proposed(view, k);
+    weighed(view, proposal, word)
+}
+
+/// What a move proposes, and the word that it is accepted by.
+#[inline(always)]
+fn proposed<C: WireCost, W: Words>(view: &View<'_, C, W>, k: u64) -> (Proposal, u32)
+    requires legal { IsLegal view.now.design.now view.now.grid.now view.now.fixed.now view.now.placement.now.sites }
+    requires array { view.now.placement.now.grid ≡ view.now.grid.now }
+    ensures value { result.0 ≡ proposal view.now.design.now view.now.grid.now view.now.fixed.now view.now.placement.now.sites view.now.range (W.moves view.now.words.now k) }
+    ensures lawful { (s : Swap) → result.0 ≡ proposes s → IsSwapOf view.now.placement.now.grid view.now.placement.now.sites s }
+    ensures word { result.1 ≡ slice_index (W.moves view.now.words.now k) 3 }
+{
     let words = view.words.move_words(k);
     let proposal = propose(
         view.design,
@@ -39,36 +74,41 @@ pub fn judge<C: WireCost, W: Words>(
         view.range,
         words,
     );
-    let footprint = footprint_of(alloc, view.design, proposal)?;
+    (proposal, words[3])
+}
+
+/// What a proposal makes of the cost, and whether it is accepted by a word.
+#[inline(always)]
+fn weighed<C: WireCost, W: Words>(view: &View<'_, C, W>, proposal: Proposal, word: u32) -> Decision
+    requires stands { C.StandsFor view.now.cost.now view.now.design.now view.now.grid.now view.now.placement.now.sites }
+    requires lawful { (s : Swap) → proposal ≡ proposes s → IsSwapOf view.now.placement.now.grid view.now.placement.now.sites s }
+    ensures lawful { (s : Swap) → result.swap ≡ Some s → IsSwapOf view.now.placement.now.grid view.now.placement.now.sites s }
+    ensures decided { IsDecision result (judged_as (problem view.now.design.now view.now.grid.now view.now.fixed.now (W.moves view.now.words.now)) view.now.placement.now.sites view.now.t word proposal) }
+{
     match proposal {
         Proposal::Move(swap) => {
             let delta = view
                 .cost
                 .delta(view.design, view.grid, view.placement, &swap);
-            Ok(Verdict {
-                k,
+            Decision {
                 swap: Some(swap),
                 delta,
-                accepted: accepts(delta, view.t, words[3]),
-                footprint,
-            })
+                accepted: accepts(delta, view.t, word),
+            }
         }
-        Proposal::Nothing => Ok(without_swap(k, footprint)),
-        Proposal::Void(_, _) => Ok(without_swap(k, footprint)),
+        Proposal::Nothing => without_swap(),
+        Proposal::Void(_, _) => without_swap(),
     }
 }
 
 /// What comes of a move that proposes no swap.
-fn without_swap(k: u64, footprint: Footprint) -> Verdict
-    ensures number { result.k ≡ k }
-    ensures says { says result ≡ record { swap = None; change = pos 0; accepted = false; footprint = footprint.items } }
+fn without_swap() -> Decision
+    ensures { result ≡ record { swap = None; delta = pos 0; accepted = false } }
 {
-    Verdict {
-        k,
+    Decision {
         swap: None,
         delta: 0,
         accepted: false,
-        footprint,
     }
 }
 

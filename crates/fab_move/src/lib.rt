@@ -13,8 +13,8 @@ pub mod verdicts;
 mod windows;
 
 pub use acceptance::accepts;
-pub use judging::judge;
+pub use judging::{decide, judge};
 pub use marks::{Footprint, Mark};
 pub use proposals::{Proposal, propose};
 pub use stream_words::StreamWords;
-pub use verdicts::{Verdict, View};
+pub use verdicts::{Decision, Verdict, View};

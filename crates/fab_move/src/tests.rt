@@ -1,7 +1,9 @@
 ghost use Rattle.std.specs.Prelude.{◌≡◌, [], IfOk};
 ghost use Rattle.fab_site.specs.Placement.{IsLegal};
 
-use crate::{Mark, Proposal, StreamWords, Verdict, View, accepts, judge, propose};
+use crate::{
+    Decision, Mark, Proposal, StreamWords, Verdict, View, accepts, decide, judge, propose,
+};
 use fab_arch::{Grid, Site, read_arch};
 use fab_cost::EdgeBoxes;
 use fab_net::{BlockId, Design, read_net};
@@ -91,7 +93,7 @@ fn proposed(placed: &Placed, range: u64, words: [u32; 4]) -> Option<Proposal> {
     Some(propose(design, grid, fixed, placement, range, words))
 }
 
-// What comes of a move.
+// What comes of a move: no answer where a decision says anything else than the judgement.
 fn judged<W: Words>(
     alloc: Global,
     placed: &Placed,
@@ -120,7 +122,16 @@ fn judged<W: Words>(
         t,
         range,
     };
-    Ok(judge(alloc, &view, k)?)
+    let verdict = judge(alloc, &view, k)?;
+    let without_marks = Decision {
+        swap: verdict.swap,
+        delta: verdict.delta,
+        accepted: verdict.accepted,
+    };
+    if decide(&view, k) != without_marks {
+        return Err(Fail::from("decided and judged are two"));
+    }
+    Ok(verdict)
 }
 
 // The words of one move, with these start words.

@@ -33,3 +33,14 @@ pub struct Verdict {
     /// What all this rests on.
     pub footprint: Footprint,
 }
+
+/// What is decided of a move, without what it rests on.
+#[derive(Clone, Copy, Debug, PartialEq, Eq)]
+pub struct Decision {
+    /// The swap, if one was proposed that is not void.
+    pub swap: Option<Swap>,
+    /// The change of cost that it makes, in ten-thousandths: 0 without a swap.
+    pub delta: i64,
+    /// Whether it is accepted; without a swap it is not.
+    pub accepted: bool,
+}

@@ -8,3 +8,4 @@ pub mod RunReport
 pub mod Piece
 pub mod Placed
 pub mod PieceExamples
+pub mod Stages

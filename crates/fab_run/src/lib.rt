@@ -2,6 +2,7 @@
 #![tactic(auto)]
 
 pub mod check;
+mod crews;
 mod designs;
 pub mod fault;
 pub mod inputs;

@@ -17,20 +17,22 @@ ghost use Rattle.fab_run.specs.declared.fault.RunFault.TheVariants.{Place, Repor
 ghost use Rattle.fab_file.specs.declared.fault.PlaceFault.TheVariants.{Write};
 ghost use Rattle.fab_file.specs.Written.{IsCut};
 
+use crate::crews::{Ahead, Course, anneal_beside};
 use crate::fault::RunFault;
 use crate::inputs::{Ending, Inputs, Options, Outcome};
 use crate::report::{final_line, head_lines};
 use crate::setting::read_setting;
-use crate::stages::anneal_all;
 use fab_arch::Grid;
-use fab_commit::Anneal;
+use fab_board::{Naming, NoGate, Opened, found};
+use fab_commit::{Anneal, Workers};
 use fab_file::write_place;
-use fab_move::StreamWords;
+use fab_move::{StreamWords, Verdict};
 use fab_net::Design;
 use fab_sched::Schedule;
 use fab_site::{Pins, start};
 use fab_text::{Sink, write_whole};
 use std::alloc::{AllocError, Global};
+use std::marker::Brand;
 use std::sync::Wait;
 use std::thread::Threads;
 
@@ -124,16 +126,18 @@ fn tell_end<W: Sink>(
 }
 
 /// Anneals from the start placement to the last move, and tells of it.
-fn anneal_told<W: Sink, R: Threads + Wait + Sync>(
+fn anneal_told<'a, J: Naming + Send + Sync, W: Sink, R: Threads + Wait + Sync>(
     rt: &R,
     alloc: Global,
-    design: &Design,
-    grid: &Grid,
+    opened: Opened<Ahead<'a>>,
+    design: &'a Design,
+    grid: &'a Grid,
     pins: Pins,
     schedule: Schedule,
     options: &Options,
     report: &mut W,
 ) -> Result<Outcome, RunFault>
+    requires book { opened.seen.book ≡ J.book }
     requires room { Holds grid.now (logic_count design.now) (pad_count design.now) }
     requires pins { ArePins design.now grid.now pins.fixed pins.begun }
     requires limits { (1 ≤ options.now.batch) × (options.now.batch ≤ 4096) × (1 ≤ options.now.workers) × (options.now.workers ≤ 64) }
@@ -145,20 +149,30 @@ fn anneal_told<W: Sink, R: Threads + Wait + Sync>(
     ensures fault { IfErr result (IsReportFault (W.failed report.old) (W.failed report.new)) }
 {
     let moves = schedule.moves();
-    let mut anneal = annealer(alloc, design, grid, pins, schedule, options.seed)?;
-    let mut costs = tell_start(alloc, design, grid, anneal.cost(), report)?;
-    let batch = options.batch;
-    let workers = options.workers;
-    anneal_all(
+    let (crew, lead) = found::<Ahead<'a>, Verdict, J>(alloc, opened, options.workers)?;
+    let workers = Workers::standing(lead, options.workers, &NoGate);
+    let anneal = annealer(alloc, design, grid, pins, schedule, options.seed)?;
+    let costs = tell_start(alloc, design, grid, anneal.cost(), report)?;
+    let mut course = Course {
+        anneal,
+        workers,
+        costs,
+    };
+    anneal_beside(
         rt,
         alloc,
-        &mut anneal,
+        &crew,
+        options.workers,
+        &mut course,
         moves,
-        batch,
-        workers,
+        options.batch,
         report,
-        &mut costs,
     )?;
+    let Course {
+        anneal,
+        workers: _,
+        costs,
+    } = course;
     tell_end(alloc, &anneal, costs, report)
 }
 
@@ -198,7 +212,17 @@ pub fn place_run<R: AllocGlobal + Threads + Wait + Sync, W: Sink, P: Sink>(
 {
     let alloc = rt.alloc();
     let (design, grid, pins, schedule) = read_setting(alloc, inputs, options)?;
-    let outcome = anneal_told(rt, alloc, &design, &grid, pins, schedule, options, report)?;
+    let outcome = anneal_told::<Brand, W, R>(
+        rt,
+        alloc,
+        Opened::new(),
+        &design,
+        &grid,
+        pins,
+        schedule,
+        options,
+        report,
+    )?;
     write_place(
         alloc,
         place,

@@ -13,8 +13,8 @@ ghost use Rattle.fab_run.specs.declared.fault.RunFault.TheVariants.{Report, NoMe
 
 use crate::fault::RunFault;
 use crate::report::stage_line;
-use fab_board::NoGate;
-use fab_commit::Anneal;
+use fab_board::{Naming, NoGate};
+use fab_commit::{Anneal, Workers};
 use fab_sched::Stage;
 use fab_site::Words;
 use fab_text::{Sink, write_whole};
@@ -23,16 +23,16 @@ use std::sync::Wait;
 use std::thread::Threads;
 
 /// Makes the moves that are left in the running stage, by turns of a batch.
-fn make_stage<V: Words + Sync + Drop, R: Threads + Wait + Sync>(
+fn make_stage<'a, V: Words + Sync + Drop, J: Naming, R: Threads + Wait + Sync>(
     rt: &R,
     alloc: Global,
-    anneal: &mut Anneal<'_, V>,
+    anneal: &mut Anneal<'a, V>,
     left: u64,
     batch: u64,
-    workers: u64,
+    workers: &mut Workers<'a, '_, V, NoGate, J>,
 ) -> Result<(), AllocError>
     requires left { left ≡ moves_left (run_of V.moves anneal.old) anneal.old.standing }
-    requires limits { (1 ≤ batch) × (batch ≤ 4096) × (1 ≤ workers) × (workers ≤ 64) }
+    requires limits { (1 ≤ batch) × (batch ≤ 4096) }
     ensures same { IsSameRun anneal.old anneal.new }
     ensures ok { OnOk result (anneal.new.standing.done ≡ anneal.old.standing.done + left) }
     ensures stands { OnOk result (anneal.new.standing ≡ from (run_of V.moves anneal.old) anneal.old.standing left) }
@@ -42,7 +42,7 @@ fn make_stage<V: Words + Sync + Drop, R: Threads + Wait + Sync>(
     let mut made = 0;
     while made < left {
         let before = anneal.done();
-        anneal.turn(rt, alloc, batch, workers, &NoGate)?;
+        anneal.turn_by(rt, alloc, batch, workers)?;
         made += anneal.done() - before;
     }
     Ok(())
@@ -50,20 +50,20 @@ fn make_stage<V: Words + Sync + Drop, R: Threads + Wait + Sync>(
 
 /// Makes the moves that are left in the running stage. The answer is the line that tells of the stage; its cost stands
 /// last among the costs.
-fn end_stage<V: Words + Sync + Drop, R: Threads + Wait + Sync>(
+fn end_stage<'a, V: Words + Sync + Drop, J: Naming, R: Threads + Wait + Sync>(
     rt: &R,
     alloc: Global,
-    anneal: &mut Anneal<'_, V>,
+    anneal: &mut Anneal<'a, V>,
     stage: Stage,
     moves: u64,
     batch: u64,
-    workers: u64,
+    workers: &mut Workers<'a, '_, V, NoGate, J>,
     costs: &mut Vec<u64>,
 ) -> Result<Vec<u8>, AllocError>
     requires stage { Some stage ≡ stage_of (run_of V.moves anneal.old) anneal.old.standing }
     requires moves { moves ≡ anneal.old.plan.moves }
     requires some { 1 ≤ moves }
-    requires limits { (1 ≤ batch) × (batch ≤ 4096) × (1 ≤ workers) × (workers ≤ 64) }
+    requires limits { (1 ≤ batch) × (batch ≤ 4096) }
     ensures same { IsSameRun anneal.old anneal.new }
     ensures turns { OnOk result (LeadsByTurns (run_of V.moves anneal.old) batch anneal.old anneal.new) }
     ensures stands { OnOk result (anneal.new.standing ≡ from (run_of V.moves anneal.old) anneal.old.standing (moves_left (run_of V.moves anneal.old) anneal.old.standing)) }
@@ -91,20 +91,20 @@ fn end_stage<V: Words + Sync + Drop, R: Threads + Wait + Sync>(
 }
 
 /// Makes all moves that are left, each stage told as it ends.
-pub(crate) fn anneal_all<V: Words + Sync + Drop, W: Sink, R: Threads + Wait + Sync>(
+pub(crate) fn anneal_all<'a, V: Words + Sync + Drop, W: Sink, J: Naming, R: Threads + Wait + Sync>(
     rt: &R,
     alloc: Global,
-    anneal: &mut Anneal<'_, V>,
+    anneal: &mut Anneal<'a, V>,
     moves: u64,
     batch: u64,
-    workers: u64,
+    workers: &mut Workers<'a, '_, V, NoGate, J>,
     report: &mut W,
     costs: &mut Vec<u64>,
 ) -> Result<(), RunFault>
     requires moves { moves ≡ anneal.old.plan.moves }
     requires some { 1 ≤ moves }
     requires cooling { IsCooling anneal.old.plan.cooling }
-    requires limits { (1 ≤ batch) × (batch ≤ 4096) × (1 ≤ workers) × (workers ≤ 64) }
+    requires limits { (1 ≤ batch) × (batch ≤ 4096) }
     ensures same { IsSameRun anneal.old anneal.new }
     ensures turns { OnOk result (LeadsByTurns (run_of V.moves anneal.old) batch anneal.old anneal.new) }
     ensures over { OnOk result (anneal.new.standing.heat ≡ None) }

@@ -1,15 +1,13 @@
-use Rattle.std.proofs.Common.{◌≡◌, ◌+◌, ◌-◌, sym, subst, ap, ◌∙◌, arith}
+use Rattle.std.proofs.Common.{◌≡◌, ◌+◌, ◌-◌, ap, ◌∙◌, arith}
 use Rattle.std.specs.List.{count_by, range_with_len}
-use Rattle.fab_commit.specs.Commits.{run}
+use Rattle.fab_commit.specs.Commits.{run_for}
 use Rattle.fab_commit.specs.History.{is_redone}
-use Rattle.fab_commit.specs.declared.owners.Owner.{Owner}
-use Rattle.fab_commit.specs.Owners.{HasRoom}
 use Rattle.fab_commit.proofs.Owning.{at_item, counted_on, made_more}
 use Rattle.fab_commit.proofs.owners.commit_each.Goals as goal
 
 pub commit_next-requires-clause-going : goal.commit_next-requires-clause-going
 commit_next-requires-clause-going g c =
-    let r = run c.args.given.now.design.now c.args.given.now.grid.now c.args.given.now.fixed.now (g.W.Words.moves c.args.given.now.words.now) c.args.given.now.schedule.now in
+    let r = run_for g.W.Words.moves c.args.given.now in
     let moves = c.requires.plan.moves in
     (at_item r c.args.owner.now c.loop-verdict.owner c.args.base c.args.verdicts.now c.loop-verdict.verdict-index c.verdict-item.result (omega (arith, moves)) c.requires.due c.loop-verdict.invariant.0 c.loop-verdict-test.true c.verdict-item.is).going
 
@@ -22,20 +20,20 @@ commit_next-requires-clause-room g c =
 
 pub commit_next-requires-clause-fresh : goal.commit_next-requires-clause-fresh
 commit_next-requires-clause-fresh g c =
-    let r = run c.args.given.now.design.now c.args.given.now.grid.now c.args.given.now.fixed.now (g.W.Words.moves c.args.given.now.words.now) c.args.given.now.schedule.now in
+    let r = run_for g.W.Words.moves c.args.given.now in
     let moves = c.requires.plan.moves in
     (at_item r c.args.owner.now c.loop-verdict.owner c.args.base c.args.verdicts.now c.loop-verdict.verdict-index c.verdict-item.result (omega (arith, moves)) c.requires.due c.loop-verdict.invariant.0 c.loop-verdict-test.true c.verdict-item.is).fresh
 
 pub loop-verdict-preserved : goal.loop-verdict-preserved
 loop-verdict-preserved g c =
-    let r = run c.args.given.now.design.now c.args.given.now.grid.now c.args.given.now.fixed.now (g.W.Words.moves c.args.given.now.words.now) c.args.given.now.schedule.now in
+    let r = run_for g.W.Words.moves c.args.given.now in
     let o = c.args.owner.now in
     let mid = c.loop-verdict.owner in
     let i = c.loop-verdict.verdict-index in
     let now = c.commit_next.new.owner in
     let moves = c.requires.plan.moves in
     let before = c.loop-verdict.invariant in
-    let ok = c.in_ok-commit_next.ensures in (
+    let ok = c.commit_next.ensures in (
       made_more r o mid now i 1 before.0 ok.made,
       (λ due.
           counted_on r due.start c.args.base o.state.done i o.redone mid.redone now.redone mid c.verdict-item.result
@@ -44,29 +42,11 @@ loop-verdict-preserved g c =
       (λ n h. ok.room n (before.2 (1 + n) (omega (arith, h), omega (arith, h)))),
     )
 
-pub returns-in_err-commit_next-clause-redone : goal.returns-in_err-commit_next-clause-redone
-returns-in_err-commit_next-clause-redone g c due =
-    let o = c.args.owner.now in
-    let mid = c.loop-verdict.owner in
-    let r = run c.args.given.now.design.now c.args.given.now.grid.now c.args.given.now.fixed.now (g.W.Words.moves c.args.given.now.words.now) c.args.given.now.schedule.now in
-    let done = c.loop-verdict.invariant.0.done in
-    let n : c.loop-verdict.verdict-index ≡ mid.state.done - o.state.done = omega (arith, done) in
-    subst (λ (now : Owner). now.redone ≡ o.redone + count_by (is_redone r due.start c.args.base) (range_with_len o.state.done (now.state.done - o.state.done)))
-    (sym c.in_err-commit_next.ensures.unchanged)
-    (c.loop-verdict.invariant.1 due ∙ ap (λ k. o.redone + count_by (is_redone r due.start c.args.base) (range_with_len o.state.done k)) n)
-
-pub returns-in_err-commit_next-clause-room : goal.returns-in_err-commit_next-clause-room
-returns-in_err-commit_next-clause-room g c n h =
-    let low = c.loop-verdict-test.true in
-    let h0 = h.0 in
-    let h1 = h.1 in
-    subst (λ (now : Owner). HasRoom now n) (sym c.in_err-commit_next.ensures.unchanged) (c.loop-verdict.invariant.2 n (omega (arith, h0, low), omega (arith, h1, low)))
-
 pub returns-clause-redone : goal.returns-clause-redone
 returns-clause-redone g c due =
     let o = c.args.owner.now in
     let mid = c.loop-verdict.owner in
-    let r = run c.args.given.now.design.now c.args.given.now.grid.now c.args.given.now.fixed.now (g.W.Words.moves c.args.given.now.words.now) c.args.given.now.schedule.now in
+    let r = run_for g.W.Words.moves c.args.given.now in
     let done = c.loop-verdict.invariant.0.done in
     let n : c.loop-verdict.verdict-index ≡ mid.state.done - o.state.done = omega (arith, done) in
     c.loop-verdict.invariant.1 due ∙ ap (λ k. o.redone + count_by (is_redone r due.start c.args.base) (range_with_len o.state.done k)) n

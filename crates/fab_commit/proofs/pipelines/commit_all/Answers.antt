@@ -1,43 +1,35 @@
 use Rattle.std.proofs.Common.{◌≡◌, ◌-◌, length, subst, arith}
-use Rattle.fab_commit.specs.Commits.{run}
+use Rattle.fab_commit.specs.Commits.{run_for}
 use Rattle.fab_commit.specs.Owners.{HasMade}
-use Rattle.fab_commit.proofs.Pipelining.{due_next, made_both, redone_first, redone_then}
+use Rattle.fab_commit.proofs.Pipelining.{due_next, made_both, redone_then}
 use Rattle.fab_commit.proofs.pipelines.commit_all.Goals as goal
-
-pub returns-in_err-commit_each-clause-redone : goal.returns-in_err-commit_each-clause-redone
-returns-in_err-commit_each-clause-redone g c = record {
-  redone = λ due.
-      let r = run c.args.given.now.design.now c.args.given.now.grid.now c.args.given.now.fixed.now (g.W.Words.moves c.args.given.now.words.now) c.args.given.now.schedule.now in
-      let within = c.commit_each.ensures.within in
-      redone_first r c.args.owner.now c.commit_each.new.owner c.args.base (length c.args.ahead.now) due.start due.base_is (omega (arith, within)) (c.commit_each.ensures.redone due);
-}
 
 pub commit_each-requires-2-clause-room : goal.commit_each-requires-2-clause-room
 commit_each-requires-2-clause-room g c _ _ = c.commit_each.ensures.room (length c.args.missing.now) c.requires.room
 
 pub commit_each-requires-2-clause-due : goal.commit_each-requires-2-clause-due
 commit_each-requires-2-clause-due g c _ _ =
-    let r = run c.args.given.now.design.now c.args.given.now.grid.now c.args.given.now.fixed.now (g.W.Words.moves c.args.given.now.words.now) c.args.given.now.schedule.now in
+    let r = run_for g.W.Words.moves c.args.given.now in
     let o = c.args.owner.now in
     let mid = c.commit_each.new.owner in
-    let ok = c.in_ok-commit_each.ensures.ok in
+    let ok = c.commit_each.ensures.done in
     let n : mid.state.done - o.state.done ≡ length c.args.ahead.now = omega (arith, ok) in
     (due_next r o mid c.args.base c.args.ahead.now c.args.missing.now c.requires.due (subst (λ k. HasMade r o k mid) n c.commit_each.ensures.made) c.requires.answers c.requires.left).due
 
 pub returns-clause-made : goal.returns-clause-made
 returns-clause-made g c =
-    let r = run c.args.given.now.design.now c.args.given.now.grid.now c.args.given.now.fixed.now (g.W.Words.moves c.args.given.now.words.now) c.args.given.now.schedule.now in
+    let r = run_for g.W.Words.moves c.args.given.now in
     made_both r c.args.owner.now c.commit_each.new.owner c.commit_each-2.new.owner c.commit_each.ensures.made c.commit_each-2.ensures.made
 
 pub returns-clause-redone : goal.returns-clause-redone
 returns-clause-redone g c = record {
   redone = λ due.
-      let r = run c.args.given.now.design.now c.args.given.now.grid.now c.args.given.now.fixed.now (g.W.Words.moves c.args.given.now.words.now) c.args.given.now.schedule.now in
+      let r = run_for g.W.Words.moves c.args.given.now in
       let o = c.args.owner.now in
       let mid = c.commit_each.new.owner in
-      let ok = c.in_ok-commit_each.ensures.ok in
-      let within = c.commit_each-2.ensures.within.0 in
+      let ok = c.commit_each.ensures.done in
+      let more = c.commit_each-2.ensures.done in
       let n : mid.state.done - o.state.done ≡ length c.args.ahead.now = omega (arith, ok) in
       let next = due_next r o mid c.args.base c.args.ahead.now c.args.missing.now c.requires.due (subst (λ k. HasMade r o k mid) n c.commit_each.ensures.made) c.requires.answers c.requires.left in
-      redone_then r o mid c.commit_each-2.new.owner c.args.base (length c.args.ahead.now) due.start next.due.start next.is due.base_is ok within (c.commit_each.ensures.redone due) (c.commit_each-2.ensures.redone next.due);
+      redone_then r o mid c.commit_each-2.new.owner c.args.base (length c.args.ahead.now) due.start next.due.start next.is due.base_is ok (omega (arith, more)) (c.commit_each.ensures.redone due) (c.commit_each-2.ensures.redone next.due);
 }

@@ -1,11 +1,11 @@
 use Rattle.std.proofs.Common.{[], length, refl, sym, ap, arith}
-use Rattle.fab_commit.specs.Commits.{run, standing_of}
+use Rattle.fab_commit.specs.Commits.{run_for, standing_of}
 use Rattle.fab_commit.proofs.Pipelining.{no_answers}
 use Rattle.fab_commit.proofs.pipelines.first_pipeline.Goals as goal
 
 pub returns-clause-behind : goal.returns-clause-behind
 returns-clause-behind g c =
-    let r = run c.args.given.now.design.now c.args.given.now.grid.now c.args.given.now.fixed.now (g.W.Words.moves c.args.given.now.words.now) c.args.given.now.schedule.now in
+    let r = run_for g.W.Words.moves c.args.given.now in
     record {
       plan = c.requires.plan;
       stage = omega arith;

@@ -1,7 +1,8 @@
 use Rattle.std.proofs.Common.{◌≡◌, ◌-◌, min, map, Result, Ok, Err, OnErr, sym, ap, ◌∙◌, arith}
 use Rattle.std.specs.List.{range_with_len}
+use Rattle.std.specs.Arc.{arc_value}
 use Rattle.fab_commit.specs.Serial.{moves_left}
-use Rattle.fab_commit.specs.Commits.{run, standing_of}
+use Rattle.fab_commit.specs.Commits.{run_for, standing_of}
 use Rattle.fab_commit.specs.TurnEvents.{next_turn, verdict_on}
 use Rattle.fab_commit.proofs.Annealing.{ahead_on, redone_on, world_cut, world_on}
 use Rattle.fab_commit.proofs.pipelines.turn.Goals as goal
@@ -12,7 +13,7 @@ on_err (Err e) P p = p
 
 pub returns-in_err-make_turn-clause-redone : goal.returns-in_err-make_turn-clause-redone
 returns-in_err-make_turn-clause-redone g c =
-    let r = run c.args.given.now.design.now c.args.given.now.grid.now c.args.given.now.fixed.now (g.W.Words.moves c.args.given.now.words.now) c.args.given.now.schedule.now in
+    let r = run_for g.W.Words.moves (arc_value c.args.given.now) in
     let s = c.args.state.now in
     let now = c.make_turn.new.state in
     let t = c.requires.turn.0 in
@@ -24,7 +25,7 @@ returns-in_err-make_turn-clause-redone g c =
 
 pub returns-in_err-make_turn-clause-cut : goal.returns-in_err-make_turn-clause-cut
 returns-in_err-make_turn-clause-cut g c =
-    let r = run c.args.given.now.design.now c.args.given.now.grid.now c.args.given.now.fixed.now (g.W.Words.moves c.args.given.now.words.now) c.args.given.now.schedule.now in
+    let r = run_for g.W.Words.moves (arc_value c.args.given.now) in
     let s = c.args.state.now in
     let now = c.make_turn.new.state in
     let t = c.requires.turn.0 in
@@ -34,7 +35,7 @@ returns-in_err-make_turn-clause-cut g c =
 
 pub returns-clause-redone : goal.returns-clause-redone
 returns-clause-redone g c =
-    let r = run c.args.given.now.design.now c.args.given.now.grid.now c.args.given.now.fixed.now (g.W.Words.moves c.args.given.now.words.now) c.args.given.now.schedule.now in
+    let r = run_for g.W.Words.moves (arc_value c.args.given.now) in
     let s = c.args.state.now in
     let t = c.requires.turn.0 in
     let b = c.requires.turn.1 in
@@ -43,14 +44,14 @@ returns-clause-redone g c =
 
 pub returns-clause-world : goal.returns-clause-world
 returns-clause-world g c =
-    let r = run c.args.given.now.design.now c.args.given.now.grid.now c.args.given.now.fixed.now (g.W.Words.moves c.args.given.now.words.now) c.args.given.now.schedule.now in
+    let r = run_for g.W.Words.moves (arc_value c.args.given.now) in
     let t = c.requires.turn.0 in
     let b = c.requires.turn.1 in
     world_on r t c.args.state.now c.make_turn.new.state c.args.batch b (c.in_ok-make_turn.ensures.ok t b)
 
 pub returns-clause-ahead : goal.returns-clause-ahead
 returns-clause-ahead g c =
-    let r = run c.args.given.now.design.now c.args.given.now.grid.now c.args.given.now.fixed.now (g.W.Words.moves c.args.given.now.words.now) c.args.given.now.schedule.now in
+    let r = run_for g.W.Words.moves (arc_value c.args.given.now) in
     let s = c.args.state.now in
     let t = c.requires.turn.0 in
     let b = c.requires.turn.1 in
@@ -61,7 +62,7 @@ returns-clause-ahead g c =
 
 pub returns-in_err-make_turn-clause-lost : goal.returns-in_err-make_turn-clause-lost
 returns-in_err-make_turn-clause-lost g c =
-    let r = run c.args.given.now.design.now c.args.given.now.grid.now c.args.given.now.fixed.now (g.W.Words.moves c.args.given.now.words.now) c.args.given.now.schedule.now in
+    let r = run_for g.W.Words.moves (arc_value c.args.given.now) in
     let s = c.args.state.now in
     let now = c.make_turn.new.state in
     let t = c.requires.turn.0 in

@@ -1,11 +1,11 @@
 use Rattle.std.proofs.Common.{arith}
-use Rattle.fab_commit.specs.Commits.{heat_of, run}
+use Rattle.fab_commit.specs.Commits.{heat_of, run_for}
 use Rattle.fab_commit.proofs.Happening.{end_fits}
 use Rattle.fab_commit.proofs.world_states.end_of.Goals as goal
 
 pub overflow_add-result : goal.overflow_add-result
 overflow_add-result g c =
-    let r = run c.args.given.now.design.now c.args.given.now.grid.now c.args.given.now.fixed.now (g.W.Words.moves c.args.given.now.words.now) c.args.given.now.schedule.now in
+    let r = run_for g.W.Words.moves c.args.given.now in
     let s = c.args.state.now in
     let fits = end_fits r s (heat_of s.ended s.stage.t) c.requires.plan c.requires.sound in
     let left = c.moves_left.ensures in

@@ -3,7 +3,7 @@ use Rattle.std.specs.List.{All}
 use Rattle.std.proofs.lemmas.List.Elements.{All-push}
 use Rattle.fab_arch.specs.Grid.{kind_at}
 use Rattle.fab_commit.specs.declared.verdicts.Verdict.{Verdict}
-use Rattle.fab_commit.specs.Commits.{run}
+use Rattle.fab_commit.specs.Commits.{run_for}
 use Rattle.fab_commit.specs.World.{claim_of}
 use Rattle.fab_commit.specs.Worlds.{KeepsKind, world_of}
 use Rattle.fab_commit.proofs.Folding.{not_ended}
@@ -13,7 +13,7 @@ use Rattle.fab_commit.proofs.world_states.judge.Goals as goal
 
 pub judge_on-requires-clause-going : goal.judge_on-requires-clause-going
 judge_on-requires-clause-going g c =
-    let r = run c.args.given.now.design.now c.args.given.now.grid.now c.args.given.now.fixed.now (g.W.Words.moves c.args.given.now.words.now) c.args.given.now.schedule.now in
+    let r = run_for g.W.Words.moves c.args.given.now in
     let s = c.args.state.now in
     let pos : 0 < r.plan.moves = (let m = c.requires.whole.plan.moves in omega (arith, m)) in
     let inv = reached_inv r (world_of s) s.ways.items pos c.requires.reached in
@@ -21,7 +21,7 @@ judge_on-requires-clause-going g c =
 
 pub returns-clause-whole : goal.returns-clause-whole
 returns-clause-whole g c =
-    let r = run c.args.given.now.design.now c.args.given.now.grid.now c.args.given.now.fixed.now (g.W.Words.moves c.args.given.now.words.now) c.args.given.now.schedule.now in
+    let r = run_for g.W.Words.moves c.args.given.now in
     let s = c.args.state.now in
     let v : Verdict = record { worker = c.args.worker; number = c.in-Some.number; base = s.older.done; judged = c.of.result } in
     let keeps : KeepsKind r.problem.grid v = (λ x e. subst (λ k. kind_at k x.to ≡ kind_at k x.from) c.requires.whole.older.array (c.in_ok-answer.ensures.lawful x (sym (ap (λ q. q.swap) c.of.ensures) ∙ e)).kind) in

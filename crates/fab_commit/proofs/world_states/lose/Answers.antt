@@ -2,14 +2,14 @@ use Rattle.std.proofs.Common.{not, ◌&&◌, ◌==◌, sym, subst}
 use Rattle.std.specs.List.{All}
 use Rattle.std.proofs.lemmas.List.Elements.{All-filter}
 use Rattle.fab_commit.specs.declared.verdicts.Verdict.{Verdict}
-use Rattle.fab_commit.specs.Commits.{run}
+use Rattle.fab_commit.specs.Commits.{run_for}
 use Rattle.fab_commit.specs.World.{is_last}
 use Rattle.fab_commit.specs.Worlds.{KeepsKind}
 use Rattle.fab_commit.proofs.world_states.lose.Goals as goal
 
 pub returns-else-is_some-clause-whole : goal.returns-else-is_some-clause-whole
 returns-else-is_some-clause-whole g c =
-    let r = run c.args.given.now.design.now c.args.given.now.grid.now c.args.given.now.fixed.now (g.W.Words.moves c.args.given.now.words.now) c.args.given.now.schedule.now in
+    let r = run_for g.W.Words.moves c.args.given.now in
     let vs = c.args.state.now.verdicts.items in
     let worker = c.args.worker in
     let kept = All-filter (λ (v : Verdict). not (v.worker == worker && is_last worker vs v.number)) (KeepsKind r.problem.grid) vs c.requires.whole.kinds in

@@ -1,13 +1,19 @@
 use Rattle.std.proofs.Common.{sym, subst}
 use Rattle.std.specs.List.{All}
-use Rattle.fab_move.specs.Judge.{says}
+use Rattle.fab_commit.specs.Commits.{run_for, standing_of}
+use Rattle.fab_commit.specs.Serial.{judged_here}
 use Rattle.fab_commit.specs.Worlds.{HasBlocks}
+use Rattle.fab_commit.proofs.Committing.{decided_lawful}
 use Rattle.fab_commit.proofs.Happening.{blocks_after}
 use Rattle.fab_commit.proofs.world_states.make.Goals as goal
 
 pub returns-clause-blocks : goal.returns-clause-blocks
 returns-clause-blocks g c =
+    let r = run_for g.W.Words.moves c.args.given.now in
     let d = c.args.given.now.design.now in
     let s = c.args.live.now in
-    let after = blocks_after d s.placement.grid s.placement.sites c.args.accepted.now.items s.done (says c.args.answer.now) c.requires.sound.legal.all c.requires.lawful c.requires.blocks in
-    subst (All (HasBlocks d)) (sym c.enter.ensures.items) after
+    let j = judged_here r (standing_of s) s.done in
+    let is = c.requires.decides in
+    let lawful = decided_lawful s.placement.grid s.placement.sites c.args.decision.now j is c.requires.lawful in
+    let after = blocks_after d s.placement.grid s.placement.sites c.args.accepted.now.items s.done j c.requires.sound.legal.all lawful c.requires.blocks in
+    subst (All (HasBlocks d)) (sym (c.enter.ensures.items j is)) after

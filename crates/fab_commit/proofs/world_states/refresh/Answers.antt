@@ -1,9 +1,9 @@
-use Rattle.fab_commit.specs.Commits.{run}
+use Rattle.fab_commit.specs.Commits.{run_for}
 use Rattle.fab_commit.proofs.world_states.refresh.Goals as goal
 
 pub returns-clause-whole : goal.returns-clause-whole
 returns-clause-whole g c =
-    let r = run c.args.given.now.design.now c.args.given.now.grid.now c.args.given.now.fixed.now (g.W.Words.moves c.args.given.now.words.now) c.args.given.now.schedule.now in
+    let r = run_for g.W.Words.moves c.args.given.now in
     record {
       plan = c.requires.whole.plan;
       live = c.requires.whole.live;

@@ -1,5 +1,5 @@
 use Rattle.std.proofs.Common.{◌<◌, subst, arith}
-use Rattle.fab_commit.specs.Commits.{run}
+use Rattle.fab_commit.specs.Commits.{run_for}
 use Rattle.fab_commit.specs.Worlds.{IsSerial, run_in, world_of}
 use Rattle.fab_commit.proofs.Happening.{reached_serial}
 use Rattle.fab_commit.proofs.worlds.World.done.Goals as goal
@@ -7,7 +7,7 @@ use Rattle.fab_commit.proofs.worlds.World.done.Goals as goal
 pub returns-clause-serial : goal.returns-clause-serial
 returns-clause-serial g c =
     let a = c.self.inside in
-    let r = run a.design.now a.grid.now a.fixed (g.W.Words.moves a.words) a.schedule in
+    let r = run_for g.W.Words.moves a.given in
     let pos : 0 < r.plan.moves = (let m = c.self.invariant.0.plan.moves in omega (arith, m)) in
     subst (λ w. IsSerial (run_in g.W.Words.moves w) w.world.live w.ways) c.self.view_is
     (reached_serial r (world_of a.state) a.state.ways.items pos c.self.invariant.1)

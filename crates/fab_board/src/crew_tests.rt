@@ -1,0 +1,249 @@
+ghost use Rattle.std.specs.Prelude.{◌≡◌, ◌+◌, ◌%◌, ◌^◌};
+
+use crate::{Lead, Naming, Opened, Task, found, work_all};
+use std::alloc::{AllocError, Global};
+use std::marker::Brand;
+use std::sync::Wait;
+use std::sync::atomic::{AtomicU64, Ordering};
+use std::test::*;
+use std::thread;
+use std::thread::Threads;
+use std::time::Duration;
+
+// Adds `plus` to each number, and counts the judgements. The first `refusals` of all have no memory.
+#[derive(Drop)]
+struct Sums<'a> {
+    plus: u64,
+    count: u64,
+    refusals: u64,
+    judged: &'a AtomicU64,
+}
+
+impl Task<u64> for Sums<'_> {
+    ghost count = { λ s. s.count };
+
+    ghost answer = { λ s k x. x ≡ (s.plus + k) % 2 ^ 64 };
+
+    fn count(&self) -> u64 {
+        self.count
+    }
+
+    fn judge(&self, _alloc: Global, number: u64) -> Result<u64, AllocError> {
+        if self.judged.fetch_add(1, Ordering::SeqCst) < self.refusals {
+            return Err(AllocError);
+        }
+        Ok(self.plus.wrapping_add(number))
+    }
+}
+
+// A crew's owner: what it collected, in turn.
+trait Owner: Sync {
+    fn turns<'a, J: Naming, R: Wait>(
+        &self,
+        rt: &R,
+        alloc: Global,
+        judged: &'a AtomicU64,
+        lead: Lead<Sums<'a>, u64, J>,
+    ) -> Result<Vec<Vec<u64>>, AllocError>;
+}
+
+fn owned_as<'a, J: Naming + Send + Sync, O: Owner, R: Threads + Wait + Sync>(
+    rt: &R,
+    alloc: Global,
+    opened: Opened<Sums<'a>>,
+    judged: &'a AtomicU64,
+    workers: u64,
+    owner: &O,
+) -> Result<Vec<Vec<u64>>, AllocError>
+    requires { opened.seen.book ≡ J.book }
+{
+    let (crew, lead) = found::<Sums<'a>, u64, J>(alloc, opened, workers)?;
+    thread::scope(thread::scope_env(), rt, move |scope| {
+        let _ = scope.spawn(move || work_all(rt, alloc, &crew, workers));
+        owner.turns(rt, alloc, judged, lead)
+    })
+}
+
+// What the owner collects of a crew of so many workers.
+fn owned<O: Owner, R: Threads + Wait + Sync>(
+    rt: &R,
+    alloc: Global,
+    workers: u64,
+    owner: &O,
+) -> Result<Vec<Vec<u64>>, AllocError> {
+    let judged = AtomicU64::new(0);
+    owned_as::<Brand, O, R>(rt, alloc, Opened::new(), &judged, workers, owner)
+}
+
+// Three jobs, one after another: a large one, a small one and one without numbers.
+#[derive(Drop)]
+struct Three;
+
+impl Owner for Three {
+    fn turns<'a, J: Naming, R: Wait>(
+        &self,
+        rt: &R,
+        alloc: Global,
+        judged: &'a AtomicU64,
+        mut lead: Lead<Sums<'a>, u64, J>,
+    ) -> Result<Vec<Vec<u64>>, AllocError> {
+        let mut turns = Vec::new(alloc);
+        for (plus, count) in [(7, 1000), (50, 3), (9, 0)] {
+            let job = Sums {
+                plus,
+                count,
+                refusals: 0,
+                judged,
+            };
+            lead.post(rt, alloc, job)?;
+            turns.push(lead.collect(rt, alloc)?)?;
+        }
+        Ok(turns)
+    }
+}
+
+#[test]
+fn three_jobs_one_after_another(rt: HostRuntime) -> Result<(), Fail> {
+    for workers in [0, 1, 2] {
+        let turns = owned(&rt, rt.alloc(), workers, &Three)?;
+        assert_eq!(rt; turns.len(), 3);
+        assert_eq!(rt; turns[0].len(), 1000);
+        for (sum, expected) in turns[0].iter().zip(7..1007u64) {
+            assert_eq!(rt; *sum, expected, "of {workers} workers");
+        }
+        assert_eq!(rt; turns[1].as_slice(), [50, 51, 52].as_slice());
+        assert_eq!(rt; turns[2].len(), 0);
+    }
+    Ok(())
+}
+
+// Posts a second job while the first is out, and collects twice.
+#[derive(Drop)]
+struct Hasty;
+
+impl Owner for Hasty {
+    fn turns<'a, J: Naming, R: Wait>(
+        &self,
+        rt: &R,
+        alloc: Global,
+        judged: &'a AtomicU64,
+        mut lead: Lead<Sums<'a>, u64, J>,
+    ) -> Result<Vec<Vec<u64>>, AllocError> {
+        for (plus, count) in [(5, 2000), (100, 4)] {
+            let job = Sums {
+                plus,
+                count,
+                refusals: 0,
+                judged,
+            };
+            lead.post(rt, alloc, job)?;
+        }
+        let mut turns = Vec::new(alloc);
+        turns.push(lead.collect(rt, alloc)?)?;
+        turns.push(lead.collect(rt, alloc)?)?;
+        Ok(turns)
+    }
+}
+
+#[test]
+fn a_second_job_takes_the_place_of_the_first(rt: HostRuntime) -> Result<(), Fail> {
+    let turns = owned(&rt, rt.alloc(), 2, &Hasty)?;
+    assert_eq!(rt; turns.len(), 2);
+    assert_eq!(rt; turns[0].as_slice(), [100, 101, 102, 103].as_slice());
+    assert_eq!(rt; turns[1].len(), 0);
+    Ok(())
+}
+
+// Posts a job and does nothing at it until a number of it was judged, or ten seconds went by in vain.
+#[derive(Drop)]
+struct Waits<'b> {
+    clock: &'b HostRuntime,
+}
+
+impl Owner for Waits<'_> {
+    fn turns<'a, J: Naming, R: Wait>(
+        &self,
+        rt: &R,
+        alloc: Global,
+        judged: &'a AtomicU64,
+        mut lead: Lead<Sums<'a>, u64, J>,
+    ) -> Result<Vec<Vec<u64>>, AllocError> {
+        let job = Sums {
+            plus: 20,
+            count: 2,
+            refusals: 0,
+            judged,
+        };
+        lead.post(rt, alloc, job)?;
+        let mut turns = Vec::new(alloc);
+        for _turn in 0..10000u64 {
+            if judged.load(Ordering::SeqCst) > 0 {
+                turns.push(lead.collect(rt, alloc)?)?;
+                break;
+            }
+            thread::sleep(self.clock, Duration::from_millis(1));
+        }
+        Ok(turns)
+    }
+}
+
+#[test]
+fn a_worker_judges_while_the_owner_does_something_else(rt: HostRuntime) -> Result<(), Fail> {
+    let turns = owned(&rt, rt.alloc(), 1, &Waits { clock: &rt })?;
+    assert_eq!(rt; turns.len(), 1);
+    assert_eq!(rt; turns[0].as_slice(), [20, 21].as_slice());
+    Ok(())
+}
+
+// Posts a job whose first judgements have no memory, and after it one that has all.
+#[derive(Drop)]
+struct Refused {
+    refusals: u64,
+}
+
+impl Owner for Refused {
+    fn turns<'a, J: Naming, R: Wait>(
+        &self,
+        rt: &R,
+        alloc: Global,
+        judged: &'a AtomicU64,
+        mut lead: Lead<Sums<'a>, u64, J>,
+    ) -> Result<Vec<Vec<u64>>, AllocError> {
+        let mut turns = Vec::new(alloc);
+        for (plus, refusals) in [(30, self.refusals), (60, 0)] {
+            let job = Sums {
+                plus,
+                count: 3,
+                refusals,
+                judged,
+            };
+            lead.post(rt, alloc, job)?;
+            turns.push(lead.collect(rt, alloc).unwrap_or(Vec::new(alloc)))?;
+        }
+        Ok(turns)
+    }
+}
+
+#[test]
+fn what_a_thread_had_no_memory_for_is_judged_again(rt: HostRuntime) -> Result<(), Fail> {
+    for workers in [0, 2] {
+        let turns = owned(&rt, rt.alloc(), workers, &Refused { refusals: 1 })?;
+        assert_eq!(rt; turns.len(), 2);
+        assert_eq!(rt;
+            turns[0].as_slice(),
+            [30, 31, 32].as_slice(),
+            "of {workers} workers"
+        );
+        assert_eq!(rt;
+            turns[1].as_slice(),
+            [60, 61, 62].as_slice(),
+            "of {workers} workers"
+        );
+    }
+    // Refused twice, the owner gives an error and no answers. The next job is answered as ever.
+    let turns = owned(&rt, rt.alloc(), 0, &Refused { refusals: 2 })?;
+    assert_eq!(rt; turns.len(), 2);
+    assert_eq!(rt; turns[0].len(), 0);
+    assert_eq!(rt; turns[1].as_slice(), [60, 61, 62].as_slice());
+    Ok(())
+}

@@ -1,0 +1,174 @@
+// A list of all that was posted, which only grows, and beginnings of it that threads carry. No thread keeps the list.
+ghost use Rattle.std.specs.Prelude.{◌≡◌, ◌+◌, ◌<◌, ◌^◌, ◌++◌, ◌∷◌, [], length, true, MatchBool};
+ghost use Rattle.fab_board.specs.Posts.{head_of};
+
+use logbook::{Gain, Offer, Plain, Play, Rule, Seen, Start, Word};
+use std::marker::{Brand, Model, PhantomData};
+
+/// The rule of the book.
+pub struct Law;
+
+impl<E> Rule<E, u64> for Law {
+    ghost use Rattle.std.specs.Prelude.{[]};
+    ghost use base.Fml.{ftrue};
+    ghost use Rattle.fab_board.specs.Posts.{IsKept};
+
+    ghost holds = { λ cells log. IsKept cells log };
+
+    ghost first = { [] };
+
+    ghost hinted = { λ n log. Unit {0} };
+
+    ghost shows = { λ log. [] };
+
+    ghost keeps = { λ names log. ftrue };
+
+    ghost moves = { λ ask before after answer. Unit {0} };
+}
+
+/// Callers trade nothing.
+pub struct Nothing;
+
+impl<E> Gain<E, u64> for Nothing {
+    ghost use base.Fml.{ftrue};
+
+    ghost after = { λ names about answer. ftrue };
+}
+
+/// A step that adds an entry.
+pub struct Add;
+
+impl<E> Play<E, u64> for Add {
+    ghost use Rattle.fab_board.specs.Posts.{Adds};
+
+    ghost then = { Adds };
+}
+
+/// What a step asks for: the entry.
+impl<E> Plain<E, E, u64> for Add {
+    ghost use Rattle.std.specs.Prelude.{None};
+
+    ghost ask = { λ entry. entry };
+
+    ghost state = { λ entry. None };
+}
+
+/// Which book it is: a crew's type names it, so that its threads cannot take another's. Each call of a program picks it.
+pub trait Naming {
+    ghost use Rattle.logbook.specs.Pages.{Book};
+
+    ghost book: { Book };
+}
+
+impl Naming for Brand {
+    ghost book = { record { number = 0; log_name = 0; cells_name = 0 } };
+}
+
+/// A book with nothing in it, which has no name yet. A crew is founded on it.
+pub struct Opened<E> {
+    head: Word<E, u64, Law>,
+    seen: Seen<E, u64, Law>,
+    pub ghost empty: { seen.log ≡ [] },
+    pub ghost head_is: { head ≡ head_of seen.book },
+}
+
+impl<E> Opened<E> {
+    /// A book that no thread has yet.
+    pub fn new() -> Opened<E> {
+        let (seen, mut first, _second) = Seen::open(Start::alone(), 0, 0);
+        Opened {
+            head: Word::tracked(0, &mut first),
+            seen,
+        }
+    }
+
+    /// The book's word under a name, and the front that has seen nothing.
+    pub fn named<J: Naming>(self) -> (Book<E, J>, Front<E, J>)
+        requires { self.seen.book ≡ J.book }
+        ensures { result.1 ≡ [] }
+    {
+        let Opened { head, seen } = self;
+        (
+            Book {
+                head,
+                of: PhantomData,
+            },
+            Front {
+                count: 0,
+                seen,
+                of: PhantomData,
+            },
+        )
+    }
+}
+
+/// The word that all threads share: how many entries there are.
+#[derive(Drop)]
+pub struct Book<E, J: Naming> {
+    head: Word<E, u64, Law>,
+    of: PhantomData<J>,
+    ghost head_is: { head ≡ head_of J.book },
+}
+
+/// A beginning of the list that was seen. Contracts see it as its entries.
+#[derive(Drop)]
+pub struct Front<E, J: Naming> {
+    count: u64,
+    seen: Seen<E, u64, Law>,
+    of: PhantomData<J>,
+}
+
+impl<E, J: Naming> Model for Front<E, J> {
+    ghost use Rattle.std.specs.Prelude.{◌≡◌, List, length};
+
+    ghost Value = { List E };
+
+    ghost view = { λ f. f.seen.log };
+
+    ghost invariant = { λ f. (f.count ≡ length f.seen.log) × (f.seen.book ≡ J.book) };
+}
+
+impl<E, J: Naming> Front<E, J> {
+    /// A copy.
+    pub fn again(&self) -> Front<E, J>
+        ensures { result ≡ self.now }
+    {
+        Front {
+            count: self.count,
+            seen: self.seen.again(),
+            of: PhantomData,
+        }
+    }
+
+    /// Whether the two are as long as each other. Then they are the same.
+    pub fn is_same(&self, other: &Front<E, J>) -> bool
+        ensures { result ≡ true → self.now ≡ other.now }
+    {
+        let mut both = self.seen.again();
+        both.learn(&other.seen);
+        self.count == other.count
+    }
+
+    /// Adds an entry to all that was seen, and says whether it did. It did not where the list is longer.
+    pub fn enter(&mut self, book: &Book<E, J>, entry: &E) -> bool
+        ensures { result ≡ true → self.new ≡ self.old ++ entry.now ∷ [] }
+    {
+        if self.count >= 1 << 62 {
+            return false;
+        }
+        let mut offer: Offer<E, u64, Law, Nothing> = self.seen.plain::<Nothing, E, Add>(entry);
+        let mut pen = self.seen.no_pen();
+        let count = self.count;
+        let found = book
+            .head
+            .compare_exchange::<Add, Nothing>(
+                count,
+                count + 1,
+                &mut self.seen,
+                &mut offer,
+                &mut pen,
+            );
+        self.count = if found == count { count + 1 } else { found };
+        found == count
+    }
+}
