@@ -1,11 +1,15 @@
 # The commands of the repository. Each needs the Rattle kit's `rt` on the path.
 
-.PHONY: test place bench program
+.PHONY: test edits place bench program
 
-# Every proof from nothing, every must-fail edit, every test and program run, and the tests of the built program.
+# Every proof from nothing, the must-fail edits, every test and program run, and the tests of the built program.
 # The last line of the output is `N passed, M failed`.
 test:
 	@tests/all
+
+# The wrong bodies beyond those of the gate, which would take as long as all the rest: to be run before a contract changes.
+edits:
+	@tests/further_edits
 
 # Places a shipped circuit with its pads at given sites, prints the report, and says where the placement lies.
 place: program

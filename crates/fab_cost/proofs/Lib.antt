@@ -15,4 +15,3 @@ pub mod PlainRenewals
 pub mod Bounds
 pub mod Making
 pub mod CountedMaking
-pub mod Tested

@@ -9,8 +9,6 @@ pub mod edge_counts;
 pub mod net_box;
 pub mod net_boxes;
 mod swap_change;
-#[cfg(test)]
-mod tests;
 mod whole_boxes;
 pub mod wire;
 

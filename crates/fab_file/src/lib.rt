@@ -3,8 +3,12 @@
 
 pub mod fault;
 pub mod header;
+#[cfg(test)]
+mod netlist_tests;
 pub mod pinning;
 pub mod reading;
+#[cfg(test)]
+mod site_tests;
 pub mod taking;
 #[cfg(test)]
 mod tests;

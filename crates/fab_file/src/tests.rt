@@ -343,11 +343,16 @@ struct Outcome {
 }
 
 // Writes the placement that lines give, on one logic site, where the writer takes so many bytes.
-fn write(alloc: Global, labels: [&[u8]; 2], lines: &[u8], room: usize) -> Result<Outcome, Fail> {
+fn write_of(
+    alloc: Global,
+    design: &Design,
+    labels: [&[u8]; 2],
+    lines: &[u8],
+    room: usize,
+) -> Result<Outcome, Fail> {
     let grid = Grid::new(1, 1, 1)?;
-    let design = design(alloc)?;
     let text = text_of(alloc, lines)?;
-    let placement = read_place(alloc, text.as_slice(), &design, &grid)?;
+    let placement = read_place(alloc, text.as_slice(), design, &grid)?;
     let mut out = Counted::new(Narrow {
         taken: Vec::new(alloc),
         room,
@@ -356,13 +361,18 @@ fn write(alloc: Global, labels: [&[u8]; 2], lines: &[u8], room: usize) -> Result
         net: labels[0],
         arch: labels[1],
     };
-    let answer = write_place(alloc, &mut out, &shown, &design, &grid, &placement);
+    let answer = write_place(alloc, &mut out, &shown, design, &grid, &placement);
     let failures = out.failures();
     Ok(Outcome {
         answer,
         failures,
         text: out.into_inner().taken,
     })
+}
+
+fn write(alloc: Global, labels: [&[u8]; 2], lines: &[u8], room: usize) -> Result<Outcome, Fail> {
+    let design = design(alloc)?;
+    write_of(alloc, &design, labels, lines, room)
 }
 
 const WRITTEN: &[u8] =
@@ -448,21 +458,31 @@ fn two_sites(placement: &Placement) -> Option<[Site; 2]> {
     }
 }
 
-// Where two blocks start on an array of 2 by 2 with this location text, where all start words are 0.
-fn started(alloc: Global, text: &[u8]) -> Result<Option<[Site; 2]>, Fail> {
+// Where two blocks start on an array of 2 by 2 with this location text.
+fn started_of(
+    alloc: Global,
+    design: &Design,
+    words: &ListWords,
+    text: &[u8],
+) -> Result<Option<[Site; 2]>, Fail> {
     let grid = Grid::new(2, 2, 1)?;
-    let design = two_blocks(alloc)?;
     if grid.holds(design.logic_blocks(), design.pads()).is_err() {
         return Ok(None);
     }
+    match read_pins(alloc, text, design, &grid) {
+        Ok(pins) => Ok(two_sites(&start(alloc, design, &grid, &pins, words)?)),
+        Err(_) => Ok(None),
+    }
+}
+
+// The same where all start words are 0.
+fn started(alloc: Global, text: &[u8]) -> Result<Option<[Site; 2]>, Fail> {
     let words = ListWords {
         starts: Vec::new(alloc),
         moves: Vec::new(alloc),
     };
-    match read_pins(alloc, text, &design, &grid) {
-        Ok(pins) => Ok(two_sites(&start(alloc, &design, &grid, &pins, &words)?)),
-        Err(_) => Ok(None),
-    }
+    let design = two_blocks(alloc)?;
+    started_of(alloc, &design, &words, text)
 }
 
 #[test]

@@ -3,3 +3,4 @@ pub mod Nearby
 pub mod Targets
 pub mod Choices
 pub mod Judgements
+pub mod Tested

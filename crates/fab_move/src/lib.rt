@@ -2,6 +2,8 @@
 #![tactic(auto)]
 
 pub mod acceptance;
+#[cfg(test)]
+mod cost_tests;
 pub mod judging;
 pub mod marks;
 pub mod proposals;

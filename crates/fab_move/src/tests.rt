@@ -49,7 +49,20 @@ fn no_pins(alloc: Global) -> Pins
     }
 }
 
-// The start placement by these words, with no block fixed.
+// The start placement by these words, with no block given.
+fn started<W: Words>(
+    alloc: Global,
+    design: &Design,
+    grid: &Grid,
+    words: &W,
+) -> Result<Placement, Fail>
+    ensures { IfOk result (λ p. p.grid ≡ grid.now) }
+{
+    grid.holds(design.logic_blocks(), design.pads())?;
+    Ok(start(alloc, design, grid, &no_pins(alloc), words)?)
+}
+
+// The same of a text, with no block fixed.
 fn placed_at_start<W: Words>(
     alloc: Global,
     arch: &[u8],
@@ -59,8 +72,7 @@ fn placed_at_start<W: Words>(
 ) -> Result<Placed, Fail> {
     let arch = read_arch(alloc, arch)?;
     let design = read_net(alloc, net, &arch)?;
-    grid.holds(design.logic_blocks(), design.pads())?;
-    let placement = start(alloc, &design, &grid, &no_pins(alloc), words)?;
+    let placement = started(alloc, &design, &grid, words)?;
     Ok(Placed {
         design,
         grid,
@@ -75,6 +87,13 @@ fn fix(placed: &mut Placed, block: u32) -> Result<(), Fail> {
     if (block.0 as usize) < placed.placement.blocks() && placed.fixed.site_of(block).is_none() {
         let site = placed.placement.site_of(block);
         placed.fixed.fix(block, site)?;
+    }
+    Ok(())
+}
+
+fn fix_each(placed: &mut Placed, blocks: &[u32]) -> Result<(), Fail> {
+    for block in blocks {
+        fix(placed, *block)?;
     }
     Ok(())
 }
@@ -142,6 +161,25 @@ fn one_move(alloc: Global, starts: &[u32], words: [u32; 4]) -> Result<ListWords,
         starts: Vec::from_slice(alloc, starts)?,
         moves,
     })
+}
+
+// The line of a move.
+fn line_at<W: Words>(
+    alloc: Global,
+    placed: &Placed,
+    words: &W,
+    k: u64,
+    t: u64,
+    range: u64,
+) -> Result<String, Fail> {
+    let verdict = judged(alloc, placed, words, k, t, range)?;
+    Ok(line_of(alloc, &verdict)?)
+}
+
+// The line of a first move by these words, in a range of 2.
+fn told_first(alloc: Global, placed: &Placed, words: [u32; 4], t: u64) -> Result<String, Fail> {
+    let words = one_move(alloc, &[], words)?;
+    line_at(alloc, placed, &words, 0, t, 2000)
 }
 
 // A clock pad and two logic blocks on an array of 2 by 2, on the first of their sites.
@@ -221,11 +259,10 @@ fn changes_are_accepted_by_the_tables(rt: HostRuntime) {
 fn two_blocks_change_places(rt: HostRuntime) -> Result<(), Fail> {
     let alloc = rt.alloc();
     let placed = clock_and_two(alloc)?;
-    let words = one_move(alloc, &[], [HALF, HALF, HALF, 0])?;
+    let words = [HALF, HALF, HALF, 0];
     let wanted = "b1 1.1.0 2.2.0 b2 0 yes: 2.2.0 b1 b2";
     for t in [0, 1, 1_000_000] {
-        let verdict = judged(alloc, &placed, &words, 0, t, 2000)?;
-        assert_eq!(rt; line_of(alloc, &verdict)?.as_str(), wanted);
+        assert_eq!(rt; told_first(alloc, &placed, words, t)?.as_str(), wanted);
     }
     Ok(())
 }
@@ -271,10 +308,8 @@ fn a_fixed_logic_block_stays(rt: HostRuntime) -> Result<(), Fail> {
     assert_eq!(rt; proposed(&fixed, 2000, [0; 4]), Some(held));
     // The only block that may move is taken by any word.
     assert_eq!(rt; proposed(&fixed, 2000, [MOST, 0, 0, 0]), Some(held));
-    let words = one_move(alloc, &[], [0, 0, HALF, 0])?;
-    let verdict = judged(alloc, &fixed, &words, 0, 0, 2000)?;
     assert_eq!(rt;
-        line_of(alloc, &verdict)?.as_str(),
+        told_first(alloc, &fixed, [0, 0, HALF, 0], 0)?.as_str(),
         "b0 2.1.0 1.2.0 0 yes: 1.2.0 b0 n0"
     );
     Ok(())
@@ -284,10 +319,8 @@ fn a_fixed_logic_block_stays(rt: HostRuntime) -> Result<(), Fail> {
 fn a_block_that_is_only_begun_is_swapped(rt: HostRuntime) -> Result<(), Fail> {
     let alloc = rt.alloc();
     let begun = two_beside(alloc)?;
-    let words = one_move(alloc, &[], [0; 4])?;
-    let verdict = judged(alloc, &begun, &words, 0, 0, 2000)?;
     let wanted = "b0 2.1.0 1.1.0 b1 0 yes: 1.1.0 b0 n0 b1 n1";
-    assert_eq!(rt; line_of(alloc, &verdict)?.as_str(), wanted);
+    assert_eq!(rt; told_first(alloc, &begun, [0; 4], 0)?.as_str(), wanted);
     Ok(())
 }
 
@@ -516,9 +549,7 @@ fn eleven_blocks(alloc: Global, words: &StreamWords) -> Result<Placed, Fail> {
     let net =
         b".global clk\n.input ck\npinlist: clk\n.input a\npinlist: a\n.output z\npinlist: p\n.output y\npinlist: q\n.clb p\npinlist: a a p\n.clb q\npinlist: p clk q\n.clb r\npinlist: a q r\n.clb s\npinlist: r p s\n.clb t\npinlist: s t t\n.clb u\npinlist: open t u\n.clb v\npinlist: u open open\n";
     let mut placed = placed_at_start(alloc, arch, net, Grid::new(4, 3, 2)?, words)?;
-    fix(&mut placed, 2)?;
-    fix(&mut placed, 5)?;
-    fix(&mut placed, 9)?;
+    fix_each(&mut placed, &[2, 5, 9])?;
     Ok(placed)
 }
 
@@ -539,18 +570,27 @@ fn setting_of(k: u64) -> (u64, u64) {
     (t, range)
 }
 
+fn push_lines(
+    alloc: Global,
+    placed: &Placed,
+    words: &StreamWords,
+    lines: &mut String,
+) -> Result<(), Fail> {
+    for k in 0..200 {
+        let (t, range) = setting_of(k);
+        let line = line_at(alloc, placed, words, k, t, range)?;
+        lines.push_str(line.as_str())?;
+        lines.push_str("\n")?;
+    }
+    Ok(())
+}
+
 // The lines of the first 200 moves.
 fn lines(alloc: Global) -> Result<String, Fail> {
     let words = StreamWords::new(5);
     let placed = eleven_blocks(alloc, &words)?;
     let mut lines = String::new(alloc);
-    for k in 0..200 {
-        let (t, range) = setting_of(k);
-        let verdict = judged(alloc, &placed, &words, k, t, range)?;
-        let line = line_of(alloc, &verdict)?;
-        lines.push_str(line.as_str())?;
-        lines.push_str("\n")?;
-    }
+    push_lines(alloc, &placed, &words, &mut lines)?;
     Ok(lines)
 }
 

@@ -9,8 +9,6 @@ pub mod pieces;
 pub mod pins;
 pub mod reading;
 pub mod rows;
-#[cfg(test)]
-mod tests;
 
 pub use design::Design;
 pub use fault::NetFault;

@@ -9,8 +9,6 @@ pub mod pieces;
 pub mod pins;
 pub mod places;
 pub mod starting;
-#[cfg(test)]
-mod tests;
 pub mod words;
 
 pub use drafts::Draft;

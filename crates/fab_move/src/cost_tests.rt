@@ -7,8 +7,8 @@ ghost use Rattle.fab_site.specs.Placement.{Fits, IsLegal, IsSwapOf, site_of, swa
 ghost use Rattle.fab_cost.specs.Boxes.{StandsFor};
 ghost use Rattle.fab_cost.specs.Swapping.{CountedStandsFor};
 
-use crate::{Boxes, EdgeBoxes, EdgeCounts, WireCost, cross};
 use fab_arch::{Grid, Site, SiteKind, read_arch};
+use fab_cost::{Boxes, EdgeBoxes, EdgeCounts, WireCost, cross};
 use fab_net::{BlockId, BlockKind, Design, NetId, read_net};
 use fab_site::{Placement, Swap};
 use std::alloc::{AllocError, Global};
@@ -67,7 +67,21 @@ fn is_legal(design: &Design, grid: &Grid, sites: &[Site]) -> bool
     true
 }
 
-/// The cost of the blocks on these sites of an array of `nx` by `ny`, or `None` where the sites are not legal.
+/// The cost of the blocks on these sites, or `None` where the sites are not legal.
+fn cost_of(
+    alloc: Global,
+    design: &Design,
+    grid: &Grid,
+    sites: &[Site],
+) -> Result<Option<u64>, AllocError> {
+    if !is_legal(design, grid, sites) {
+        return Ok(None);
+    }
+    let placement = Placement::of_sites(alloc, design, grid, sites)?;
+    Ok(Some(Boxes::new(alloc, design, grid, &placement)?.cost()))
+}
+
+/// The same of texts, on an array of `nx` by `ny`.
 fn cost_on(
     alloc: Global,
     arch: &[u8],
@@ -77,14 +91,9 @@ fn cost_on(
     sites: &[Site],
 ) -> Result<Option<u64>, Fail> {
     let arch = read_arch(alloc, arch)?;
-    let design = read_net(alloc, net, &arch)?;
     let grid = Grid::new(nx, ny, arch.io_rat)?;
-    if !is_legal(&design, &grid, sites) {
-        return Ok(None);
-    }
-    let placement = Placement::of_sites(alloc, &design, &grid, sites)?;
-    let boxes = Boxes::new(alloc, &design, &grid, &placement)?;
-    Ok(Some(boxes.cost()))
+    let design = read_net(alloc, net, &arch)?;
+    Ok(cost_of(alloc, &design, &grid, sites)?)
 }
 
 #[test]
@@ -261,6 +270,7 @@ fn swapped_row(
     })
 }
 
+// The row of these blocks, or `None` where there is no such placement or swap.
 fn row_on(
     alloc: Global,
     design: &Design,
@@ -268,9 +278,10 @@ fn row_on(
     sites: &[Site],
     block: BlockId,
     to: Site,
-) -> Result<Option<Row>, AllocError>
-    requires { IsLegal design.now grid.now [] sites.now }
-{
+) -> Result<Option<Row>, AllocError> {
+    if !is_legal(design, grid, sites) {
+        return Ok(None);
+    }
     let placement = Placement::of_sites(alloc, design, grid, sites)?;
     let edges = EdgeBoxes::new(alloc, design, grid, &placement)?;
     match swap_to(&placement, grid, block, to) {
@@ -279,7 +290,7 @@ fn row_on(
     }
 }
 
-// The row of these blocks on an array of `side` by `side`, or `None` where there is no such placement or swap.
+// The same of texts, on an array of `side` by `side`.
 fn row_of(
     alloc: Global,
     arch: &[u8],
@@ -290,11 +301,8 @@ fn row_of(
     to: Site,
 ) -> Result<Option<Row>, Fail> {
     let arch = read_arch(alloc, arch)?;
-    let design = read_net(alloc, net, &arch)?;
     let grid = Grid::new(side, side, arch.io_rat)?;
-    if !is_legal(&design, &grid, sites) {
-        return Ok(None);
-    }
+    let design = read_net(alloc, net, &arch)?;
     Ok(row_on(alloc, &design, &grid, sites, block, to)?)
 }
 
@@ -423,19 +431,21 @@ fn agree_at_each(
     Ok(false)
 }
 
+// The same from these sites, or `None` where they are not legal.
 fn both_agree(
     alloc: Global,
     design: &Design,
     grid: &Grid,
     sites: &[Site],
     wanted: u32,
-) -> Result<bool, AllocError>
-    requires { IsLegal design.now grid.now [] sites.now }
-{
+) -> Result<Option<bool>, AllocError> {
+    if !is_legal(design, grid, sites) {
+        return Ok(None);
+    }
     let mut placement = Placement::of_sites(alloc, design, grid, sites)?;
     let mut boxes = Boxes::new(alloc, design, grid, &placement)?;
     let mut edges = EdgeBoxes::new(alloc, design, grid, &placement)?;
-    agree_at_each(
+    let agree = agree_at_each(
         alloc,
         &mut boxes,
         &mut edges,
@@ -443,7 +453,8 @@ fn both_agree(
         grid,
         &mut placement,
         wanted,
-    )
+    )?;
+    Ok(Some(agree))
 }
 
 // Nets of both blocks of a swap, of two and three pins of a block, of one terminal, of pads, and a global one.
@@ -458,7 +469,6 @@ fn agree_over(alloc: Global, wanted: u32) -> Result<Option<bool>, Fail> {
         alloc,
         b"io_rat 2\ninpin class: 0 left\ninpin class: 0 left\ninpin class: 0 top\noutpin class: 1 right\n",
     )?;
-    let design = read_net(alloc, TEN_BLOCKS, &arch)?;
     let grid = Grid::new(4, 4, arch.io_rat)?;
     let sites = [
         site(0, 1, 0),
@@ -472,10 +482,8 @@ fn agree_over(alloc: Global, wanted: u32) -> Result<Option<bool>, Fail> {
         site(4, 1, 0),
         site(2, 3, 0),
     ];
-    if !is_legal(&design, &grid, &sites) {
-        return Ok(None);
-    }
-    Ok(Some(both_agree(alloc, &design, &grid, &sites, wanted)?))
+    let design = read_net(alloc, TEN_BLOCKS, &arch)?;
+    Ok(both_agree(alloc, &design, &grid, &sites, wanted)?)
 }
 
 #[test]
@@ -499,7 +507,7 @@ fn have_same_counts(design: &Design, one: &EdgeBoxes, other: &EdgeBoxes) -> bool
     true
 }
 
-#[tactic(auto, using(crate::proofs::Sited::block_below))]
+#[tactic(auto, using(fab_cost::proofs::Sited::block_below))]
 // The cost of a copy before and after it takes over a swap, and whether it then is as the value that made the swap.
 fn caught_up(
     design: &Design,
@@ -523,6 +531,7 @@ fn caught_up(
     ))
 }
 
+// The same from these sites, or `None` where they are not legal or there is no such swap.
 fn caught_up_on(
     alloc: Global,
     design: &Design,
@@ -530,9 +539,10 @@ fn caught_up_on(
     sites: &[Site],
     block: BlockId,
     to: Site,
-) -> Result<Option<(u64, u64, bool)>, AllocError>
-    requires { IsLegal design.now grid.now [] sites.now }
-{
+) -> Result<Option<(u64, u64, bool)>, AllocError> {
+    if !is_legal(design, grid, sites) {
+        return Ok(None);
+    }
     let placement = Placement::of_sites(alloc, design, grid, sites)?;
     let edges = EdgeBoxes::new(alloc, design, grid, &placement)?;
     match swap_to(&placement, grid, block, to) {
@@ -547,16 +557,13 @@ fn ring_caught_up(alloc: Global, to: Site) -> Result<Option<(u64, u64, bool)>, F
         alloc,
         b"io_rat 1\ninpin class: 0 left\noutpin class: 1 right\n",
     )?;
+    let grid = Grid::new(3, 3, arch.io_rat)?;
+    let sites = [site(1, 1, 0), site(3, 2, 0), site(2, 3, 0), site(3, 3, 0)];
     let design = read_net(
         alloc,
         b".clb a\npinlist: m n\n.clb b\npinlist: n p\n.clb c\npinlist: p q\n.clb d\npinlist: q m\n",
         &arch,
     )?;
-    let grid = Grid::new(3, 3, arch.io_rat)?;
-    let sites = [site(1, 1, 0), site(3, 2, 0), site(2, 3, 0), site(3, 3, 0)];
-    if !is_legal(&design, &grid, &sites) {
-        return Ok(None);
-    }
     Ok(caught_up_on(alloc, &design, &grid, &sites, BlockId(0), to)?)
 }
 

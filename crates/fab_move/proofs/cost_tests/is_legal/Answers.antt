@@ -1,7 +1,7 @@
 use Rattle.std.proofs.Common.{rules, below_more}
 use Rattle.fab_site.specs.Placement.{Fits, site_of}
-use Rattle.fab_cost.proofs.Tested.{IsFree}
-use Rattle.fab_cost.proofs.tests.is_legal.Goals as goal
+use Rattle.fab_move.proofs.Tested.{IsFree}
+use Rattle.fab_move.proofs.cost_tests.is_legal.Goals as goal
 
 pub loop-block-preserved : goal.loop-block-preserved
 loop-block-preserved c =

@@ -1,8 +1,8 @@
 ghost use Rattle.std.specs.Prelude.{◌≡◌, ◌<◌, [], length, slice_get, Some, IfOk, IfSome};
 
-use crate::{Draft, Fixed, ListWords, Pins, Placement, Swap, Words, is_legal, pick, start};
 use fab_arch::{Grid, Site, read_arch};
 use fab_net::{BlockId, Design, read_net};
+use fab_site::{Draft, Fixed, ListWords, Pins, Placement, Swap, Words, is_legal, pick, start};
 use std::alloc::{AllocError, Global};
 use std::test::*;
 
@@ -154,22 +154,43 @@ fn blocks_are_fixed(rt: HostRuntime) -> Result<(), Fail> {
     Ok(())
 }
 
+// Whether two blocks, placed on sites of an array of 2 by 2, are legal on this one.
+fn are_legal(
+    alloc: Global,
+    design: &Design,
+    grid: &Grid,
+    fixed: &Fixed,
+    sites: [Site; 2],
+) -> Result<bool, Fail> {
+    let larger = Grid::new(2, 2, 2)?;
+    let placement = two_blocks(alloc, &larger, sites[0], sites[1])?;
+    Ok(is_legal(design, grid, fixed, &placement))
+}
+
+// The same of a pad and a logic block.
+fn pad_and_logic_are_legal(
+    alloc: Global,
+    grid: &Grid,
+    fixed: &Fixed,
+    sites: [Site; 2],
+) -> Result<bool, Fail> {
+    let design = pad_and_logic(alloc)?;
+    are_legal(alloc, &design, grid, fixed, sites)
+}
+
 // Whether the pad on (0, 2, 1) and the logic block on (2, 2, 0) are legal on this array.
 fn legal_on(alloc: Global, grid: &Grid) -> Result<bool, Fail> {
-    let design = pad_and_logic(alloc)?;
-    let larger = Grid::new(2, 2, 2)?;
-    let placement = two_blocks(alloc, &larger, site(0, 2, 1), site(2, 2, 0))?;
-    Ok(is_legal(&design, grid, &Fixed::none(alloc), &placement))
+    let sites = [site(0, 2, 1), site(2, 2, 0)];
+    pad_and_logic_are_legal(alloc, grid, &Fixed::none(alloc), sites)
 }
 
 // Whether they are legal where one block is fixed at a site.
 fn legal_with(alloc: Global, block: BlockId, at: Site) -> Result<bool, Fail> {
-    let design = pad_and_logic(alloc)?;
+    let sites = [site(0, 2, 1), site(2, 2, 0)];
     let grid = Grid::new(2, 2, 2)?;
-    let placement = two_blocks(alloc, &grid, site(0, 2, 1), site(2, 2, 0))?;
     let mut fixed = Fixed::none(alloc);
     fixed.fix(block, at)?;
-    Ok(is_legal(&design, &grid, &fixed, &placement))
+    pad_and_logic_are_legal(alloc, &grid, &fixed, sites)
 }
 
 #[test]
@@ -191,21 +212,27 @@ fn legal_is_each_fixed_block_at_its_site(rt: HostRuntime) -> Result<(), Fail> {
 
 #[test]
 fn a_logic_block_on_a_pad_site_is_not_legal(rt: HostRuntime) -> Result<(), Fail> {
-    let design = pad_and_logic(rt.alloc())?;
+    let alloc = rt.alloc();
     let grid = Grid::new(2, 2, 2)?;
-    let crossed = two_blocks(rt.alloc(), &grid, site(2, 2, 0), site(0, 2, 1))?;
-    assert!(rt; !is_legal(&design, &grid, &Fixed::none(rt.alloc()), &crossed));
+    let crossed = [site(2, 2, 0), site(0, 2, 1)];
+    assert!(rt; !pad_and_logic_are_legal(alloc, &grid, &Fixed::none(alloc), crossed)?);
     Ok(())
+}
+
+// Whether a placement of no block is legal.
+fn none_are_legal(alloc: Global, design: &Design) -> Result<bool, Fail> {
+    let grid = Grid::new(2, 2, 2)?;
+    let draft = Draft::new(alloc, 0, &grid)?;
+    match finished(alloc, draft)? {
+        Some(placement) => Ok(is_legal(design, &grid, &Fixed::none(alloc), &placement)),
+        None => Err(Fail::from("no placement")),
+    }
 }
 
 #[test]
 fn no_blocks_are_not_legal(rt: HostRuntime) -> Result<(), Fail> {
     let design = pad_and_logic(rt.alloc())?;
-    let grid = Grid::new(2, 2, 2)?;
-    let draft = Draft::new(rt.alloc(), 0, &grid)?;
-    if let Some(placement) = finished(rt.alloc(), draft)? {
-        assert!(rt; !is_legal(&design, &grid, &Fixed::none(rt.alloc()), &placement));
-    }
+    assert!(rt; !none_are_legal(rt.alloc(), &design)?);
     Ok(())
 }
 
@@ -249,14 +276,22 @@ fn three_blocks(alloc: Global) -> Result<Design, Fail> {
     Ok(read_net(alloc, text, &arch)?)
 }
 
-// The sites of three blocks at the start, on an array of 2 by 2.
-fn three_started(alloc: Global, starts: &[u32]) -> Result<Option<[Site; 3]>, Fail> {
+// Their sites at the start, on an array of 2 by 2.
+fn sites_at_start(
+    alloc: Global,
+    design: &Design,
+    starts: &[u32],
+) -> Result<Option<[Site; 3]>, Fail> {
     let grid = Grid::new(2, 2, 1)?;
-    let design = three_blocks(alloc)?;
-    match started(alloc, &design, &grid, starts)? {
+    match started(alloc, design, &grid, starts)? {
         Some(placement) => Ok(three_sites(&placement)),
         None => Ok(None),
     }
+}
+
+fn three_started(alloc: Global, starts: &[u32]) -> Result<Option<[Site; 3]>, Fail> {
+    let design = three_blocks(alloc)?;
+    sites_at_start(alloc, &design, starts)
 }
 
 fn three_sites(placement: &Placement) -> Option<[Site; 3]> {

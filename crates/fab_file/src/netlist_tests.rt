@@ -1,5 +1,5 @@
-use crate::{BlockId, BlockKind, Design, NetFault, NetId, read_net};
 use fab_arch::read_arch;
+use fab_net::{BlockId, BlockKind, Design, NetFault, NetId, read_net};
 use fab_text::{Span, push_number};
 use std::alloc::{AllocError, Global};
 use std::test::*;

@@ -1,7 +1,7 @@
 use Rattle.std.proofs.Common.{ℕ, ◌<◌}
 use Rattle.fab_site.specs.Placement.{Fits, site_of}
-use Rattle.fab_cost.proofs.Tested.{IsFree}
-use Rattle.fab_cost.proofs.tests.is_legal.Given as goal
+use Rattle.fab_move.proofs.Tested.{IsFree}
+use Rattle.fab_move.proofs.cost_tests.is_legal.Given as goal
 
 abbrev pub invariant-loop-block : goal.invariant-loop-block
 invariant-loop-block l = record {
