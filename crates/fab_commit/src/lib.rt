@@ -10,11 +10,21 @@ mod owners;
 mod pipelines;
 mod stamp_tables;
 mod states;
+#[cfg(test)]
+mod tests;
+#[cfg(test)]
+mod turn_tables;
+#[cfg(test)]
+mod turn_tests;
 pub mod turns;
 mod verdicts;
 pub mod workers;
 pub mod works;
 mod world_states;
+#[cfg(test)]
+mod world_tables;
+#[cfg(test)]
+mod world_tests;
 pub mod worlds;
 
 pub use annealers::Anneal;

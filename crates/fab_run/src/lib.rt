@@ -1,8 +1,6 @@
 //! Runs over texts: what goes in, what comes out.
 #![tactic(auto)]
 
-#[cfg(test)]
-mod anneal_tests;
 pub mod check;
 mod crews;
 mod designs;
@@ -18,14 +16,6 @@ mod setting;
 mod stages;
 #[cfg(test)]
 mod tests;
-#[cfg(test)]
-mod turn_tables;
-#[cfg(test)]
-mod turn_tests;
-#[cfg(test)]
-mod world_tables;
-#[cfg(test)]
-mod world_tests;
 
 pub use check::check_run;
 pub use fault::{RunFault, fault_line};

@@ -1,6 +1,6 @@
-use crate::anneal_tests::{Setting, list_words, put_sites, read_setting, started};
+use crate::tests::{Setting, list_words, put_sites, read_setting, started};
 use crate::world_tables::{ROWS, Row};
-use fab_commit::{Event, Way, World};
+use crate::{Event, Way, World};
 use fab_move::StreamWords;
 use fab_sched::{SchedFault, Schedule};
 use fab_site::{Fixed, Words, is_legal};

@@ -1,12 +1,12 @@
-use crate::anneal_tests::{
+use crate::tests::{
     ALONE, Chosen, Clash, Pace, Setting, annealer, clashing, put_sites, read_setting, turned,
     void_case,
 };
 use crate::turn_tables::{ENDS, End};
 use crate::world_tables::{ROWS, Row};
 use crate::world_tests::{ARCH, schedule_of};
+use crate::{Anneal, Turn};
 use fab_board::{Gate, NoGate};
-use fab_commit::{Anneal, Turn};
 use fab_move::StreamWords;
 use fab_sched::Schedule;
 use fab_site::Words;

@@ -1,8 +1,8 @@
 ghost use Rattle.std.specs.Prelude.{◌≡◌, IfOk};
 
+use crate::{Anneal, Turn};
 use fab_arch::{Grid, read_arch};
 use fab_board::{Gate, NoGate};
-use fab_commit::{Anneal, Turn};
 use fab_move::StreamWords;
 use fab_net::{BlockId, Design, read_net};
 use fab_sched::{SchedFault, Schedule, Stage};
