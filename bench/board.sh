@@ -9,7 +9,7 @@ trap 'rm -rf "$room"' EXIT
 mkdir -p "$room/crates/board_bench/src"
 cp -r "$here/crates/fab_board" "$room/crates/fab_board"
 cp "$here/HANDLES" "$room/HANDLES"
-printf 'fab_board: atomic_table\nboard_bench: fab_board\n' > "$room/crates.txt"
+printf 'fab_board: atomic_table logbook\nboard_bench: fab_board\n' > "$room/crates.txt"
 cat > "$room/crates/board_bench/src/main.rt" <<'MAIN'
 //! Times batches whose closure does nothing.
 #![tactic(auto)]

@@ -5,8 +5,6 @@ pub mod architecture;
 pub mod array;
 pub mod fault;
 pub mod reading;
-#[cfg(test)]
-mod tests;
 
 pub use architecture::{Arch, PinKind};
 pub use array::{Grid, Site, SiteKind};

@@ -2,8 +2,9 @@
 use Rattle.std.specs.Prelude.{◌≡◌, ℕ, [], ◌∷◌, true, false, Some, None, refl}
 use Rattle.fab_board.specs.Counts.{times, once_below}
 use Rattle.fab_board.specs.Views.{BoardName, all_numbers}
+use Rattle.logbook.specs.Pages.{Book}
 use Rattle.fab_board.specs.Judged.{filled, numbers}
-use Rattle.fab_board.specs.Posts.{IsKept, latest}
+use Rattle.fab_board.specs.Posts.{IsKept, head_of, latest}
 
 pub twice_in_three : times 2 (2 ∷ 3 ∷ 2 ∷ []) ≡ 2
 twice_in_three = refl
@@ -34,6 +35,10 @@ last_of_two = refl
 
 pub last_of_none : latest {E = ℕ} [] ≡ None
 last_of_none = refl
+
+-- threads share a book's first word
+pub first_word : (b : Book) → (head_of b).key ≡ 0
+first_word b = refl
 
 -- two jobs were posted, so the word is 2
 pub two_posted : IsKept {E = ℕ} ((2, true) ∷ (0, true) ∷ []) (3 ∷ 8 ∷ [])

@@ -557,7 +557,7 @@ pub fn found<E: Task<T>, T: Drop, J: Naming>(
     opened: Opened<E>,
     workers: u64,
 ) -> Result<(Arc<Shared<E, T, J>>, Lead<E, T, J>), AllocError>
-    requires { opened.seen.book ≡ J.book }
+    requires { opened ≡ J.book }
     ensures { IfOk result (λ r. r.1 ≡ None) }
 {
     let (book, front) = opened.named::<J>();

@@ -101,7 +101,7 @@ fn judge_in_turn<T: Drop, G: Gate, F: Fn(u64) -> Result<T, AllocError>>(
     Ok(answers)
 }
 
-// Lends the closure to a thread for each seat. Threads start here and nowhere else.
+// Lends the closure to a thread for each seat. The threads of a batch start here and nowhere else.
 fn spread<
     T: Send + Drop,
     G: Gate,

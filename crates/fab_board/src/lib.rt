@@ -4,13 +4,9 @@
 
 mod board;
 mod crew;
-#[cfg(test)]
-mod crew_tests;
 mod judge;
 mod past;
 mod rule;
-#[cfg(test)]
-mod tests;
 
 pub use board::{Board, ClaimSeat, Claims};
 pub use crew::{Lead, Shared, Task, found, work_all};

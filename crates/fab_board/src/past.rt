@@ -64,12 +64,22 @@ impl Naming for Brand {
     ghost book = { record { number = 0; log_name = 0; cells_name = 0 } };
 }
 
-/// A book with nothing in it, which has no name yet. A crew is founded on it.
+/// A book with nothing in it, which has no name yet. A crew is founded on it. Contracts see it as that book.
 pub struct Opened<E> {
     head: Word<E, u64, Law>,
     seen: Seen<E, u64, Law>,
-    pub ghost empty: { seen.log ≡ [] },
-    pub ghost head_is: { head ≡ head_of seen.book },
+}
+
+impl<E> Model for Opened<E> {
+    ghost use Rattle.std.specs.Prelude.{◌≡◌, []};
+    ghost use Rattle.logbook.specs.Pages.{Book};
+    ghost use Rattle.fab_board.specs.Posts.{head_of};
+
+    ghost Value = { Book };
+
+    ghost view = { λ o. o.seen.book };
+
+    ghost invariant = { λ o. (o.seen.log ≡ []) × (o.head ≡ head_of o.seen.book) };
 }
 
 impl<E> Opened<E> {
@@ -84,7 +94,7 @@ impl<E> Opened<E> {
 
     /// The book's word under a name, and the front that has seen nothing.
     pub fn named<J: Naming>(self) -> (Book<E, J>, Front<E, J>)
-        requires { self.seen.book ≡ J.book }
+        requires { self ≡ J.book }
         ensures { result.1 ≡ [] }
     {
         let Opened { head, seen } = self;

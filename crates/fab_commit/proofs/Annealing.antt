@@ -1,12 +1,14 @@
 -- What a turn leaves, without a word of the turn before it.
-use Rattle.std.proofs.Common.{◌≡◌, ℕ, ◌+◌, ◌-◌, ◌<◌, ◌≤◌, List, [], ◌∷◌, ◌++◌, length, map, take, refl, sym, ap, ◌∙◌, arith}
+use Rattle.std.proofs.Common.{◌≡◌, ℕ, ◌+◌, ◌-◌, ◌<◌, ◌≤◌, min, List, [], ◌∷◌, ◌++◌, None, Bool, true, false, length, map, take, refl, sym, ap, ◌∙◌, arith, append-nil}
 use Rattle.std.specs.List.{count_by, range_with_len}
+use Rattle.std.proofs.lemmas.Option.{none-some}
 use Rattle.fab_move.specs.declared.verdicts.Verdict.{Verdict as Answer}
 use Rattle.fab_move.specs.Judge.{says}
 use Rattle.fab_commit.specs.declared.verdicts.Verdict.{Verdict}
 use Rattle.fab_commit.specs.declared.pipelines.Pipeline.{Pipeline}
-use Rattle.fab_commit.specs.Serial.{Run, Standing, accepted_among, from}
-use Rattle.fab_commit.specs.Commits.{standing_of}
+use Rattle.fab_commit.specs.declared.events.Way.{Way}
+use Rattle.fab_commit.specs.Serial.{Run, Standing, accepted_among, from, left_at, moves_left}
+use Rattle.fab_commit.specs.Commits.{heat_of, standing_of}
 use Rattle.fab_commit.specs.Owners.{verdict_of}
 use Rattle.fab_commit.specs.Pipelines.{HasTurned, IsBehind, world_in}
 use Rattle.fab_commit.specs.RunLaws.{is_redone_way}
@@ -95,3 +97,41 @@ numbers_told base (a ∷ answers) = ap (λ l. a.k ∷ l) (numbers_told base answ
 pub says_told : (base : ℕ) (answers : List Answer) → map says answers ≡ map (λ (v : Verdict). v.judged) (map (verdict_of base) answers)
 says_told base [] = refl
 says_told base (a ∷ answers) = ap (λ l. says a ∷ l) (says_told base answers)
+
+-- what stays where a turn finds no move left
+pub record Stays (s now : Pipeline) : Type 0 where
+  pub stands : standing_of now.owner.state ≡ standing_of s.owner.state
+  pub accepted : now.owner.state.accepted.items ≡ s.owner.state.accepted.items
+  pub redone : now.owner.redone ≡ s.owner.redone
+  pub ahead : map (verdict_of now.base) now.ahead.items ≡ []
+
+pub none_left : (r : Run) (x : Standing) → x.heat ≡ None → moves_left r x ≡ 0
+none_left r x over = ap (left_at r.plan.moves x.done) over
+
+pub stays : (r : Run) (s now : Pipeline) (batch : ℕ) (told : List Way) → (standing_of s.owner.state).heat ≡ None
+    → standing_of now.owner.state ≡ from r (standing_of s.owner.state) (now.owner.state.done - s.owner.state.done)
+    → now.owner.state.done ≡ s.owner.state.done + min batch (moves_left r (standing_of s.owner.state))
+    → now.owner.state.accepted.items ≡ s.owner.state.accepted.items ++ accepted_among r (standing_of s.owner.state) (now.owner.state.done - s.owner.state.done)
+    → now.owner.redone ≡ s.owner.redone + count_by is_redone_way (take (now.owner.state.done - s.owner.state.done) told)
+    → map (verdict_of now.base) now.ahead.items ≡ map (verdict_on r (standing_of s.owner.state)) (range_with_len now.owner.state.done (min batch (moves_left r (standing_of s.owner.state) - min batch (moves_left r (standing_of s.owner.state)))))
+    → Stays s now
+stays r s now batch told over stands done accepted redone ahead =
+    let x = standing_of s.owner.state in
+    let left = none_left r x over in
+    let none : now.owner.state.done - s.owner.state.done ≡ 0 = omega (arith, done, left) in
+    let least : min batch (moves_left r x - min batch (moves_left r x)) ≡ 0 = omega (arith, left) in
+    let counted : count_by is_redone_way (take (now.owner.state.done - s.owner.state.done) told) ≡ 0 = ap (λ n. count_by is_redone_way (take n told)) none in
+    record {
+      stands = stands ∙ ap (from r x) none;
+      accepted = accepted ∙ ap (λ n. s.owner.state.accepted.items ++ accepted_among r x n) none ∙ append-nil s.owner.state.accepted.items;
+      redone = omega (arith, redone, counted);
+      ahead = ahead ∙ ap (λ n. map (verdict_on r x) (range_with_len now.owner.state.done n)) least;
+    }
+
+-- a run that is over has ended
+pub has_ended : (s now : Pipeline) → standing_of now.owner.state ≡ standing_of s.owner.state → (standing_of s.owner.state).heat ≡ None → now.owner.state.ended ≡ true
+has_ended s now same over = by_end now.owner.state.ended now.owner.state.stage.t (ap (λ (x : Standing). x.heat) same ∙ over)
+  where
+    by_end : (b : Bool) (t : ℕ) → heat_of b t ≡ None → b ≡ true
+    by_end true t e = refl
+    by_end false t e = absurd (none-some t (sym e))

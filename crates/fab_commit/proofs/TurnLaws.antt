@@ -19,7 +19,7 @@ use Rattle.fab_commit.specs.History.{accepted_at, accepted_from, is_redone}
 use Rattle.fab_commit.specs.TurnEvents.{LastTurn, IsOfAStage, commit_each, events_from, forget, is_redone_behind, judge_each, lose_each, next_turn, no_turn, stands, verdict_on, world_behind}
 use Rattle.fab_commit.specs.Owners.{since}
 use Rattle.fab_commit.specs.Turns.{last_turn, turns}
-use Rattle.fab_commit.specs.TurnLaws.{EveryBatchIsSerial, RedoneByStamps, TurnsAreReached, TurnsLeadOn, WaysOfTurns, way_if}
+use Rattle.fab_commit.specs.TurnLaws.{CutTurnsLeadOn, EveryBatchIsSerial, RedoneByStamps, TurnsAreReached, TurnsLeadOn, WaysOfTurns, way_if}
 use Rattle.fab_commit.proofs.Happening.{end_is, run_inv, run_through-append, ways-append}
 use Rattle.fab_commit.proofs.History.{Hist, IsOf, accepted_from-add, redone_is, run_hist, start_hist}
 use Rattle.fab_commit.proofs.Schedules.{Inv, from-add, happens_inv, start_inv}
@@ -282,6 +282,15 @@ turns_lead_on r t batch pos stage =
       ap (λ n. forget y.done (run_through r (world_behind r t) (events_from y.done n next.made next.ahead))) (length_on r t.start y.done t.ahead)
           ∙ turn_leads r t next.made next.ahead pos stage left,
       left,
+    )
+
+pub cut_turns_lead_on : CutTurnsLeadOn
+cut_turns_lead_on r t made pos stage left =
+    let y = stands r t in
+    let all : made + 0 ≤ moves_left r y = omega (arith, left) in (
+      ap (λ n. forget y.done (run_through r (world_behind r t) (events_from y.done n made 0))) (length_on r t.start y.done t.ahead)
+          ∙ turn_leads r t made 0 pos stage all,
+      all,
     )
 
 -- turns one after another

@@ -21,7 +21,7 @@ pub record IsAnswer (r : Run) (x : Standing) (k : ℕ) (a : Answer) : Type 0 whe
   pub kind : KeepsKind r.problem.grid a
 
 -- what is kept behind a turn: both placements stand where it led, what was judged ahead are the moves behind it on the
--- placement at its start, and the stamps are those of all accepted moves, of which the turn's are the last
+-- placement at its start, and the stamps are those of a list of accepted moves whose part from the turn's start on is the turn's
 pub record IsBehind (r : Run) (t : LastTurn) (s : Pipeline) : Type 0 where
   pub plan : IsLawful r.plan
   pub stage : IsOfAStage r t

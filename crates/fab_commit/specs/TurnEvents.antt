@@ -94,6 +94,10 @@ next_turn r batch t =
     let made = min batch left in
     record { start = stands r t; made = made; ahead = min batch (left - made) }
 
+-- a turn behind this one that was cut short after so many moves
+abbrev pub cut_turn : Run → ℕ → LastTurn → LastTurn
+cut_turn r made t = record { start = stands r t; made = made; ahead = 0 }
+
 -- the placement that a move of the next turn is first judged on, by the moves made there: this turn's start, where it was
 -- judged ahead, and else where this turn led
 abbrev pub base_behind : Run → LastTurn → ℕ → ℕ
@@ -107,7 +111,7 @@ is_redone_behind r t k = is_redone r t.start (base_behind r t k) k
 pub a_first_turn : events_from 4 0 2 1 ≡ Claim 4 ∷ Judge 4 ∷ Claim 5 ∷ Judge 5 ∷ Claim 6 ∷ Judge 6 ∷ Commit ∷ Commit ∷ Refresh ∷ []
 a_first_turn = refl
 
--- moves 4, 5 and 6 were judged, but one is asked for: the others are judged anew
+-- moves 4, 5 and 6 were judged, but one is asked for: 5 and 6 are lost, and 5, the next batch, is judged anew
 pub a_smaller_batch : events_from 4 3 1 1 ≡ Lose 6 ∷ Lose 5 ∷ Claim 5 ∷ Judge 5 ∷ Commit ∷ Refresh ∷ []
 a_smaller_batch = refl
 

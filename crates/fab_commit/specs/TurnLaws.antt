@@ -1,14 +1,14 @@
 -- Laws of turns (our own).
-use Rattle.std.specs.Prelude.{ℕ, ◌≡◌, ◌+◌, ◌-◌, ◌<◌, Bool, if◌then◌else◌, List, [], ◌∷◌, ◌++◌, map}
+use Rattle.std.specs.Prelude.{ℕ, ◌≡◌, ◌+◌, ◌-◌, ◌<◌, ◌≤◌, Bool, if◌then◌else◌, List, [], ◌∷◌, ◌++◌, map}
 use Rattle.std.specs.List.{range_with_len}
 use Rattle.fab_commit.specs.declared.events.Way.{Way}
 use Rattle.fab_commit.specs.declared.events.Way.TheVariants.{Taken, Redone}
 use Rattle.fab_commit.specs.declared.events.Event.TheVariants.{Refresh}
-use Rattle.fab_commit.specs.Serial.{Run, Standing, judged_here, from}
+use Rattle.fab_commit.specs.Serial.{Run, Standing, judged_here, from, moves_left}
 use Rattle.fab_commit.specs.World.{world, run_through, ways}
 use Rattle.fab_commit.specs.History.{accepted_from, is_redone}
 use Rattle.fab_commit.specs.Stamps.{is_stamped}
-use Rattle.fab_commit.specs.TurnEvents.{LastTurn, IsOfAStage, commit_each, is_redone_behind, judge_each, next_turn, no_turn, stands, turn, turn_events, world_behind}
+use Rattle.fab_commit.specs.TurnEvents.{LastTurn, IsOfAStage, commit_each, cut_turn, is_redone_behind, judge_each, next_turn, no_turn, stands, turn, turn_events, turn_making, world_behind}
 use Rattle.fab_commit.specs.Turns.{last_turn, turns}
 
 -- what stands behind a turn is what events lead to where nothing was claimed or judged, so that each law of the world's
@@ -23,6 +23,12 @@ abbrev pub TurnsLeadOn : Type 0
 TurnsLeadOn =
     (r : Run) (t : LastTurn) (batch : ℕ) → 0 < r.plan.moves → IsOfAStage r t
     → (turn r batch (world_behind r t) ≡ world_behind r (next_turn r batch t)) × IsOfAStage r (next_turn r batch t)
+
+-- so does a turn that is cut short, which leaves nothing judged ahead: another turn goes on from behind it
+abbrev pub CutTurnsLeadOn : Type 0
+CutTurnsLeadOn =
+    (r : Run) (t : LastTurn) (made : ℕ) → 0 < r.plan.moves → IsOfAStage r t → made ≤ moves_left r (stands r t)
+    → (turn_making r made 0 (world_behind r t) ≡ world_behind r (cut_turn r made t)) × IsOfAStage r (cut_turn r made t)
 
 -- whatever the batches of turns, they leave the standing of one move at a time, and no verdict but those of the last turn
 abbrev pub EveryBatchIsSerial : Type 0

@@ -34,7 +34,8 @@ abbrev pub cut_of : ℕ → ℕ → ℕ → ℕ → ℕ
 cut_of moves first batch k =
     let part = part_of moves first k in part + (k - part) / batch * batch
 
--- what move k is first judged on: where the turn before its own began, if that is one of the stage
+-- what move k is first judged on: where the turn before its own began, if that is one of this part of the run, and else where its
+-- own turn begins
 abbrev pub base_of : ℕ → ℕ → ℕ → ℕ → ℕ
 base_of moves first batch k = max (part_of moves first k) (cut_of moves first batch k - batch)
 

@@ -11,7 +11,7 @@ pub record WorkOf (W : Type 0) : Type 0 where
   pub first : ℕ
   pub moves : ℕ
 
--- the placement is one of the run, moves are left there, and their numbers fit
+-- the placement is one of the run, which is not over there if moves are asked for, and their numbers fit
 pub record MayBeJudged {W : Type 0} (words : W → ℕ → List ℕ) (w : WorkOf W) : Type 0 where
   pub sound : IsSound (run_for words w.given) w.older
   pub going : 0 < w.moves → w.older.ended ≡ false

@@ -1,6 +1,6 @@
 //! An annealer: moves are judged ahead by workers, and committed in order of number.
 
-ghost use Rattle.std.specs.Prelude.{◌≡◌, ◌+◌, ◌-◌, ◌<◌, ◌≤◌, ◌++◌, [], map, min, take, IfOk, OnOk, OnErr};
+ghost use Rattle.std.specs.Prelude.{◌≡◌, ◌+◌, ◌-◌, ◌<◌, ◌≤◌, ◌++◌, [], map, min, take, None, Ok, IfOk, OnOk, OnErr};
 ghost use Rattle.std.specs.Arc.{arc_value};
 ghost use Rattle.std.specs.List.{count_by, range_with_len};
 ghost use Rattle.fab_cost.specs.Cost.{cost_of};
@@ -10,6 +10,7 @@ ghost use Rattle.fab_commit.specs.declared.verdicts.Verdict.{Verdict as Judged};
 ghost use Rattle.fab_commit.specs.Serial.{IsStanding, accepted_among, at_start, from, moves_left, stage_of};
 ghost use Rattle.fab_commit.specs.Commits.{IsSameRun, run, run_for, run_of, turn_of, world_of};
 ghost use Rattle.fab_commit.specs.ByTurns.{LeadsByTurns};
+ghost use Rattle.fab_commit.specs.declared.turns.Turn.TheVariants.{Finished};
 ghost use Rattle.fab_commit.specs.RunLaws.{is_redone_way};
 ghost use Rattle.fab_commit.specs.TurnEvents.{turn, turn_events, turn_making, verdict_on};
 ghost use Rattle.fab_commit.specs.World.{ways};
@@ -182,6 +183,8 @@ impl<'a, W: Words + Sync + Drop> Anneal<'a, W> {
         ensures ok { OnOk result (self.new.standing.done ≡ self.old.standing.done + min batch (moves_left (run_of W.moves self.old) self.old.standing)) }
         ensures within { (self.old.standing.done ≤ self.new.standing.done) × (self.new.standing.done ≤ self.old.standing.done + min batch (moves_left (run_of W.moves self.old) self.old.standing)) }
         ensures turn { IfOk result (λ t. t ≡ turn_of self.new.standing.heat) }
+        // Where no move is left, there is no error, and nothing that a call tells changes.
+        ensures finished { self.old.standing.heat ≡ None → (result ≡ Ok Finished) × (self.new.standing ≡ self.old.standing) × (self.new.accepted ≡ self.old.accepted) × (self.new.redone ≡ self.old.redone) × (self.new.ahead ≡ []) }
         // It is a run of a world over a turn's events; where memory is short, of one that judges nothing ahead.
         ensures world { OnOk result (world_of self.new ≡ turn (run_of W.moves self.old) batch (world_of self.old)) }
         ensures cut { OnErr result (world_of self.new ≡ turn_making (run_of W.moves self.old) (self.new.standing.done - self.old.standing.done) 0 (world_of self.old)) }
@@ -229,6 +232,8 @@ impl<'a, W: Words + Sync + Drop> Anneal<'a, W> {
         ensures ok { OnOk result (self.new.standing.done ≡ self.old.standing.done + min batch (moves_left (run_of W.moves self.old) self.old.standing)) }
         ensures within { (self.old.standing.done ≤ self.new.standing.done) × (self.new.standing.done ≤ self.old.standing.done + min batch (moves_left (run_of W.moves self.old) self.old.standing)) }
         ensures turn { IfOk result (λ t. t ≡ turn_of self.new.standing.heat) }
+        // Where no move is left, there is no error, and nothing that a call tells changes.
+        ensures finished { self.old.standing.heat ≡ None → (result ≡ Ok Finished) × (self.new.standing ≡ self.old.standing) × (self.new.accepted ≡ self.old.accepted) × (self.new.redone ≡ self.old.redone) × (self.new.ahead ≡ []) }
         // It is a run of a world over a turn's events; where memory is short, of one that judges nothing ahead.
         ensures world { OnOk result (world_of self.new ≡ turn (run_of W.moves self.old) batch (world_of self.old)) }
         ensures cut { OnErr result (world_of self.new ≡ turn_making (run_of W.moves self.old) (self.new.standing.done - self.old.standing.done) 0 (world_of self.old)) }

@@ -3,7 +3,7 @@
 
 ghost use Rattle.fab_commit.specs.Laws.{AcceptedSwapsAreSerial, MovesCompose, PlacementsStayLegal, RedoneIsSerial, StampsTell, VerdictsAreOfTheirBase};
 ghost use Rattle.fab_commit.specs.RunLaws.{RedoneInRuns, WaysOfABeginning, WaysOfATurn, WaysOfRuns};
-ghost use Rattle.fab_commit.specs.TurnLaws.{EveryBatchIsSerial, RedoneByStamps, TurnsAreReached, TurnsLeadOn, WaysOfTurns};
+ghost use Rattle.fab_commit.specs.TurnLaws.{CutTurnsLeadOn, EveryBatchIsSerial, RedoneByStamps, TurnsAreReached, TurnsLeadOn, WaysOfTurns};
 
 /// The law that so many moves and then more are all of them together.
 pub fn moves_compose()
@@ -37,10 +37,11 @@ pub fn stamps_tell()
 /// The law of a turn. Verdicts beyond its batch are lost; what is missing of the batch is judged, then the next batch of
 /// the stage; the batch is committed, and the older placement renewed. That leads from behind one turn to behind the next,
 /// where both placements are those of one move at a time, nothing is claimed, and there are verdicts for the next batch
-/// alone, on the placement at the turn's start. A move is redone where a stamp of what it rests on is above its base.
+/// alone, on the placement at the turn's start; a turn that is cut short, for want of memory, leads on with none. A move is redone where a stamp of what it rests on is above its base.
 pub fn turns_are_serial()
     ensures reached { TurnsAreReached }
     ensures turn { TurnsLeadOn }
+    ensures cut { CutTurnsLeadOn }
     ensures batches { EveryBatchIsSerial }
     ensures ways { WaysOfTurns }
     ensures stamps { RedoneByStamps }

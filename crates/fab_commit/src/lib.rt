@@ -2,8 +2,12 @@
 #![tactic(auto)]
 
 pub mod annealers;
+#[cfg(test)]
+mod board_tests;
 mod claims;
 mod clashes;
+#[cfg(test)]
+mod crew_tests;
 pub mod events;
 pub mod laws;
 mod owners;

@@ -181,7 +181,12 @@ fn make_moves<'a, 'g, W: Words + Sync + Drop, G: Gate, J: Naming, R: Threads + W
     ensures redone { HasCounted (run_for W.moves (arc_value given.now)) owner.old base ahead.now owner.new }
     ensures many { IfOk result (λ v. length v.items ≡ next) }
     ensures answers { IfOk result (λ v. AreAnswers (run_for W.moves (arc_value given.now)) (standing_of (arc_value older.now)) (owner.old.state.done + moves) v.items) }
+    ensures some { OnErr result (0 < moves + next) }
 {
+    // Where no move is left, nothing is asked of memory and workers.
+    if moves == 0 && next == 0 {
+        return Ok(Vec::new(alloc));
+    }
     reserve(owner, moves)?;
     judge_and_commit(
         rt, alloc, given, owner, older, ahead, base, moves, next, workers,
@@ -254,6 +259,7 @@ pub(crate) fn make_turn<
     ensures within { (state.old.owner.state.done ≤ state.new.owner.state.done) × (state.new.owner.state.done ≤ state.old.owner.state.done + min batch (moves_left (run_for W.moves (arc_value given.now)) (standing_of state.old.owner.state))) }
     ensures ok { OnOk result ((t : LastTurn) → IsBehind (run_for W.moves (arc_value given.now)) t state.old → HasTurned (run_for W.moves (arc_value given.now)) t state.old (next_turn (run_for W.moves (arc_value given.now)) batch t).made (next_turn (run_for W.moves (arc_value given.now)) batch t).ahead state.new) }
     ensures err { OnErr result ((t : LastTurn) → IsBehind (run_for W.moves (arc_value given.now)) t state.old → HasTurned (run_for W.moves (arc_value given.now)) t state.old (state.new.owner.state.done - state.old.owner.state.done) 0 state.new) }
+    ensures some { OnErr result (0 < moves_left (run_for W.moves (arc_value given.now)) (standing_of state.old.owner.state)) }
 {
     let lent: &Given<'_, W> = given;
     let start = state.owner.state.done;
@@ -307,6 +313,7 @@ pub(crate) fn turn<'a, 'g, W: Words + Sync + Drop, G: Gate, J: Naming, R: Thread
     ensures ahead { OnOk result (map (verdict_of state.new.base) state.new.ahead.items ≡ map (verdict_on (run_for W.moves (arc_value given.now)) (standing_of state.old.owner.state)) (range_with_len state.new.owner.state.done (min batch (moves_left (run_for W.moves (arc_value given.now)) (standing_of state.old.owner.state) - min batch (moves_left (run_for W.moves (arc_value given.now)) (standing_of state.old.owner.state)))))) }
     ensures lost { OnErr result (map (verdict_of state.new.base) state.new.ahead.items ≡ []) }
     ensures cut { OnErr result (world_in state.new ≡ turn_making (run_for W.moves (arc_value given.now)) (state.new.owner.state.done - state.old.owner.state.done) 0 (world_in state.old)) }
+    ensures some { OnErr result (0 < moves_left (run_for W.moves (arc_value given.now)) (standing_of state.old.owner.state)) }
 {
     make_turn(rt, alloc, given, state, batch, workers)?;
     Ok(())

@@ -53,14 +53,26 @@ fn finish<W: Words + Sync + Drop, G: Gate, R: Threads + Wait + Sync>(
     Err(Fail::from("the run does not end"))
 }
 
-/// The whole run of chosen words: how many moves were judged again, and where it ends.
-fn chosen_end<G: Gate, R: Threads + Wait + Sync>(
+/// The whole run: how many moves were judged again, and where it ends.
+fn ended<W: Words + Sync + Drop, G: Gate, R: Threads + Wait + Sync>(
+    rt: &R,
+    alloc: Global,
+    anneal: &mut Anneal<'_, W>,
+    pace: Pace,
+    gate: &G,
+) -> Result<(u64, String), Fail> {
+    finish(rt, alloc, anneal, &[pace.batch], pace.workers, gate)?;
+    Ok((anneal.redone(), told_end(alloc, anneal)?))
+}
+
+/// The same of chosen words.
+fn chosen_run<G: Gate, R: Threads + Wait + Sync>(
     rt: &R,
     alloc: Global,
     case: Chosen,
     pace: Pace,
     gate: &G,
-) -> Result<String, Fail> {
+) -> Result<(u64, String), Fail> {
     let Chosen {
         of,
         words,
@@ -68,9 +80,19 @@ fn chosen_end<G: Gate, R: Threads + Wait + Sync>(
         schedule,
     } = case;
     let mut anneal = annealer(alloc, &of, fixed, schedule, words)?;
-    finish(rt, alloc, &mut anneal, &[pace.batch], pace.workers, gate)?;
-    let end = told_end(alloc, &anneal)?;
-    Ok(format!(in alloc; "redone {} {}", anneal.redone(), end.as_str())?)
+    ended(rt, alloc, &mut anneal, pace, gate)
+}
+
+/// The same as a text.
+fn chosen_end<G: Gate, R: Threads + Wait + Sync>(
+    rt: &R,
+    alloc: Global,
+    case: Chosen,
+    pace: Pace,
+    gate: &G,
+) -> Result<String, Fail> {
+    let (redone, end) = chosen_run(rt, alloc, case, pace, gate)?;
+    Ok(format!(in alloc; "redone {redone} {}", end.as_str())?)
 }
 
 /// The whole run of two moves that clash.
@@ -144,7 +166,17 @@ fn told_ahead<W: Words + Drop>(
     Ok(text)
 }
 
-/// What is judged ahead after one move of the two to one site.
+/// What is judged ahead after one more move.
+fn told_ahead_of_a_move<W: Words + Sync + Drop, R: Threads + Wait + Sync>(
+    rt: &R,
+    alloc: Global,
+    anneal: &mut Anneal<'_, W>,
+) -> Result<String, Fail> {
+    let _turn = turned(rt, alloc, anneal, ALONE, &NoGate)?;
+    Ok(told_ahead(alloc, anneal)?)
+}
+
+/// The same of the first move of the two to one site.
 fn ahead_of_a_move<R: Threads + Wait + Sync>(rt: &R, alloc: Global) -> Result<String, Fail> {
     let Chosen {
         of,
@@ -153,8 +185,7 @@ fn ahead_of_a_move<R: Threads + Wait + Sync>(rt: &R, alloc: Global) -> Result<St
         schedule,
     } = clashing(alloc, Clash::Site)?;
     let mut anneal = annealer(alloc, &of, fixed, schedule, words)?;
-    let _turn = turned(rt, alloc, &mut anneal, ALONE, &NoGate)?;
-    Ok(told_ahead(alloc, &anneal)?)
+    told_ahead_of_a_move(rt, alloc, &mut anneal)
 }
 
 #[test]
@@ -198,7 +229,25 @@ fn eight<'a, W: Words + Drop>(
     annealer(alloc, of, None, schedule, words)
 }
 
-/// Where it ends in turns of 4, 1, 3 and 2 moves in a circle, and after so many turns beyond its end.
+/// Where a run ends in turns of 4, 1, 3 and 2 moves in a circle, and after so many turns beyond its end.
+fn ended_in_a_circle<W: Words + Sync + Drop, R: Threads + Wait + Sync>(
+    rt: &R,
+    alloc: Global,
+    anneal: &mut Anneal<'_, W>,
+    beyond: u64,
+) -> Result<String, Fail> {
+    finish(rt, alloc, anneal, &[4, 1, 3, 2], 2, &NoGate)?;
+    for _turn in 0..beyond {
+        if turned(rt, alloc, anneal, ALONE, &NoGate)? != Turn::Finished {
+            return Err(Fail::from("a run that is finished goes on"));
+        }
+    }
+    let (redone, ahead) = (anneal.redone(), anneal.ahead().len());
+    let end = told_end(alloc, anneal)?;
+    Ok(format!(in alloc; "redone {redone} ahead {ahead} {}", end.as_str())?)
+}
+
+/// The same of the eight blocks.
 fn circle_end<R: Threads + Wait + Sync>(
     rt: &R,
     alloc: Global,
@@ -206,15 +255,7 @@ fn circle_end<R: Threads + Wait + Sync>(
 ) -> Result<String, Fail> {
     let of = read_setting(alloc, ARCH, EIGHT)?;
     let mut anneal = eight(alloc, &of, StreamWords::new(8))?;
-    finish(rt, alloc, &mut anneal, &[4, 1, 3, 2], 2, &NoGate)?;
-    for _turn in 0..beyond {
-        if turned(rt, alloc, &mut anneal, ALONE, &NoGate)? != Turn::Finished {
-            return Err(Fail::from("a run that is finished goes on"));
-        }
-    }
-    let (redone, ahead) = (anneal.redone(), anneal.ahead().len());
-    let end = told_end(alloc, &anneal)?;
-    Ok(format!(in alloc; "redone {redone} ahead {ahead} {}", end.as_str())?)
+    ended_in_a_circle(rt, alloc, &mut anneal, beyond)
 }
 
 #[test]
@@ -327,12 +368,25 @@ fn told_asked(alloc: Global, seen: &Seen, redone: u64) -> Result<String, AllocEr
     )
 }
 
-/// What is asked for in the whole run of two moves that clash.
+/// What is asked for in the whole run.
+fn asked<W: Words + Sync + Drop, R: Threads + Wait + Sync>(
+    rt: &R,
+    alloc: Global,
+    anneal: &mut Anneal<'_, W>,
+    pace: Pace,
+    seen: &Seen,
+) -> Result<String, Fail> {
+    finish(rt, alloc, anneal, &[pace.batch], pace.workers, seen)?;
+    Ok(told_asked(alloc, seen, anneal.redone())?)
+}
+
+/// The same of two moves that clash.
 fn clash_asked<R: Threads + Wait + Sync>(
     rt: &R,
     alloc: Global,
     clash: Clash,
     pace: Pace,
+    seen: &Seen,
 ) -> Result<String, Fail> {
     let Chosen {
         of,
@@ -340,19 +394,18 @@ fn clash_asked<R: Threads + Wait + Sync>(
         fixed,
         schedule,
     } = clashing(alloc, clash)?;
-    let seen = Seen::of(alloc, 2)?;
-    let words = SeenWords { words, seen: &seen };
+    let words = SeenWords { words, seen };
     let mut anneal = annealer(alloc, &of, fixed, schedule, words)?;
-    finish(rt, alloc, &mut anneal, &[pace.batch], pace.workers, &seen)?;
-    Ok(told_asked(alloc, &seen, anneal.redone())?)
+    asked(rt, alloc, &mut anneal, pace, seen)
 }
 
 #[test]
 fn words_of_the_clashing_move_are_asked_for_twice(rt: HostRuntime) -> Result<(), Fail> {
     for pace in PACES {
         for clash in [Clash::Site, Clash::Net] {
+            let seen = Seen::of(rt.alloc(), 2)?;
             assert_eq!(rt;
-                clash_asked(&rt, rt.alloc(), clash, pace)?.as_str(),
+                clash_asked(&rt, rt.alloc(), clash, pace, &seen)?.as_str(),
                 "redone 1 asked 3 other 0 commits 2 disordered 0 once 0"
             );
         }
@@ -360,7 +413,7 @@ fn words_of_the_clashing_move_are_asked_for_twice(rt: HostRuntime) -> Result<(),
     Ok(())
 }
 
-/// What is asked for in the whole run of the eight blocks.
+/// The same of the eight blocks.
 fn eight_asked<R: Threads + Wait + Sync>(
     rt: &R,
     alloc: Global,
@@ -373,8 +426,7 @@ fn eight_asked<R: Threads + Wait + Sync>(
         seen,
     };
     let mut anneal = eight(alloc, &of, words)?;
-    finish(rt, alloc, &mut anneal, &[pace.batch], pace.workers, seen)?;
-    Ok(told_asked(alloc, seen, anneal.redone())?)
+    asked(rt, alloc, &mut anneal, pace, seen)
 }
 
 #[test]
@@ -475,14 +527,12 @@ fn row_end<R: Threads + Wait + Sync>(
     rt: &R,
     alloc: Global,
     row: &Row,
-    batch: u64,
-    workers: u64,
+    pace: Pace,
 ) -> Result<(u64, String), Fail> {
     let schedule = schedule_of(row)?;
     let of = read_setting(alloc, ARCH, row.net)?;
     let mut anneal = annealer(alloc, &of, None, schedule, StreamWords::new(row.seed))?;
-    finish(rt, alloc, &mut anneal, &[batch], workers, &NoGate)?;
-    Ok((anneal.redone(), told_end(alloc, &anneal)?))
+    ended(rt, alloc, &mut anneal, pace, &NoGate)
 }
 
 /// Whether a run ends so in all batches, with one worker and with three.
@@ -494,7 +544,11 @@ fn leads_to<R: Threads + Wait + Sync>(
 ) -> Result<bool, Fail> {
     for (batch, redone) in [1, 2, 5].iter().zip(end.redone.iter()) {
         for workers in [1, 3] {
-            let (again, told) = row_end(rt, alloc, row, *batch, workers)?;
+            let pace = Pace {
+                batch: *batch,
+                workers,
+            };
+            let (again, told) = row_end(rt, alloc, row, pace)?;
             if again != *redone || told.as_str() != end.wanted {
                 return Ok(false);
             }

@@ -75,22 +75,22 @@ fn told_after<W: Words + Drop>(
     alloc: Global,
     world: &mut World<'_, W>,
     events: &[u8],
-) -> Result<String, AllocError> {
+) -> Result<String, Fail> {
     happen(alloc, world, events)?;
-    told(alloc, world)
+    Ok(told(alloc, world)?)
 }
 
 /// Two blocks without a common net, both sent to one empty site in a frozen stage of two moves.
 fn two_blocks(alloc: Global, events: &[u8]) -> Result<String, Fail> {
     let schedule = Schedule::new(1, 2, 500, 2)?;
+    let words = list_words(alloc, &[], &[[0, HALF, 0, 0], [HALF, HALF, 0, 0]])?;
     let of = read_setting(
         alloc,
         b"io_rat 1\noutpin class: 0 top\n",
         b".clb b1\npinlist: x\n.clb b2\npinlist: y\n",
     )?;
-    let words = list_words(alloc, &[], &[[0, HALF, 0, 0], [HALF, HALF, 0, 0]])?;
     let mut world = world_of(alloc, &of, schedule, words)?;
-    Ok(told_after(alloc, &mut world, events)?)
+    told_after(alloc, &mut world, events)
 }
 
 #[test]
@@ -128,7 +128,7 @@ fn outcome(alloc: Global, row: &Row) -> Result<String, Fail> {
     let schedule = schedule_of(row)?;
     let of = read_setting(alloc, ARCH, row.net)?;
     let mut world = world_of(alloc, &of, schedule, StreamWords::new(row.seed))?;
-    Ok(told_after(alloc, &mut world, row.events)?)
+    told_after(alloc, &mut world, row.events)
 }
 
 /// The seed of the first row from which something else comes than the reference says.

@@ -1,6 +1,8 @@
 //! The texts of placements.
 #![tactic(auto)]
 
+#[cfg(test)]
+mod arch_tests;
 pub mod fault;
 pub mod header;
 #[cfg(test)]
@@ -12,6 +14,8 @@ mod site_tests;
 pub mod taking;
 #[cfg(test)]
 mod tests;
+#[cfg(test)]
+mod text_tests;
 pub mod words;
 pub mod writing;
 

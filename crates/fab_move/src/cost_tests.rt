@@ -286,7 +286,7 @@ fn row_on(
     let edges = EdgeBoxes::new(alloc, design, grid, &placement)?;
     match swap_to(&placement, grid, block, to) {
         None => Ok(None),
-        Some(swap) => Ok(Some(swapped_row(design, grid, &placement, edges, &swap)?)),
+        Some(swap) => swapped_row(design, grid, &placement, edges, &swap).map(Some),
     }
 }
 
@@ -445,7 +445,7 @@ fn both_agree(
     let mut placement = Placement::of_sites(alloc, design, grid, sites)?;
     let mut boxes = Boxes::new(alloc, design, grid, &placement)?;
     let mut edges = EdgeBoxes::new(alloc, design, grid, &placement)?;
-    let agree = agree_at_each(
+    agree_at_each(
         alloc,
         &mut boxes,
         &mut edges,
@@ -453,8 +453,8 @@ fn both_agree(
         grid,
         &mut placement,
         wanted,
-    )?;
-    Ok(Some(agree))
+    )
+    .map(Some)
 }
 
 // Nets of both blocks of a swap, of two and three pins of a block, of one terminal, of pads, and a global one.
@@ -547,7 +547,7 @@ fn caught_up_on(
     let edges = EdgeBoxes::new(alloc, design, grid, &placement)?;
     match swap_to(&placement, grid, block, to) {
         None => Ok(None),
-        Some(swap) => Ok(Some(caught_up(design, grid, &placement, edges, &swap)?)),
+        Some(swap) => caught_up(design, grid, &placement, edges, &swap).map(Some),
     }
 }
 

@@ -6,6 +6,8 @@ pub mod acceptance;
 mod cost_tests;
 pub mod judging;
 pub mod marks;
+#[cfg(test)]
+mod move_tables;
 pub mod proposals;
 mod runs;
 pub mod stream_words;

@@ -1,6 +1,7 @@
 ghost use Rattle.std.specs.Prelude.{◌≡◌, [], IfOk};
 ghost use Rattle.fab_site.specs.Placement.{IsLegal};
 
+use crate::move_tables::wanted_lines;
 use crate::{
     Decision, Mark, Proposal, StreamWords, Verdict, View, accepts, decide, judge, propose,
 };
@@ -255,15 +256,31 @@ fn changes_are_accepted_by_the_tables(rt: HostRuntime) {
     }
 }
 
+// Whether a first move by these words, in a range of 2, is told so at each temperature.
+fn is_told(
+    alloc: Global,
+    placed: &Placed,
+    words: [u32; 4],
+    temperatures: &[u64],
+    wanted: &str,
+) -> Result<bool, Fail> {
+    for t in temperatures {
+        if told_first(alloc, placed, words, *t)?.as_str() != wanted {
+            return Ok(false);
+        }
+    }
+    Ok(true)
+}
+
 #[test]
 fn two_blocks_change_places(rt: HostRuntime) -> Result<(), Fail> {
     let alloc = rt.alloc();
-    let placed = clock_and_two(alloc)?;
     let words = [HALF, HALF, HALF, 0];
     let wanted = "b1 1.1.0 2.2.0 b2 0 yes: 2.2.0 b1 b2";
-    for t in [0, 1, 1_000_000] {
-        assert_eq!(rt; told_first(alloc, &placed, words, t)?.as_str(), wanted);
-    }
+    let placed = clock_and_two(alloc)?;
+    let is_so = is_told(alloc, &placed, words, &[0, 1, 1_000_000], wanted);
+    drop(placed);
+    assert!(rt; is_so?);
     Ok(())
 }
 
@@ -308,19 +325,21 @@ fn a_fixed_logic_block_stays(rt: HostRuntime) -> Result<(), Fail> {
     assert_eq!(rt; proposed(&fixed, 2000, [0; 4]), Some(held));
     // The only block that may move is taken by any word.
     assert_eq!(rt; proposed(&fixed, 2000, [MOST, 0, 0, 0]), Some(held));
-    assert_eq!(rt;
-        told_first(alloc, &fixed, [0, 0, HALF, 0], 0)?.as_str(),
-        "b0 2.1.0 1.2.0 0 yes: 1.2.0 b0 n0"
-    );
+    let wanted = "b0 2.1.0 1.2.0 0 yes: 1.2.0 b0 n0";
+    let is_so = is_told(alloc, &fixed, [0, 0, HALF, 0], &[0], wanted);
+    drop(fixed);
+    assert!(rt; is_so?);
     Ok(())
 }
 
 #[test]
 fn a_block_that_is_only_begun_is_swapped(rt: HostRuntime) -> Result<(), Fail> {
     let alloc = rt.alloc();
-    let begun = two_beside(alloc)?;
     let wanted = "b0 2.1.0 1.1.0 b1 0 yes: 1.1.0 b0 n0 b1 n1";
-    assert_eq!(rt; told_first(alloc, &begun, [0; 4], 0)?.as_str(), wanted);
+    let begun = two_beside(alloc)?;
+    let is_so = is_told(alloc, &begun, [0; 4], &[0], wanted);
+    drop(begun);
+    assert!(rt; is_so?);
     Ok(())
 }
 
@@ -328,10 +347,15 @@ fn a_block_that_is_only_begun_is_swapped(rt: HostRuntime) -> Result<(), Fail> {
 fn nothing_is_proposed_where_no_block_may_move(rt: HostRuntime) -> Result<(), Fail> {
     let alloc = rt.alloc();
     let nothing = Some(Proposal::Nothing);
-    assert_eq!(rt; proposed(&all_fixed(alloc)?, 2000, [HALF; 4]), nothing);
-    assert_eq!(rt; proposed(&empty(alloc)?, 2000, [HALF; 4]), nothing);
+    let fixed = all_fixed(alloc)?;
+    assert_eq!(rt; proposed(&fixed, 2000, [HALF; 4]), nothing);
+    drop(fixed);
     let words = one_move(alloc, &[], [0; 4])?;
-    let verdict = judged(alloc, &empty(alloc)?, &words, 7, 10000, 1000)?;
+    let none = empty(alloc)?;
+    assert_eq!(rt; proposed(&none, 2000, [HALF; 4]), nothing);
+    let judged = judged(alloc, &none, &words, 7, 10000, 1000);
+    drop(none);
+    let verdict = judged?;
     assert_eq!(rt; verdict.k, 7);
     assert_eq!(rt; line_of(alloc, &verdict)?.as_str(), "- 0 no:");
     Ok(())
@@ -599,210 +623,4 @@ fn judgements_are_those_of_another_placer(rt: HostRuntime) -> Result<(), Fail> {
     let told = lines(rt.alloc())?;
     assert_eq!(rt; told.as_str(), wanted_lines());
     Ok(())
-}
-
-// What comes of 200 moves, each on the start placement of seed 5; made by the other placer. On each line stand the
-// swap, the change of cost, whether it is accepted, and the marks.
-fn wanted_lines() -> &'static str {
-    "\
-b10 4.2.0 4.1.0 10000 no: 4.1.0 b10 n7\n\
-- 0 no: 3.1.0 b6\n\
-b10 4.2.0 4.3.0 10000 no: 4.3.0 b10 n7\n\
-b3 5.1.1 4.4.1 10000 no: 4.4.1 b3 n3\n\
-b0 1.4.1 2.4.0 b1 0 yes: 2.4.0 b0 b1 n1\n\
-b3 5.1.1 5.2.1 0 yes: 5.2.1 b3 n3\n\
-b4 1.3.0 3.3.0 -10828 yes: 3.3.0 b4 n1 n2\n\
-b4 1.3.0 2.1.0 -21656 yes: 2.1.0 b4 n1 n2\n\
-- 0 no: 1.2.0 b4\n\
-- 0 no: 1.4.1 b0\n\
-- 0 no: 1.3.0 b4\n\
-b3 5.1.1 2.4.1 0 yes: 2.4.1 b3 n3\n\
-- 0 no: 2.2.0 b7\n\
-- 0 no: 5.1.1 b3\n\
-b8 1.1.0 2.3.0 -20000 yes: 2.3.0 b8 n5 n6\n\
-b8 1.1.0 3.2.0 b7 -10828 yes: 3.2.0 b8 n5 n6 b7 n2 n4 n5\n\
-b3 5.1.1 5.2.1 0 yes: 5.2.1 b3 n3\n\
-- 0 no: 2.2.0 b4\n\
-b10 4.2.0 4.1.0 10000 no: 4.1.0 b10 n7\n\
-b3 5.1.1 1.0.0 -10000 yes: 1.0.0 b3 n3\n\
-b1 2.4.0 2.4.1 0 yes: 2.4.1 b1 n1\n\
-b0 1.4.1 2.4.0 b1 0 yes: 2.4.0 b0 b1 n1\n\
-b0 1.4.1 3.4.0 0 yes: 3.4.0 b0\n\
-b0 1.4.1 1.0.0 0 yes: 1.0.0 b0\n\
-- 0 no: 2.2.0 b7\n\
-- 0 no: 2.2.0 b4\n\
-- 0 no: 4.2.0 b10\n\
-b8 1.1.0 3.1.0 b6 -10828 yes: 3.1.0 b8 n5 n6 b6 n1 n3 n4\n\
-b10 4.2.0 3.2.0 b7 20828 yes: 3.2.0 b10 n7 b7 n2 n4 n5\n\
-b1 2.4.0 1.4.0 0 yes: 1.4.0 b1 n1\n\
-b3 5.1.1 4.0.1 0 yes: 4.0.1 b3 n3\n\
-b8 1.1.0 2.3.0 -20000 yes: 2.3.0 b8 n5 n6\n\
-- 0 no: 5.1.1 b3\n\
-- 0 no: 1.2.0 b4\n\
-b6 3.1.0 1.3.0 b4 19172 no: 1.3.0 b6 n1 n3 n4 b4 n1 n2\n\
-b6 3.1.0 2.1.0 -828 yes: 2.1.0 b6 n1 n3 n4\n\
-- 0 no: 2.4.0 b1\n\
-- 0 no: 2.2.0 b4\n\
-b3 5.1.1 3.0.0 -10000 yes: 3.0.0 b3 n3\n\
-b7 3.2.0 3.3.0 20000 no: 3.3.0 b7 n2 n4 n5\n\
-- 0 no: 1.3.0 b4\n\
-b10 4.2.0 4.3.0 10000 no: 4.3.0 b10 n7\n\
-b4 1.3.0 3.2.0 b7 9172 no: 3.2.0 b4 n1 n2 b7 n2 n4 n5\n\
-b3 5.1.1 2.4.0 b1 10828 yes: 2.4.0 b3 n3 b1 n1\n\
-- 0 no: 1.2.0 b8\n\
-b6 3.1.0 4.2.0 b10 0 yes: 4.2.0 b6 n1 n3 n4 b10 n7\n\
-b8 1.1.0 2.3.0 -20000 yes: 2.3.0 b8 n5 n6\n\
-b8 1.1.0 1.3.0 b4 -10828 yes: 1.3.0 b8 n5 n6 b4 n1 n2\n\
-- 0 no: 2.2.0 b8\n\
-- 0 no: 1.2.0 b8\n\
-b7 3.2.0 1.3.0 b4 9172 no: 1.3.0 b7 n2 n4 n5 b4 n1 n2\n\
-b8 1.1.0 3.1.0 b6 -10828 yes: 3.1.0 b8 n5 n6 b6 n1 n3 n4\n\
-b1 2.4.0 1.4.0 0 yes: 1.4.0 b1 n1\n\
-b6 3.1.0 4.2.0 b10 0 yes: 4.2.0 b6 n1 n3 n4 b10 n7\n\
-b8 1.1.0 3.2.0 b7 -10828 yes: 3.2.0 b8 n5 n6 b7 n2 n4 n5\n\
-b1 2.4.0 0.3.1 0 yes: 0.3.1 b1 n1\n\
-b10 4.2.0 3.1.0 b6 0 yes: 3.1.0 b10 n7 b6 n1 n3 n4\n\
-- 0 no: 1.3.0 b4\n\
-b8 1.1.0 3.3.0 -20000 yes: 3.3.0 b8 n5 n6\n\
-b1 2.4.0 1.0.0 0 yes: 1.0.0 b1 n1\n\
-b1 2.4.0 2.4.1 0 yes: 2.4.1 b1 n1\n\
-- 0 no: 2.2.0 b6\n\
-b10 4.2.0 4.1.0 10000 yes: 4.1.0 b10 n7\n\
-b7 3.2.0 4.3.0 50828 yes: 4.3.0 b7 n2 n4 n5\n\
-- 0 no: 3.2.0 b7\n\
-b7 3.2.0 2.1.0 -30828 yes: 2.1.0 b7 n2 n4 n5\n\
-b4 1.3.0 1.1.0 b8 -10828 yes: 1.1.0 b4 n1 n2 b8 n5 n6\n\
-b7 3.2.0 3.1.0 b6 -20828 yes: 3.1.0 b7 n2 n4 n5 b6 n1 n3 n4\n\
-- 0 no: 1.2.0 b4\n\
-b3 5.1.1 5.2.1 0 yes: 5.2.1 b3 n3\n\
-- 0 no: 5.1.1 b3\n\
-- 0 no: 1.2.0 b8\n\
-- 0 no: 1.4.1 b0\n\
-b0 1.4.1 1.4.0 0 yes: 1.4.0 b0\n\
-b6 3.1.0 2.3.0 -12484 yes: 2.3.0 b6 n1 n3 n4\n\
-b0 1.4.1 1.0.0 0 yes: 1.0.0 b0\n\
-- 0 no: 2.2.0 b8\n\
-b1 2.4.0 1.4.0 0 yes: 1.4.0 b1 n1\n\
-b1 2.4.0 0.3.1 0 yes: 0.3.1 b1 n1\n\
-b0 1.4.1 0.2.1 0 yes: 0.2.1 b0\n\
-- 0 no: 1.1.0 b8\n\
-b10 4.2.0 4.1.0 10000 no: 4.1.0 b10 n7\n\
-b7 3.2.0 2.3.0 9172 no: 2.3.0 b7 n2 n4 n5\n\
-- 0 no: 2.2.0 b8\n\
-- 0 no: 2.2.0 b8\n\
-b1 2.4.0 3.4.0 0 yes: 3.4.0 b1 n1\n\
-b10 4.2.0 2.3.0 -10000 yes: 2.3.0 b10 n7\n\
-b7 3.2.0 1.1.0 b8 -10828 yes: 1.1.0 b7 n2 n4 n5 b8 n5 n6\n\
-- 0 no: 2.2.0 b6\n\
-b3 5.1.1 5.2.0 0 yes: 5.2.0 b3 n3\n\
-- 0 no: 2.2.0 b10\n\
-- 0 no: 3.2.0 b7\n\
-b1 2.4.0 3.4.1 0 yes: 3.4.1 b1 n1\n\
-b4 1.3.0 2.3.0 -10828 yes: 2.3.0 b4 n1 n2\n\
-b8 1.1.0 3.3.0 -20000 yes: 3.3.0 b8 n5 n6\n\
-b7 3.2.0 4.1.0 10828 yes: 4.1.0 b7 n2 n4 n5\n\
-- 0 no: 2.2.0 b4\n\
-- 0 no: 2.2.0 b8\n\
-b1 2.4.0 0.3.1 0 yes: 0.3.1 b1 n1\n\
-b6 3.1.0 1.3.0 b4 19172 no: 1.3.0 b6 n1 n3 n4 b4 n1 n2\n\
-- 0 no: 2.2.0 b8\n\
-- 0 no: 1.2.0 b8\n\
-b1 2.4.0 3.4.0 0 yes: 3.4.0 b1 n1\n\
-b3 5.1.1 5.1.0 0 yes: 5.1.0 b3 n3\n\
-- 0 no: 2.2.0 b4\n\
-b0 1.4.1 0.3.0 0 yes: 0.3.0 b0\n\
-b1 2.4.0 3.4.0 0 yes: 3.4.0 b1 n1\n\
-b8 1.1.0 3.2.0 b7 -10828 yes: 3.2.0 b8 n5 n6 b7 n2 n4 n5\n\
-b7 3.2.0 2.3.0 9172 yes: 2.3.0 b7 n2 n4 n5\n\
-- 0 no: 1.4.1 b0\n\
-b10 4.2.0 2.3.0 -10000 yes: 2.3.0 b10 n7\n\
-b7 3.2.0 1.3.0 b4 9172 yes: 1.3.0 b7 n2 n4 n5 b4 n1 n2\n\
-- 0 no: 1.1.0 b8\n\
-- 0 no: 1.2.0 b4\n\
-b4 1.3.0 3.1.0 b6 19172 no: 3.1.0 b4 n1 n2 b6 n1 n3 n4\n\
-b1 2.4.0 5.1.0 10828 no: 5.1.0 b1 n1\n\
-b7 3.2.0 2.3.0 9172 no: 2.3.0 b7 n2 n4 n5\n\
-- 0 no: 1.3.0 b4\n\
-b1 2.4.0 4.4.1 10828 no: 4.4.1 b1 n1\n\
-b1 2.4.0 1.0.1 0 yes: 1.0.1 b1 n1\n\
-- 0 no: 2.2.0 b7\n\
-- 0 no: 2.2.0 b7\n\
-b0 1.4.1 0.3.0 0 yes: 0.3.0 b0\n\
-b0 1.4.1 1.0.1 0 yes: 1.0.1 b0\n\
-- 0 no: 1.4.1 b0\n\
-- 0 no: 1.4.1 b0\n\
-b0 1.4.1 2.4.1 0 yes: 2.4.1 b0\n\
-- 0 no: 2.0.1 b0\n\
-b3 5.1.1 4.0.0 0 yes: 4.0.0 b3 n3\n\
-b8 1.1.0 2.1.0 -20000 yes: 2.1.0 b8 n5 n6\n\
-b6 3.1.0 2.1.0 -828 yes: 2.1.0 b6 n1 n3 n4\n\
-b6 3.1.0 3.2.0 b7 -20828 yes: 3.2.0 b6 n1 n3 n4 b7 n2 n4 n5\n\
-b3 5.1.1 5.2.0 0 yes: 5.2.0 b3 n3\n\
-- 0 no: 1.3.0 b4\n\
-b8 1.1.0 3.2.0 b7 -10828 yes: 3.2.0 b8 n5 n6 b7 n2 n4 n5\n\
-b8 1.1.0 3.2.0 b7 -10828 yes: 3.2.0 b8 n5 n6 b7 n2 n4 n5\n\
-b8 1.1.0 2.1.0 -20000 yes: 2.1.0 b8 n5 n6\n\
-b10 4.2.0 3.2.0 b7 20828 yes: 3.2.0 b10 n7 b7 n2 n4 n5\n\
-b10 4.2.0 3.1.0 b6 0 yes: 3.1.0 b10 n7 b6 n1 n3 n4\n\
-b3 5.1.1 1.0.1 -10000 yes: 1.0.1 b3 n3\n\
-b1 2.4.0 3.4.0 0 yes: 3.4.0 b1 n1\n\
-- 0 no: 1.3.0 b4\n\
-b3 5.1.1 3.0.1 -10000 yes: 3.0.1 b3 n3\n\
-b1 2.4.0 1.0.1 0 yes: 1.0.1 b1 n1\n\
-b1 2.4.0 2.4.1 0 yes: 2.4.1 b1 n1\n\
-- 0 no: 1.2.0 b8\n\
-b3 5.1.1 3.0.0 -10000 yes: 3.0.0 b3 n3\n\
-b0 1.4.1 5.2.1 0 yes: 5.2.1 b0\n\
-- 0 no: 3.1.0 b6\n\
-- 0 no: 1.3.0 b4\n\
-b1 2.4.0 4.4.1 10828 no: 4.4.1 b1 n1\n\
-b4 1.3.0 3.3.0 -10828 yes: 3.3.0 b4 n1 n2\n\
-- 0 no: 2.2.0 b7\n\
-b0 1.4.1 0.3.0 0 yes: 0.3.0 b0\n\
-b4 1.3.0 2.1.0 -21656 yes: 2.1.0 b4 n1 n2\n\
-b1 2.4.0 4.0.1 10828 yes: 4.0.1 b1 n1\n\
-- 0 no: 2.2.0 b8\n\
-b10 4.2.0 4.3.0 10000 yes: 4.3.0 b10 n7\n\
-b8 1.1.0 2.1.0 -20000 yes: 2.1.0 b8 n5 n6\n\
-- 0 no: 1.2.0 b4\n\
-- 0 no: 4.2.0 b10\n\
-b10 4.2.0 3.1.0 b6 0 yes: 3.1.0 b10 n7 b6 n1 n3 n4\n\
-b10 4.2.0 4.3.0 10000 no: 4.3.0 b10 n7\n\
-b8 1.1.0 3.3.0 -20000 yes: 3.3.0 b8 n5 n6\n\
-- 0 no: 1.3.0 b4\n\
-b3 5.1.1 5.2.0 0 yes: 5.2.0 b3 n3\n\
-- 0 no: 2.2.0 b7\n\
-b1 2.4.0 0.1.0 0 yes: 0.1.0 b1 n1\n\
-b1 2.4.0 1.4.1 b0 0 yes: 1.4.1 b1 n1 b0\n\
-b6 3.1.0 2.1.0 -828 yes: 2.1.0 b6 n1 n3 n4\n\
-- 0 no: 3.1.0 b6\n\
-b4 1.3.0 2.3.0 -10828 yes: 2.3.0 b4 n1 n2\n\
-- 0 no: 3.1.0 b6\n\
-b10 4.2.0 4.3.0 10000 yes: 4.3.0 b10 n7\n\
-b1 2.4.0 4.4.1 10828 yes: 4.4.1 b1 n1\n\
-b3 5.1.1 5.3.1 10000 yes: 5.3.1 b3 n3\n\
-- 0 no: 1.1.0 b8\n\
-- 0 no: 2.2.0 b6\n\
-- 0 no: 1.3.0 b4\n\
-b8 1.1.0 1.3.0 b4 -10828 yes: 1.3.0 b8 n5 n6 b4 n1 n2\n\
-b6 3.1.0 4.1.0 20828 no: 4.1.0 b6 n1 n3 n4\n\
-b7 3.2.0 4.3.0 50828 no: 4.3.0 b7 n2 n4 n5\n\
-b4 1.3.0 3.2.0 b7 9172 no: 3.2.0 b4 n1 n2 b7 n2 n4 n5\n\
-b8 1.1.0 2.3.0 -20000 yes: 2.3.0 b8 n5 n6\n\
-- 0 no: 4.2.0 b10\n\
-- 0 no: 2.2.0 b7\n\
-- 0 no: 1.2.0 b8\n\
-- 0 no: 1.1.0 b8\n\
-- 0 no: 2.2.0 b8\n\
-b4 1.3.0 2.3.0 -10828 yes: 2.3.0 b4 n1 n2\n\
-b7 3.2.0 1.3.0 b4 9172 yes: 1.3.0 b7 n2 n4 n5 b4 n1 n2\n\
-- 0 no: 1.1.0 b8\n\
-- 0 no: 2.4.0 b1\n\
-b3 5.1.1 5.2.0 0 yes: 5.2.0 b3 n3\n\
-b7 3.2.0 2.3.0 9172 no: 2.3.0 b7 n2 n4 n5\n\
-b3 5.1.1 1.0.0 -10000 yes: 1.0.0 b3 n3\n\
-b7 3.2.0 2.1.0 -30828 yes: 2.1.0 b7 n2 n4 n5\n\
-b3 5.1.1 5.2.1 0 yes: 5.2.1 b3 n3\n\
-b8 1.1.0 2.1.0 -20000 yes: 2.1.0 b8 n5 n6\n\
-- 0 no: 1.2.0 b4\n"
 }

@@ -1,5 +1,6 @@
 -- What a run answers and writes (our own): the annealing of its design one move at a time, from the start placement that the
--- seed's words draw. No batch, worker or snapshot occurs here.
+-- seed's words draw. No snapshot occurs here; batch and workers occur where their limits are checked, and the batch where moves
+-- that are judged again are counted.
 use Rattle.std.specs.Prelude.{ℕ, ◌≡◌, ◌⊎◌, List, Option, take}
 use Rattle.std.specs.Io.KnownBytes.{Appends}
 use Rattle.fab_text.specs.Lines.{lines}

@@ -100,6 +100,7 @@ pub(crate) fn anneal_beside<J: Naming + Send + Sync, W: Sink, R: Threads + Wait 
     ensures sound { OnOk result (W.failed report.new ≡ W.failed report.old) }
     ensures fault { IfErr result (λ e. ((e ≡ NoMemory) × (W.failed report.new ≡ W.failed report.old)) ⊎ ((e ≡ Report) × (W.failed report.new ≡ grown (W.failed report.old)))) }
 {
+    // Both closures use it, and may not hold one variable.
     let heap = alloc;
     let (_, told) = join_mut(
         rt,

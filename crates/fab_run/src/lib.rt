@@ -6,16 +6,10 @@ mod crews;
 mod designs;
 pub mod fault;
 pub mod inputs;
-#[cfg(test)]
-mod narrow;
 pub mod placing;
-#[cfg(test)]
-mod placing_tests;
 mod report;
 mod setting;
 mod stages;
-#[cfg(test)]
-mod tests;
 
 pub use check::check_run;
 pub use fault::{RunFault, fault_line};

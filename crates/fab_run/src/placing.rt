@@ -137,7 +137,7 @@ fn anneal_told<'a, J: Naming + Send + Sync, W: Sink, R: Threads + Wait + Sync>(
     options: &Options,
     report: &mut W,
 ) -> Result<Outcome, RunFault>
-    requires book { opened.seen.book ≡ J.book }
+    requires book { opened ≡ J.book }
     requires room { Holds grid.now (logic_count design.now) (pad_count design.now) }
     requires pins { ArePins design.now grid.now pins.fixed pins.begun }
     requires limits { (1 ≤ options.now.batch) × (options.now.batch ≤ 4096) × (1 ≤ options.now.workers) × (options.now.workers ≤ 64) }
@@ -193,7 +193,7 @@ pub fn place_run<R: AllocGlobal + Threads + Wait + Sync, W: Sink, P: Sink>(
 ) -> Result<Outcome, RunFault>
     // The headline: placement, accepted moves, costs, report and place text are those of annealing one move at a time.
     ensures headline { IfOk result (λ out. IsPlaced (texts_of inputs.now) options.now out.placement out.accepted.items out.costs.items (W.contents report.old) (W.contents report.new) (P.contents place.old) (P.contents place.new)) }
-    // The moves that were judged again are told by the batch alone: no worker occurs here.
+    // How many moves were judged again is told by setting, seed and batch, and not by the number of workers.
     ensures redone { IfOk result (λ out. (s : Setting) × IsSetting (texts_of inputs.now) options.now s × AreRedone s options.now.seed options.now.batch out.redone) }
     // Where no check fails, it is answered, unless memory or a writer fails.
     ensures only { (s : Setting) → IsSetting (texts_of inputs.now) options.now s → IfErr result (λ e. ¬ IsRefusal e) }

@@ -4,8 +4,6 @@
 pub mod fault;
 pub mod move_count;
 pub mod schedules;
-#[cfg(test)]
-mod tests;
 
 pub use fault::SchedFault;
 pub use move_count::moves_of;

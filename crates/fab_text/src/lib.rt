@@ -7,8 +7,6 @@ pub mod output;
 pub mod pieces;
 pub mod printing;
 pub mod reading;
-#[cfg(test)]
-mod tests;
 
 pub use numbers::{NumFault, decimal};
 pub use output::{Counted, Sink, WriteFault, write_whole};

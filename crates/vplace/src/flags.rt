@@ -28,8 +28,8 @@ const AFTER: &str =
 
 Exit status:
   0  done
-  1  a file is refused, or the design does not fit on the array
-  2  the command line is wrong, or one of its numbers is out of its range
+  1  a file or the size of the array is refused, or the design does not fit on it
+  2  the command line is wrong, or another of its numbers is out of its range
   3  there is no memory
   4  a file cannot be read or written, or the report cannot be written";
 

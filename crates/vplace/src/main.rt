@@ -1,17 +1,25 @@
 //! `vplace`, the program: its words, the files that they name, and what is said on the two outputs.
 #![tactic(auto)]
 
+#[cfg(test)]
+mod check_tests;
 mod checking;
 mod example;
 mod files;
 mod flags;
 mod messages;
+#[cfg(test)]
+mod narrow;
 mod place_flags;
 mod placing;
 #[cfg(test)]
 mod placing_tests;
 mod program;
 mod reading;
+#[cfg(test)]
+mod run_tests;
+#[cfg(test)]
+mod schedule_tests;
 mod status;
 #[cfg(test)]
 mod tests;

@@ -2,39 +2,13 @@
 
 use crate::files::{NamedFiles, ReadFault, WriteFault};
 use crate::program::program;
+use crate::run_tests::{ARCH, NET, PADS, PLACE, REPORT};
 use fab_text::Counted;
 use std::alloc::{AllocError, Global};
 use std::cell::RefCell;
 use std::sync::Wait;
 use std::test::*;
 use std::thread::Threads;
-
-const ARCH: &[u8] = b"io_rat 1\ninpin class: 0 left\noutpin class: 1 right\n";
-
-const NET: &[u8] =
-    b".input a\npinlist: n1\n.output z\npinlist: n2\n.clb b\npinlist: n1 n2\nsubblock: b 0 1\n";
-
-const PADS: &[u8] = b"a 0 1 0\nz 2 1 0\n";
-
-const REPORT: &[u8] = b"blocks 3 logic 1 pads 2 nets 2 array 1 x 1
-start cost 4.0000
-stage 0 t 10.0000 range 1.000 moves 3 accepted 0 cost 4.0000
-stage 1 t 5.0000 range 1.000 moves 3 accepted 0 cost 4.0000
-stage 2 t 2.5000 range 1.000 moves 3 accepted 0 cost 4.0000
-stage 3 t 1.2500 range 1.000 moves 3 accepted 0 cost 4.0000
-frozen range 1.000 moves 3 accepted 0 cost 4.0000
-final cost 4.0000 accepted 0 of 15
-";
-
-const PLACE: &[u8] = b"Netlist file: t.net   Architecture file: t.arch
-Array size: 1 x 1 logic blocks
-
-#block name\tx\ty\tsubblk\tblock number
-#----------\t--\t--\t------\t------------
-a\t0\t1\t0\t#0
-z\t2\t1\t0\t#1
-b\t1\t1\t0\t#2
-";
 
 // The files of the design; what is written to `t.place` is kept, and any other file is refused.
 #[derive(Drop)]

@@ -1,13 +1,12 @@
 // The program in memory: its words, the files that it reads, what it writes, and its status.
 
 use crate::files::{NamedFiles, ReadFault, WriteFault};
+use crate::narrow::Narrow;
 use crate::program::program;
 use crate::words::{as_bytes, as_text};
 use fab_text::Counted;
 use std::alloc::{AllocError, Global};
 use std::cell::Cell;
-use std::io;
-use std::io::Write;
 use std::sync::Wait;
 use std::test::*;
 use std::thread::Threads;
@@ -59,29 +58,6 @@ impl NamedFiles for Shelf {
     // A check writes no file.
     fn write(&self, _alloc: Global, _name: &[u8], _bytes: &[u8]) -> Result<(), WriteFault> {
         Err(WriteFault)
-    }
-}
-
-// Takes so many bytes, and then fails.
-#[derive(Drop)]
-struct Narrow {
-    taken: Vec<u8>,
-    room: usize,
-}
-
-impl Write for Narrow {
-    fn write(&mut self, bytes: &[u8]) -> io::Result<usize> {
-        if self.room == 0 {
-            return Err(io::Error::from(io::ErrorKind::StorageFull));
-        }
-        let taken = self.room.min(bytes.len());
-        self.taken.extend_from_slice(&bytes[..taken])?;
-        self.room -= taken;
-        Ok(taken)
-    }
-
-    fn flush(&mut self) -> io::Result<()> {
-        Ok(())
     }
 }
 

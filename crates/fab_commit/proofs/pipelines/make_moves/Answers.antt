@@ -1,6 +1,7 @@
+use Rattle.std.proofs.Common.{refl}
 use Rattle.std.specs.Arc.{arc_value}
 use Rattle.fab_commit.specs.Commits.{run_for}
-use Rattle.fab_commit.proofs.Pipelining.{counted_after, due_same, made_after, made_none, nothing_counted}
+use Rattle.fab_commit.proofs.Pipelining.{counted_after, due_same, made_after, made_none, no_answers, nothing_counted, nothing_made}
 use Rattle.fab_commit.proofs.pipelines.make_moves.Goals as goal
 
 pub returns-in_err-reserve-clause-made : goal.returns-in_err-reserve-clause-made
@@ -32,3 +33,18 @@ pub returns-clause-redone : goal.returns-clause-redone
 returns-clause-redone g c =
     let r = run_for g.W.Words.moves (arc_value c.args.given.now) in
     counted_after r c.args.owner.now c.reserve.new.owner c.judge_and_commit.new.owner c.args.base c.args.ahead.now (c.in_ok-reserve.ensures.same r c.requires.owned) c.in_ok-reserve.ensures.stamps c.in_ok-reserve.ensures.redone c.judge_and_commit.ensures.redone
+
+pub returns-then-next-eq0-clause-made : goal.returns-then-next-eq0-clause-made
+returns-then-next-eq0-clause-made g c =
+    let r = run_for g.W.Words.moves (arc_value c.args.given.now) in
+    nothing_made r c.args.owner.now c.requires.owned
+
+pub returns-then-next-eq0-clause-redone : goal.returns-then-next-eq0-clause-redone
+returns-then-next-eq0-clause-redone g c =
+    let r = run_for g.W.Words.moves (arc_value c.args.given.now) in
+    nothing_counted r c.args.owner.now c.args.owner.now c.args.base c.args.ahead.now refl refl
+
+pub returns-then-next-eq0-clause-answers : goal.returns-then-next-eq0-clause-answers
+returns-then-next-eq0-clause-answers g c =
+    let r = run_for g.W.Words.moves (arc_value c.args.given.now) in
+    no_answers r _ _ _ c.new.ensures.items

@@ -1,6 +1,6 @@
 ghost use Rattle.std.specs.Prelude.{◌≡◌, ◌+◌, ◌%◌, ◌^◌};
 
-use crate::{Lead, Naming, Opened, Task, found, work_all};
+use fab_board::{Lead, Naming, Opened, Task, found, work_all};
 use std::alloc::{AllocError, Global};
 use std::marker::Brand;
 use std::sync::Wait;
@@ -55,7 +55,7 @@ fn owned_as<'a, J: Naming + Send + Sync, O: Owner, R: Threads + Wait + Sync>(
     workers: u64,
     owner: &O,
 ) -> Result<Vec<Vec<u64>>, AllocError>
-    requires { opened.seen.book ≡ J.book }
+    requires { opened ≡ J.book }
 {
     let (crew, lead) = found::<Sums<'a>, u64, J>(alloc, opened, workers)?;
     thread::scope(thread::scope_env(), rt, move |scope| {

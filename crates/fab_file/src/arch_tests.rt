@@ -1,4 +1,4 @@
-use crate::{ArchFault, Grid, GridFault, PinKind, Site, SiteKind, read_arch};
+use fab_arch::{ArchFault, Grid, GridFault, PinKind, Site, SiteKind, read_arch};
 use std::alloc::Global;
 use std::test::*;
 

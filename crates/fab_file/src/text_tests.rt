@@ -1,4 +1,4 @@
-use crate::{
+use fab_text::{
     Counted, Lines, NumFault, Sink, Span, WriteFault, decimal, push_fixed3, push_fixed4,
     push_number, write_whole,
 };

@@ -1,6 +1,6 @@
 ghost use Rattle.std.specs.Prelude.{◌≡◌, true, IfOk};
 
-use crate::{Board, ClaimSeat, Gate, NoGate, judge_batch};
+use fab_board::{Board, ClaimSeat, Gate, NoGate, judge_batch};
 use std::alloc::{AllocError, Global};
 use std::sync::Wait;
 use std::sync::atomic::{AtomicU64, Ordering};

@@ -1,6 +1,6 @@
 ghost use Rattle.std.specs.Prelude.{◌≤◌};
 
-use crate::{Cooling, SchedFault, Schedule, Stage, moves_of, stages_are_lawful};
+use fab_sched::{Cooling, SchedFault, Schedule, Stage, moves_of, stages_are_lawful};
 use std::test::*;
 
 const LARGEST: u64 = 1_073_741_824;

@@ -1,5 +1,5 @@
 use Rattle.fab_sched.specs.Annealing.{IsStage}
-use Rattle.fab_sched.proofs.tests.are_stages.Given as goal
+use Rattle.vplace.proofs.schedule_tests.are_stages.Given as goal
 
 abbrev pub invariant-rows : goal.invariant-rows
 invariant-rows l = IsStage l.schedule l.side l.stage

@@ -1,11 +1,9 @@
 // Whole runs: a design of three blocks whose every move finds its block's own site, and one of seven blocks whose answers were
 // made by an independent placer.
 
-use crate::fault::RunFault;
-use crate::inputs::{Inputs, Moves, Options};
 use crate::narrow::Narrow;
-use crate::place_run;
 use fab_file::Labels;
+use fab_run::{Inputs, Moves, Options, RunFault, fault_line, place_run};
 use fab_sched::Cooling;
 use fab_text::{Counted, push_number};
 use std::alloc::{AllocError, Global};
@@ -13,14 +11,14 @@ use std::sync::Wait;
 use std::test::*;
 use std::thread::Threads;
 
-const ARCH: &[u8] = b"io_rat 1\ninpin class: 0 left\noutpin class: 1 right\n";
+pub const ARCH: &[u8] = b"io_rat 1\ninpin class: 0 left\noutpin class: 1 right\n";
 
-const NET: &[u8] =
+pub const NET: &[u8] =
     b".input a\npinlist: n1\n.output z\npinlist: n2\n.clb b\npinlist: n1 n2\nsubblock: b 0 1\n";
 
-const PADS: &[u8] = b"a 0 1 0\nz 2 1 0\n";
+pub const PADS: &[u8] = b"a 0 1 0\nz 2 1 0\n";
 
-const REPORT: &[u8] = b"blocks 3 logic 1 pads 2 nets 2 array 1 x 1
+pub const REPORT: &[u8] = b"blocks 3 logic 1 pads 2 nets 2 array 1 x 1
 start cost 4.0000
 stage 0 t 10.0000 range 1.000 moves 3 accepted 0 cost 4.0000
 stage 1 t 5.0000 range 1.000 moves 3 accepted 0 cost 4.0000
@@ -30,7 +28,7 @@ frozen range 1.000 moves 3 accepted 0 cost 4.0000
 final cost 4.0000 accepted 0 of 15
 ";
 
-const PLACE: &[u8] = b"Netlist file: t.net   Architecture file: t.arch
+pub const PLACE: &[u8] = b"Netlist file: t.net   Architecture file: t.arch
 Array size: 1 x 1 logic blocks
 
 #block name\tx\ty\tsubblk\tblock number
@@ -99,7 +97,7 @@ fn run_narrow(
             push_all(&mut told, b"redone", &[outcome.redone])?;
         }
         Err(fault) => {
-            let line = crate::fault_line(alloc, &fault, inputs.net)?;
+            let line = fault_line(alloc, &fault, inputs.net)?;
             told.extend_from_slice(&line)?;
         }
     }

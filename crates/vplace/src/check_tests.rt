@@ -1,22 +1,23 @@
 use crate::narrow::Narrow;
-use crate::{RunFault, check_run, fault_line};
+use crate::run_tests::{ARCH, NET};
 use fab_arch::{ArchFault, GridFault};
 use fab_file::PlaceFault;
 use fab_net::NetFault;
+use fab_run::{RunFault, check_run, fault_line};
 use fab_text::{Counted, Span};
 use std::alloc::{AllocError, Global};
 use std::process::Abort;
 use std::test::*;
 
 // Six words: `b1` from 5 to 7, `n2` from 25 to 27.
-const NET: &[u8] = b".clb b1\n.clb b2\npinlist: n2\n";
+const NAMED_NET: &[u8] = b".clb b1\n.clb b2\npinlist: n2\n";
 
 fn assert_lines(
     rt: &(impl Abort + AllocGlobal),
     told: &[(RunFault, &[u8])],
 ) -> Result<(), AllocError> {
     for (fault, line) in told {
-        let made = fault_line(rt.alloc(), fault, NET)?;
+        let made = fault_line(rt.alloc(), fault, NAMED_NET)?;
         assert_eq!(rt; made.as_slice(), *line);
     }
     Ok(())
@@ -185,12 +186,6 @@ fn a_name_of_any_bytes_is_told(rt: HostRuntime) -> Result<(), Fail> {
     Ok(())
 }
 
-const PAIR_ARCH: &[u8] = b"io_rat 1\ninpin class: 0 left\noutpin class: 1 right\n";
-
-// A pad `a`, a pad `z` and a logic block `b`.
-const PAIR_NET: &[u8] =
-    b".input a\npinlist: n1\n.output z\npinlist: n2\n.clb b\npinlist: n1 n2\nsubblock: b 0 1\n";
-
 const PAIR_PLACE: &[u8] =
     b"Netlist file: t.net Architecture file: t.arch\nArray size: 1 x 1 logic blocks\na 0 1 0\nz 2 1 0\nb 1 1 0\n";
 
@@ -213,12 +208,12 @@ fn lawful_texts_are_reported(rt: HostRuntime) -> Result<(), Fail> {
     let empty: &[u8] = b"Netlist file: t Architecture file: t\nArray size: 1 x 1 logic blocks\n";
     let rows: [([&[u8]; 3], u64, &[u8]); 2] = [
         (
-            [PAIR_ARCH, PAIR_NET, PAIR_PLACE],
+            [ARCH, NET, PAIR_PLACE],
             40_000,
             b"legal 3 blocks on a 1 x 1 array\ncost 4.0000\n",
         ),
         (
-            [PAIR_ARCH, b"", empty],
+            [ARCH, b"", empty],
             0,
             b"legal 0 blocks on a 1 x 1 array\ncost 0.0000\n",
         ),
@@ -241,15 +236,12 @@ fn the_first_check_that_fails_is_answered(rt: HostRuntime) -> Result<(), Fail> {
         b".input a\npinlist: a\n.input b\npinlist: b\n.input c\npinlist: c\n.input d\npinlist: d\n.input e\npinlist: e\n";
     let rows: [([&[u8]; 3], RunFault); 7] = [
         ([b"", b"x", b""], ArchFault::NoIoRat.into()),
-        ([PAIR_ARCH, b"x", b""], NetFault::UnknownWord(1).into()),
-        ([PAIR_ARCH, crowded, b""], PlaceFault::BadHeader.into()),
-        ([PAIR_ARCH, crowded, huge], GridFault::SizeOutOfRange.into()),
-        (
-            [PAIR_ARCH, crowded, small],
-            GridFault::TooFewLogicSites.into(),
-        ),
-        ([PAIR_ARCH, pads, small], GridFault::TooFewPadSites.into()),
-        ([PAIR_ARCH, PAIR_NET, small], PlaceFault::BadLine(3).into()),
+        ([ARCH, b"x", b""], NetFault::UnknownWord(1).into()),
+        ([ARCH, crowded, b""], PlaceFault::BadHeader.into()),
+        ([ARCH, crowded, huge], GridFault::SizeOutOfRange.into()),
+        ([ARCH, crowded, small], GridFault::TooFewLogicSites.into()),
+        ([ARCH, pads, small], GridFault::TooFewPadSites.into()),
+        ([ARCH, NET, small], PlaceFault::BadLine(3).into()),
     ];
     for (texts, fault) in rows {
         let (answer, report) = check(rt.alloc(), texts, 1000)?;
@@ -263,7 +255,7 @@ fn the_first_check_that_fails_is_answered(rt: HostRuntime) -> Result<(), Fail> {
 fn a_report_that_fails_is_told(rt: HostRuntime) -> Result<(), Fail> {
     let whole: &[u8] = b"legal 3 blocks on a 1 x 1 array\ncost 4.0000\n";
     for room in 0..whole.len() {
-        let (answer, report) = check(rt.alloc(), [PAIR_ARCH, PAIR_NET, PAIR_PLACE], room)?;
+        let (answer, report) = check(rt.alloc(), [ARCH, NET, PAIR_PLACE], room)?;
         assert_eq!(rt; answer, Err(RunFault::Report));
         assert_eq!(rt; report.as_slice(), &whole[..room]);
     }

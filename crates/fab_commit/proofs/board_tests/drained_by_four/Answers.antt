@@ -1,6 +1,6 @@
 use Rattle.std.proofs.Common.{◌≡◌, ◌<◌, List, [], ◌∷◌, length, true, All, Any, refl, ◌∙◌, arith, rules}
 use Rattle.fab_board.specs.Views.{SeatModel}
-use Rattle.fab_board.proofs.tests.drained_by_four.Goals as goal
+use Rattle.fab_commit.proofs.board_tests.drained_by_four.Goals as goal
 
 any_told : (xs : List SeatModel) → 0 < length xs → All (λ s. s.told ≡ true) xs → Any (λ s. s.told ≡ true) xs
 any_told [] l h = absurd (omega arith)
