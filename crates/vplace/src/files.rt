@@ -2,7 +2,7 @@
 
 use std::alloc::Global;
 use std::fs::OpenOptions;
-use std::io::{ErrorKind, Write};
+use std::io::{Error, ErrorKind, Write};
 use std::rt::Files;
 use std::{fs, str};
 
@@ -18,9 +18,23 @@ pub enum ReadFault {
     NoMemory,
 }
 
-/// A file was not written. Where it is a plain file, what lay there before still does.
+/// Why a file was not written. Where it is a plain file, what lay there before still does.
 #[derive(Clone, Copy, Debug, PartialEq, Eq)]
-pub struct WriteFault;
+pub enum WriteFault {
+    /// The system makes no such file, or does not take its bytes.
+    Unwritable,
+    /// There was no memory to write it.
+    NoMemory,
+}
+
+impl WriteFault {
+    fn of(error: &Error) -> Self {
+        match error.kind() {
+            ErrorKind::OutOfMemory => WriteFault::NoMemory,
+            _ => WriteFault::Unwritable,
+        }
+    }
+}
 
 /// Files that are read and written by their names. A name is any bytes.
 pub trait NamedFiles {
@@ -63,12 +77,12 @@ impl<R: Files + AllocGlobal> NamedFiles for HostFiles<'_, R> {
     /// device, a pipe, a link) is written as it stands.
     fn write(&self, alloc: Global, name: &[u8], bytes: &[u8]) -> Result<(), WriteFault> {
         let Ok(name) = str::from_utf8(name) else {
-            return Err(WriteFault);
+            return Err(WriteFault::Unwritable);
         };
         if self.is_replaceable(name) {
             self.replace(alloc, name, bytes)
         } else {
-            fs::write(self.rt, name, bytes).map_err(|_| WriteFault)
+            fs::write(self.rt, name, bytes).map_err(|error| WriteFault::of(&error))
         }
     }
 }
@@ -86,9 +100,9 @@ impl<R: Files + AllocGlobal> HostFiles<'_, R> {
 
     fn replace(&self, alloc: Global, name: &str, bytes: &[u8]) -> Result<(), WriteFault> {
         let beside = self.write_beside(alloc, name, bytes)?;
-        if fs::rename(self.rt, beside.as_str(), name).is_err() {
+        if let Err(error) = fs::rename(self.rt, beside.as_str(), name) {
             let _ = fs::remove_file(self.rt, beside.as_str());
-            return Err(WriteFault);
+            return Err(WriteFault::of(&error));
         }
         Ok(())
     }
@@ -97,20 +111,20 @@ impl<R: Files + AllocGlobal> HostFiles<'_, R> {
     fn write_beside(&self, alloc: Global, name: &str, bytes: &[u8]) -> Result<String, WriteFault> {
         for number in 0..MOST_BESIDE {
             let Ok(beside) = format!(in alloc; "{name}.{number}.part") else {
-                return Err(WriteFault);
+                return Err(WriteFault::NoMemory);
             };
             match fs::File::create_new(self.rt, beside.as_str()) {
                 Ok(mut file) => {
-                    if file.write_all(bytes).is_err() {
+                    if let Err(error) = file.write_all(bytes) {
                         let _ = fs::remove_file(self.rt, beside.as_str());
-                        return Err(WriteFault);
+                        return Err(WriteFault::of(&error));
                     }
                     return Ok(beside);
                 }
                 Err(error) if error.kind() == ErrorKind::AlreadyExists => {}
-                Err(_) => return Err(WriteFault),
+                Err(error) => return Err(WriteFault::of(&error)),
             }
         }
-        Err(WriteFault)
+        Err(WriteFault::Unwritable)
     }
 }

@@ -14,7 +14,7 @@ ghost use Rattle.vplace.specs.Status.{IsRefused, status_of};
 ghost use Rattle.vplace.specs.Asked.{AreAsked, IsCoolingAsked, size_asked};
 ghost use Rattle.vplace.specs.Placing.{IsPlacedText};
 
-use crate::files::NamedFiles;
+use crate::files::{NamedFiles, WriteFault};
 use crate::messages;
 use crate::messages::{Number, Role};
 use crate::reading::read_role;
@@ -182,7 +182,8 @@ pub fn place_files<R: AllocGlobal + Threads + Wait + Sync, F: NamedFiles, O: Sin
     match placed(rt, words, files, out, err) {
         Ok(text) => match files.write(rt.alloc(), words.out.as_slice(), text.as_slice()) {
             Ok(()) => Status::Done,
-            Err(_) => messages::unwritable_place(err),
+            Err(WriteFault::Unwritable) => messages::unwritable_place(err),
+            Err(WriteFault::NoMemory) => messages::no_memory(err),
         },
         Err(status) => status,
     }

@@ -10,7 +10,8 @@ use std::sync::Wait;
 use std::test::*;
 use std::thread::Threads;
 
-// The files of the design; what is written to `t.place` is kept, and any other file is refused.
+// The files of the design; what is written to `t.place` is kept, any other file is refused, and for `huge` there is no
+// memory.
 #[derive(Drop)]
 struct Desk {
     placed: RefCell<Option<Vec<u8>>>,
@@ -31,15 +32,18 @@ impl NamedFiles for Desk {
     }
 
     fn write(&self, alloc: Global, name: &[u8], bytes: &[u8]) -> Result<(), WriteFault> {
+        if name == b"huge".as_slice() {
+            return Err(WriteFault::NoMemory);
+        }
         if name != b"t.place".as_slice() {
-            return Err(WriteFault);
+            return Err(WriteFault::Unwritable);
         }
         match Vec::from_slice(alloc, bytes) {
             Ok(bytes) => match self.placed.try_replace(Some(bytes)) {
                 Ok(_) => Ok(()),
-                Err(_) => Err(WriteFault),
+                Err(_) => Err(WriteFault::Unwritable),
             },
-            Err(_) => Err(WriteFault),
+            Err(_) => Err(WriteFault::NoMemory),
         }
     }
 }
@@ -107,5 +111,15 @@ fn a_word_without_its_value_places_nothing(rt: HostRuntime) -> Result<(), Fail> 
     let left = run(&rt, words.as_slice())?;
     assert!(rt; left.starts_with(b"2\n"));
     assert!(rt; !left.ends_with(PLACE));
+    Ok(())
+}
+
+#[test]
+fn no_memory_for_the_out_file(rt: HostRuntime) -> Result<(), Fail> {
+    let mut words = WORDS;
+    words[8] = b"huge";
+    let left = run(&rt, words.as_slice())?;
+    let wanted = [b"3\n".as_slice(), REPORT, b"vplace: no memory\n"].concat(rt.alloc())?;
+    assert_eq!(rt; left, wanted);
     Ok(())
 }

@@ -57,7 +57,7 @@ impl NamedFiles for Shelf {
 
     // A check writes no file.
     fn write(&self, _alloc: Global, _name: &[u8], _bytes: &[u8]) -> Result<(), WriteFault> {
-        Err(WriteFault)
+        Err(WriteFault::Unwritable)
     }
 }
 
