@@ -37,7 +37,8 @@ pub fn stamps_tell()
 /// The law of a turn. Verdicts beyond its batch are lost; what is missing of the batch is judged, then the next batch of
 /// the stage; the batch is committed, and the older placement renewed. That leads from behind one turn to behind the next,
 /// where both placements are those of one move at a time, nothing is claimed, and there are verdicts for the next batch
-/// alone, on the placement at the turn's start; a turn that is cut short, for want of memory, leads on with none. A move is redone where a stamp of what it rests on is above its base.
+/// alone, on the placement at the turn's start; a turn that is cut short, for want of memory, leads on with none. A move is
+/// redone where a stamp of what it rests on is above its base.
 pub fn turns_are_serial()
     ensures reached { TurnsAreReached }
     ensures turn { TurnsLeadOn }
