@@ -6,7 +6,6 @@ use crate::rows::Rows;
 use std::marker::Model;
 
 /// A design: blocks numbered in the order of the text, nets by first appearance.
-#[derive(Drop)]
 pub struct Design {
     kinds: Vec<BlockKind>,
     names: BlockNames,
@@ -27,6 +26,20 @@ impl Model for Design {
     ghost view = { λ a. netlist a.kinds.items a.names a.terminals a.globals.items };
 
     ghost invariant = { λ a. ((a.block_nets ≡ nets_by_block (length a.kinds.items) a.terminals a.globals.items) × (a.block_pins ≡ pins_by_block (length a.kinds.items) a.terminals a.globals.items)) × IsLawful (netlist a.kinds.items a.names a.terminals a.globals.items) };
+}
+
+impl Drop for Design {
+    // A `drop` that is called is one step wherever a design goes out of scope; a derived one is proved anew there.
+    fn drop(self) {
+        let Design {
+            kinds: _,
+            names: _,
+            terminals: _,
+            globals: _,
+            block_nets: _,
+            block_pins: _,
+        } = self;
+    }
 }
 
 impl Design {

@@ -8,7 +8,6 @@ use std::alloc::{AllocError, Global};
 use std::marker::Model;
 
 /// The names of nets while a text is read, as parts of the text.
-#[derive(Drop)]
 pub struct NetNames<'a> {
     names: IndexSet<&'a [u8]>,
 }
@@ -19,6 +18,12 @@ impl<'a> Model for NetNames<'a> {
     ghost Value = { List (List ℕ) };
 
     ghost view = { λ a. map (λ n. n.now) a.names.keys };
+}
+
+impl<'a> Drop for NetNames<'a> {
+    fn drop(self) {
+        let NetNames { names: _ } = self;
+    }
 }
 
 impl<'a> NetNames<'a> {
@@ -54,7 +59,6 @@ impl<'a> NetNames<'a> {
 }
 
 /// The names of blocks, of which a design has its own copy.
-#[derive(Drop)]
 pub struct BlockNames {
     names: IndexSet<Vec<u8>>,
 }
@@ -65,6 +69,12 @@ impl Model for BlockNames {
     ghost Value = { List (List ℕ) };
 
     ghost view = { λ a. map (λ n. n.items) a.names.keys };
+}
+
+impl Drop for BlockNames {
+    fn drop(self) {
+        let BlockNames { names: _ } = self;
+    }
 }
 
 impl BlockNames {
