@@ -11,12 +11,10 @@ test:
 edits:
 	@tests/further_edits
 
-# Places a shipped circuit with its pads at given sites, prints the report, and says where the placement lies.
-place: program
-	@mkdir -p out
-	@cd examples && ../crates/vplace/out/vplace place --arch rs232_cl4.arch --net rs232_cl4.net \
-		--pads rs232_cl4.pads --out ../out/rs232_cl4.place
-	@echo 'the placement lies at out/rs232_cl4.place'
+# Places a shipped circuit with its pads at given sites, prints the report, and says where the placement lies. Where the proved program
+# is not built yet, a checked build does it, in two minutes.
+place:
+	@tests/place
 
 # Moves a second with one worker, at four sizes; with BASELINE=PROGRAM also those of another placer, in the same run. Then those
 # with 1, 2 and 4 workers and four batches, at two sizes.
@@ -24,6 +22,7 @@ bench: program
 	@bench/place.sh
 	@bench/turns.sh
 
-# The program, proved and then compiled, at crates/vplace/out/vplace; with no change since, nothing is made anew.
+# The program, proved and then compiled, at crates/vplace/out/vplace: some 25 minutes on four processors, with a line for each crate as it
+# is done. With no change since, nothing is made anew.
 program:
-	@cd crates/vplace && rt run > /dev/null
+	@tests/program

@@ -6,3 +6,4 @@ pub mod Turning
 pub mod Asked
 pub mod Whole
 pub mod Written
+pub mod SameAnswers

@@ -7,5 +7,6 @@ pub mod RunChecks
 pub mod RunReport
 pub mod Piece
 pub mod Placed
+pub mod SameAnswers
 pub mod PieceExamples
 pub mod Stages

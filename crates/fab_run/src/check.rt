@@ -122,6 +122,8 @@ pub fn check_run<W: Sink>(
     ensures only { (d : Netlist) (g : GridShape) (sites : List Site) → AreChecked arch.now net.now place.now d g sites → MatchResult result (λ cost. cost ≡ cost_of d g sites) (λ e. (e ≡ NoMemory) ⊎ (e ≡ Report)) }
     // An error is the first check that fails, or want of memory, or the writer's.
     ensures fault { IfErr result (λ e. FaultOf arch.now net.now place.now e) }
+    // Nothing is written but the report, so no other writer fails.
+    ensures text { IfErr result (λ e. IsTextFault e ⊎ (e ≡ Report)) }
     ensures below { IfOk result (λ cost. cost < 2 ^ 43) }
     // A refusal writes nothing, and a writer that fails has taken a beginning.
     ensures silent { IfErr result (λ e. e ≢ Report → W.contents report.new ≡ W.contents report.old) }

@@ -1,11 +1,15 @@
 -- How checks and runs end.
-use Rattle.std.proofs.Common.{◌≡◌, ◌∙◌, sym, ap, subst, ◌⊎◌, inl, inr, refl}
+use Rattle.std.proofs.Common.{ℕ, ◌≡◌, ◌∙◌, sym, ap, subst, ◌⊎◌, inl, inr, refl}
 use Rattle.fab_run.specs.declared.fault.RunFault.{RunFault}
 use Rattle.fab_run.specs.declared.fault.RunFault.TheVariants as run_fault
 use Rattle.vplace.specs.declared.status.Status.{Status}
 use Rattle.vplace.specs.declared.status.Status.TheVariants as status
 use Rattle.vplace.specs.Status.{IsRefused, status_of}
 use Rattle.fab_file.specs.declared.fault.PlaceFault.TheVariants as place_fault
+use Rattle.fab_text.specs.Failures.{grown}
+use Rattle.fab_arch.specs.declared.fault.ArchFault.TheVariants as arch_fault
+use Rattle.fab_net.specs.declared.fault.NetFault.TheVariants as net_fault
+use Rattle.fab_run.specs.Check.{IsTextFault, report_failed_with}
 use Rattle.fab_run.specs.RunChecks.{IsRefusal}
 
 pub never_refused : (r : Status) (f : RunFault) → (f ≡ run_fault.NoMemory) ⊎ (f ≡ run_fault.Report) → (r ≡ status_of f) ⊎ (r ≡ status.NoMemory) → (r ≡ status.Done) ⊎ ((r ≡ status.NoMemory) ⊎ (r ≡ status.Device))
@@ -78,3 +82,62 @@ no_refusal run_fault.NoMemory h = inl refl
 pub never_refused_by : (r : Status) (e : RunFault) → ¬ (IsRefusal e) → (r ≡ status_of e) ⊎ (r ≡ status.NoMemory) → (r ≡ status.NoMemory) ⊎ (r ≡ status.Device)
 never_refused_by r e h (inl q) = elim (no_refusal e h) [ inl a ↦ inl (q ∙ a) | inr a ↦ inr (q ∙ a) ]
 never_refused_by r e h (inr q) = inl q
+
+-- no fault of a text is that of a device
+no_device : (e : RunFault) → IsTextFault e → status_of e ≡ status.Device → ⊥
+no_device (run_fault.Arch arch_fault.NoIoRat) h q = absurd cc
+no_device (run_fault.Arch (arch_fault.RepeatedIoRat n)) h q = absurd cc
+no_device (run_fault.Arch (arch_fault.BadNumber n)) h q = absurd cc
+no_device (run_fault.Arch (arch_fault.BadPinLine n)) h q = absurd cc
+no_device (run_fault.Arch arch_fault.NoPins) h q = absurd cc
+no_device (run_fault.Arch (arch_fault.TooLarge n)) h q = absurd cc
+no_device (run_fault.Arch arch_fault.NoMemory) h q = absurd cc
+no_device (run_fault.Net (net_fault.UnknownWord n)) h q = absurd cc
+no_device (run_fault.Net (net_fault.NoName n)) h q = absurd cc
+no_device (run_fault.Net (net_fault.PinlistWithoutBlock n)) h q = absurd cc
+no_device (run_fault.Net (net_fault.MissingPinlist n)) h q = absurd cc
+no_device (run_fault.Net (net_fault.PinCount n)) h q = absurd cc
+no_device (run_fault.Net (net_fault.SubblockWithoutLogic n)) h q = absurd cc
+no_device (run_fault.Net (net_fault.DuplicateBlock n)) h q = absurd cc
+no_device (run_fault.Net (net_fault.NoDriver n)) h q = absurd cc
+no_device (run_fault.Net (net_fault.TwoDrivers n)) h q = absurd cc
+no_device (run_fault.Net (net_fault.TooLarge n)) h q = absurd cc
+no_device (run_fault.Net net_fault.NoMemory) h q = absurd cc
+no_device (run_fault.Pads place_fault.BadHeader) h q = absurd cc
+no_device (run_fault.Pads place_fault.WrongSize) h q = absurd cc
+no_device (run_fault.Pads (place_fault.UnknownBlock n)) h q = absurd cc
+no_device (run_fault.Pads (place_fault.Repeated n)) h q = absurd cc
+no_device (run_fault.Pads (place_fault.NoSuchSite n)) h q = absurd cc
+no_device (run_fault.Pads (place_fault.WrongKind n)) h q = absurd cc
+no_device (run_fault.Pads (place_fault.Taken n)) h q = absurd cc
+no_device (run_fault.Pads (place_fault.Missing n)) h q = absurd cc
+no_device (run_fault.Pads (place_fault.NotAPad n)) h q = absurd cc
+no_device (run_fault.Pads (place_fault.BadLine n)) h q = absurd cc
+no_device (run_fault.Pads place_fault.BadLabel) h q = absurd cc
+no_device (run_fault.Pads place_fault.Write) h q = absurd cc
+no_device (run_fault.Pads place_fault.NoMemory) h q = absurd cc
+no_device (run_fault.Place place_fault.BadHeader) h q = absurd cc
+no_device (run_fault.Place place_fault.WrongSize) h q = absurd cc
+no_device (run_fault.Place (place_fault.UnknownBlock n)) h q = absurd cc
+no_device (run_fault.Place (place_fault.Repeated n)) h q = absurd cc
+no_device (run_fault.Place (place_fault.NoSuchSite n)) h q = absurd cc
+no_device (run_fault.Place (place_fault.WrongKind n)) h q = absurd cc
+no_device (run_fault.Place (place_fault.Taken n)) h q = absurd cc
+no_device (run_fault.Place (place_fault.Missing n)) h q = absurd cc
+no_device (run_fault.Place (place_fault.NotAPad n)) h q = absurd cc
+no_device (run_fault.Place (place_fault.BadLine n)) h q = absurd cc
+no_device (run_fault.Place place_fault.BadLabel) h q = absurd cc
+no_device (run_fault.Place place_fault.Write) h q = h
+no_device (run_fault.Place place_fault.NoMemory) h q = absurd cc
+no_device (run_fault.Size e) h q = absurd cc
+no_device (run_fault.Schedule e) h q = absurd cc
+no_device run_fault.BatchOutOfRange h q = absurd cc
+no_device run_fault.WorkersOutOfRange h q = absurd cc
+no_device run_fault.Report h q = h
+no_device run_fault.NoMemory h q = absurd cc
+
+-- so in a check it is that of the report's writer
+pub device_of_check : (r : Status) (e : RunFault) (old new : ℕ) → IsTextFault e ⊎ (e ≡ run_fault.Report) → (r ≡ status_of e) ⊎ (r ≡ status.NoMemory) → new ≡ report_failed_with e old → r ≡ status.Device → new ≡ grown old
+device_of_check r e old new (inl text) (inl s) failed q = absurd (no_device e text (sym s ∙ q))
+device_of_check r e old new (inl text) (inr s) failed q = absurd cc
+device_of_check r e old new (inr is) s failed q = failed ∙ ap (λ f. report_failed_with f old) is

@@ -4,6 +4,7 @@ ghost use Rattle.std.specs.Prelude.{◌≡◌, ◌≢◌, ◌⊎◌, ℕ, List, 
 ghost use Rattle.fab_arch.specs.declared.array.Site.{Site};
 ghost use Rattle.fab_arch.specs.Grid.{GridShape};
 ghost use Rattle.fab_net.specs.Netlist.{Netlist};
+ghost use Rattle.fab_text.specs.Failures.{grown};
 ghost use Rattle.fab_run.specs.Check.{AreChecked, FaultOf, IsReported};
 ghost use Rattle.fab_run.specs.declared.fault.RunFault.{RunFault as RunFaultOf};
 ghost use Rattle.vplace.specs.Status.{status_of};
@@ -79,6 +80,8 @@ pub fn check_texts<O: Sink, E: Sink>(
     // Texts that mean all this are never refused.
     ensures only { (d : Netlist) (g : GridShape) (sites : List Site) → AreChecked arch.now net.now place.now d g sites → (result ≡ Status.Done) ⊎ ((result ≡ Status.NoMemory) ⊎ (result ≡ Status.Device)) }
     ensures silent { result ≡ Status.Refused → O.contents out.new ≡ O.contents out.old }
+    // A device failed only where the report's writer did.
+    ensures device { result ≡ Status.Device → O.failed out.new ≡ grown (O.failed out.old) }
     ensures written { result ≡ Status.Done → O.failed out.new ≡ O.failed out.old }
     ensures quiet { result ≡ Status.Done → E.contents err.new ≡ E.contents err.old }
     ensures line { result ≢ Status.CommandLine }

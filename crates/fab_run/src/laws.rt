@@ -1,0 +1,9 @@
+//! Laws about runs, for whoever builds on them. A function whose contract is a law has nothing to do.
+
+ghost use Rattle.fab_run.specs.SameAnswers.{AnswersAreTold};
+
+/// The law that texts and numbers alone tell what a run answers: two runs of the same texts whose seed, size, schedule and moves are
+/// the same have the same placement, accepted moves, costs, report and place text, whatever their batches and numbers of workers.
+pub fn answers_are_told()
+    ensures { AnswersAreTold }
+{}
