@@ -1,7 +1,7 @@
 -- What all lines have said makes a lawful netlist.
-use Rattle.std.proofs.Common.{◌≡◌, ℕ, ◌+◌, ◌<◌, ◌≤◌, Bool, true, false, List, [], ◌∷◌, Option, Some, None, IfOk, OnOk, Result, Ok, Err, length, map, get_or, ltb, inl, inr, refl, sym, ap, ◌∙◌, arith}
+use Rattle.std.proofs.Common.{◌≡◌, ℕ, ◌<◌, ◌≤◌, true, false, List, [], ◌∷◌, Some, None, IfOk, OnOk, Result, Ok, Err, length, map, get_or, ltb, inl, inr, refl, sym, ap, ◌∙◌, arith}
 use Rattle.std.proofs.lemmas.List.{length-map, get_or-map, get_or_past}
-use Rattle.std.proofs.lemmas.List.Elements.{All-get_or, All-map, All-nil}
+use Rattle.std.proofs.lemmas.List.Elements.{All-get_or, All-nil}
 use Rattle.std.proofs.lemmas.Bool.{cases_Bool, ltb-true}
 use Rattle.std.proofs.lemmas.Bool.Decides.{nat_tests}
 use Rattle.std.specs.Prelude.{is_some, slice_index_or}
@@ -16,7 +16,7 @@ use Rattle.fab_net.specs.declared.pieces.Terminal.{Terminal}
 use Rattle.fab_net.specs.declared.fault.NetFault.{NetFault}
 use Rattle.fab_net.specs.declared.fault.NetFault.TheVariants.{DuplicateBlock, TooLarge}
 use Rattle.fab_net.specs.Names.{number_of}
-use Rattle.fab_net.specs.Netlist.{Netlist, IsLawful, net_at, block_on, terminal_count}
+use Rattle.fab_net.specs.Netlist.{Netlist, IsLawful, net_at, block_on}
 use Rattle.fab_net.specs.Text.{Section, PinOf, net_names, terminals_of, is_global_in, kind_in, name_in, name_at, head_of, ahead, sections, sections_by, IsNetlist}
 use Rattle.fab_net.specs.Faults.{driver_fault, text_fault, first_fault}
 use Rattle.fab_net.specs.Said.{Said, said, netlist_said, opens_fault, end_fault, IsReady}
