@@ -67,7 +67,6 @@ fn marks_of(alloc: Global, names: &NetNames, globals: &[&[u8]]) -> Result<Vec<bo
 }
 
 /// Connected pins, whose nets are numbered by first appearance.
-#[derive(Drop)]
 pub struct Pins<'a> {
     names: NetNames<'a>,
     pins: Vec<Pin>,
@@ -84,6 +83,12 @@ impl<'a> Model for Pins<'a> {
     ghost view = { λ a. map (pin_of a.names) a.pins.items };
 
     ghost invariant = { λ a. (a.names ≡ net_names (map (pin_of a.names) a.pins.items)) × All (λ p. p.net < length a.names) a.pins.items };
+}
+
+impl<'a> Drop for Pins<'a> {
+    fn drop(self) {
+        let Pins { names: _, pins: _ } = self;
+    }
 }
 
 impl<'a> Pins<'a> {

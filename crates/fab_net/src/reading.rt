@@ -363,30 +363,47 @@ impl<'a> Seen<'a> {
         }
     }
 
-    /// The design of what lines have said.
+    /// Whether the whole text is lawful, whose lines are. Only to count the drivers of the nets needs memory.
+    fn check_end(&self, alloc: Global) -> Result<(), NetFault>
+        ensures ok { OnOk result (end_fault self.now ≡ None) }
+        ensures fault { IfErr result (λ e. FaultIs e (end_fault self.now)) }
+    {
+        if let Some(span) = self.awaiting {
+            return Err(NetFault::MissingPinlist(span));
+        }
+        let drivers = self.pins.driver_counts(alloc)?;
+        check_drivers(&drivers, &self.pins)
+    }
+
+    /// The design of what lawful lines have said.
+    fn design(self, alloc: Global) -> Result<Design, AllocError>
+        requires ready { IsReady self }
+        requires lawful { end_fault self ≡ None }
+        ensures { IfOk result (λ d. d ≡ netlist_said self.entry) }
+    {
+        let terminals = self.pins.terminals(alloc)?;
+        let marks = self.pins.marks(alloc, &self.globals)?;
+        let nets = gather_nets(alloc, self.kinds.len(), &terminals, &marks)?;
+        let counts = gather_pins(alloc, self.kinds.len(), &terminals, &marks)?;
+        let Seen {
+            kinds,
+            names,
+            awaiting: _,
+            pins: _,
+            globals: _,
+        } = self;
+        Ok(Design::new(kinds, names, terminals, marks, nets, counts))
+    }
+
+    /// The design of what lines have said, where the whole text is lawful.
     fn finish(self, alloc: Global) -> Result<Design, NetFault>
         requires { IsReady self }
         ensures sound { OnOk result (end_fault self.entry ≡ None) }
         ensures found { IfOk result (λ d. d ≡ netlist_said self.entry) }
         ensures fault { IfErr result (λ e. FaultIs e (end_fault self.entry)) }
     {
-        let Seen {
-            kinds,
-            names,
-            awaiting,
-            pins,
-            globals,
-        } = self;
-        if let Some(span) = awaiting {
-            return Err(NetFault::MissingPinlist(span));
-        }
-        let drivers = pins.driver_counts(alloc)?;
-        check_drivers(&drivers, &pins)?;
-        let terminals = pins.terminals(alloc)?;
-        let marks = pins.marks(alloc, &globals)?;
-        let nets = gather_nets(alloc, kinds.len(), &terminals, &marks)?;
-        let counts = gather_pins(alloc, kinds.len(), &terminals, &marks)?;
-        Ok(Design::new(kinds, names, terminals, marks, nets, counts))
+        self.check_end(alloc)?;
+        Ok(self.design(alloc)?)
     }
 }
 

@@ -3,15 +3,15 @@ use Rattle.std.proofs.lemmas.List.{length-map}
 use Rattle.fab_net.specs.Text.{is_global_in, net_names, terminals_of}
 use Rattle.fab_net.specs.Said.{netlist_said}
 use Rattle.fab_net.proofs.Naming.{nets_le, terminals_blocks}
-use Rattle.fab_net.proofs.Ready.{lawful_of}
-use Rattle.fab_net.proofs.reading.Seen.finish.Goals as goal
+use Rattle.fab_net.proofs.Ready.{lawful_of, driven_at_end}
+use Rattle.fab_net.proofs.reading.Seen.design.Goals as goal
 
 pub gather_nets-requires-clause-same : goal.gather_nets-requires-clause-same
 gather_nets-requires-clause-same c =
     let names = net_names c.self.inside.pins in
     let t = ap length c.in_ok-terminals.ensures.found ∙ length-map names (terminals_of c.self.inside.pins) in
     let m = ap length c.in_ok-marks.ensures ∙ length-map names (is_global_in _) in
-    let d = ap length c.deref-3.ensures.value in
+    let d = ap length c.deref-2.ensures.value in
     omega (arith, t, m, d)
 
 pub gather_nets-requires-clause-fits : goal.gather_nets-requires-clause-fits
@@ -25,7 +25,7 @@ gather_nets-requires-clause-within c n lt k d kl =
     let pins = c.self.inside.pins in
     let names = net_names pins in
     let t = ap length c.in_ok-terminals.ensures.found ∙ length-map names (terminals_of pins) in
-    let ready = rw (← c.self.view_is) at c.requires in
+    let ready = rw (← c.self.view_is) at c.requires.ready in
     let all = terminals_blocks pins (length c.self.inside.kinds.items) names ready.within n (omega (arith, t, lt)) in
     let all' = rw (← c.in_ok-terminals.ensures.found) at all in
     omega (arith, all' k d kl, c.len.ensures, c.self.inside.kinds.ok.0)
@@ -35,7 +35,7 @@ gather_pins-requires-clause-within c n lt k d kl =
     let pins = c.self.inside.pins in
     let names = net_names pins in
     let t = ap length c.in_ok-terminals.ensures.found ∙ length-map names (terminals_of pins) in
-    let ready = rw (← c.self.view_is) at c.requires in
+    let ready = rw (← c.self.view_is) at c.requires.ready in
     let all = terminals_blocks pins (length c.self.inside.kinds.items) names ready.within n (omega (arith, t, lt)) in
     let all' = rw (← c.in_ok-terminals.ensures.found) at all in
     omega (arith, all' k d kl, c.len-2.ensures, c.self.inside.kinds.ok.0)
@@ -43,8 +43,9 @@ gather_pins-requires-clause-within c n lt k d kl =
 pub new-requires-clause-lawful : goal.new-requires-clause-lawful
 new-requires-clause-lawful c =
     let few = rw c.in_ok-terminals.ensures.found at c.in_ok-terminals.ensures.few in
-    let ready = rw (← c.self.view_is) at c.requires in
-    rw (c.in_ok-terminals.ensures.found, c.in_ok-marks.ensures, c.deref-2.ensures.value) (lawful_of _ ready c.in_ok-check_drivers.ensures few)
+    let ready = rw (← c.self.view_is) at c.requires.ready in
+    let driven = rw (← c.self.view_is) at (driven_at_end c.args.self c.requires.lawful) in
+    rw (c.in_ok-terminals.ensures.found, c.in_ok-marks.ensures, c.deref.ensures.value) (lawful_of _ ready driven few)
 
-pub returns-clause-found : goal.returns-clause-found
-returns-clause-found c = c.new.ensures ∙ rw (c.in_ok-terminals.ensures.found, c.in_ok-marks.ensures, c.deref-2.ensures.value) (ap netlist_said c.self.view_is)
+pub returns : goal.returns
+returns c = c.new.ensures ∙ rw (c.in_ok-terminals.ensures.found, c.in_ok-marks.ensures, c.deref.ensures.value) (ap netlist_said c.self.view_is)
