@@ -12,14 +12,14 @@ use std::alloc::{AllocError, Global};
 use std::marker::Model;
 
 /// Whether a word of a pinlist names no net.
-pub fn is_open(name: &[u8]) -> bool
+pub(crate) fn is_open(name: &[u8]) -> bool
     ensures { result ≡ is_open name.now }
 {
     name == b"open".as_slice()
 }
 
 /// How many words of a pinlist name a net.
-pub fn connected_count(words: &[&[u8]]) -> usize
+pub(crate) fn connected_count(words: &[&[u8]]) -> usize
     ensures count { result ≡ count_by (λ w. not (is_open w.now)) words.now }
 {
     words.iter().filter(|word| !is_open(word)).count()
@@ -79,7 +79,7 @@ impl<'a> NetNames<'a> {
     }
 
     /// How many names the words of a pinlist would add.
-    pub fn count_new(&self, words: &[&[u8]]) -> usize
+    pub(crate) fn count_new(&self, words: &[&[u8]]) -> usize
         ensures { (names : List (List ℕ)) → self.now ≡ first_names names → length self.now + result ≡ length (first_names (names ++ connected (map (λ w. w.now) words.now))) }
     {
         let mut count = 0;

@@ -115,7 +115,7 @@ impl<'a> Pins<'a> {
 
     /// Whether the pins of one more pinlist of at most 1,024 words are within the limits: 1,048,576 terminals and 65,535
     /// nets. That the words name new nets is looked up only where there might be too many.
-    pub fn have_room(&self, words: &[&[u8]]) -> bool
+    pub(crate) fn have_room(&self, words: &[&[u8]]) -> bool
         requires words { length words.now ≤ 1024 }
         requires few { length self.now ≤ 1048576 }
         ensures { (more : List PinOf) → map net_of_pin more ≡ connected (map (λ w. w.now) words.now) → result ≡ are_few (self.now ++ more) }
