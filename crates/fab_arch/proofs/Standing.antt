@@ -71,19 +71,19 @@ fault_is all l left io_rat pins s = rw (any_is io_rat s.before s.ratio, count_is
 or_else_some : (f g : Option ArchFault) (e : ArchFault) → f ≡ Some e → or_else f g ≡ Some e
 or_else_some f g e h = rw h refl
 
-fault_from : (e : ArchFault) (f g : Option ArchFault) → ((x : ArchFault) → f ≡ Some x → g ≡ Some x) → FaultIs e f → FaultIs e g
-fault_from NoMemory f g h k = tt
-fault_from NoIoRat f g h k = h _ k
-fault_from (RepeatedIoRat n) f g h k = h _ k
-fault_from (BadNumber n) f g h k = h _ k
-fault_from (BadPinLine n) f g h k = h _ k
-fault_from NoPins f g h k = h _ k
-fault_from (TooLarge n) f g h k = h _ k
+told : (e : ArchFault) (f : Option ArchFault) → f ≡ Some e → FaultIs e f
+told NoMemory f h = tt
+told NoIoRat f h = h
+told (RepeatedIoRat n) f h = h
+told (BadNumber n) f h = h
+told (BadPinLine n) f h = h
+told NoPins f h = h
+told (TooLarge n) f h = h
 
 -- a fault of the next line is the text's
-pub fails : (all : List TextLine) (l : TextLine) (left : List TextLine) (io_rat : Option ℕ) (pins : List PinKind) (e : ArchFault) → Standing all (l ∷ left) io_rat pins → FaultIs e (line_fault (is_some io_rat) (length pins) l) → FaultIs e (first_fault all)
+pub fails : (all : List TextLine) (l : TextLine) (left : List TextLine) (io_rat : Option ℕ) (pins : List PinKind) (e : ArchFault) → Standing all (l ∷ left) io_rat pins → line_fault (is_some io_rat) (length pins) l ≡ Some e → FaultIs e (first_fault all)
 fails all l left io_rat pins e s h =
-    fault_from e (line_fault (is_some io_rat) (length pins) l) (first_fault all) (λ x k. s.clean ∙ or_else_some (fault_of s.before l) (fault_after (s.before ++ l ∷ []) left) x (fault_is all l left io_rat pins s ∙ k)) h
+    told e (first_fault all) (s.clean ∙ or_else_some (fault_of s.before l) (fault_after (s.before ++ l ∷ []) left) e (fault_is all l left io_rat pins s ∙ h))
 
 filter_none : {X : Type 0} (p : X → Bool) (xs : List X) (x : X) → p x ≡ false → filter p (xs ++ x ∷ []) ≡ filter p xs
 filter_none p xs x h = filter-append p xs (x ∷ []) ∙ rw h (append-nil (filter p xs))

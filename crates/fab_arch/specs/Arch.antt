@@ -1,10 +1,10 @@
 -- What an architecture text means (VPR manual: the lines `io_rat`, `inpin` and `outpin`; all others concern
 -- routing and timing, and mean nothing to placement).
-use Rattle.std.specs.Prelude.{ℕ, ◌<◌, ◌≤◌, ◌≡◌, Bool, false, not, ◌||◌, ◌&&◌, ◌==◌, nat_lt, List, [], ◌∷◌, ◌++◌, if◌then◌else◌, length, map, filter, count_by, drop, slice_get, codes, Option, Some, None, Result, Ok, Err}
+use Rattle.std.specs.Prelude.{ℕ, ◌<◌, ◌≤◌, ◌≡◌, Bool, false, not, ◌||◌, ◌&&◌, ◌==◌, nat_lt, List, [], ◌∷◌, if◌then◌else◌, length, map, filter, count_by, drop, slice_get, codes, Option, Some, None, Result, Ok, Err}
 use Rattle.std.specs.List.{list_any, list_all, AllByRecursion}
 use Rattle.std.specs.Result.{result_ok}
 use Rattle.std.specs.Str.{bytes_eq}
-use Rattle.fab_text.specs.Lines.{TextLine, lines}
+use Rattle.fab_text.specs.Lines.{TextLine}
 use Rattle.fab_text.specs.FirstFault.{or_else, fault_behind, fault_of_all}
 use Rattle.fab_text.specs.Decimal.{decimal_of}
 use Rattle.fab_text.specs.declared.numbers.NumFault.{NumFault}

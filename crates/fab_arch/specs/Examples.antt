@@ -1,12 +1,13 @@
--- Examples of what architecture texts mean.
-use Rattle.std.specs.Prelude.{ℕ, ◌≡◌, List, [], ◌∷◌, ◌++◌, Option, Some, None, Ok, map, filter, refl, codes}
-use Rattle.std.proofs.Common.{lit<, lit≤}
+-- Examples of what architecture texts mean, and of the least square array.
+use Rattle.std.specs.Prelude.{ℕ, ◌≡◌, List, [], ◌∷◌, Option, Some, refl, codes}
+use Rattle.std.proofs.Common.{◌<◌, ◌≤◌, zero, suc, arith, lit<, lit≤}
 use Rattle.fab_text.specs.Lines.{TextLine, lines, lines_from, trimmed, content, is_continued, without_backslash, words_of}
 use Rattle.fab_text.specs.Decimal.{decimal_of}
 use Rattle.fab_arch.specs.declared.architecture.PinKind.TheVariants.{Reads, Drives}
 use Rattle.fab_arch.specs.declared.fault.ArchFault.{ArchFault}
 use Rattle.fab_arch.specs.declared.fault.ArchFault.TheVariants.{NoIoRat, RepeatedIoRat, BadNumber, BadPinLine, NoPins, TooLarge}
-use Rattle.fab_arch.specs.Arch.{is_io_rat, is_inpin, is_outpin, is_pin, kind_of, ratio_of, pin_fault, line_fault, first_fault, IsArch}
+use Rattle.fab_arch.specs.Grid.{Holds, IsLeastSquare, square}
+use Rattle.fab_arch.specs.Arch.{is_io_rat, is_inpin, is_outpin, ratio_of, pin_fault, line_fault, first_fault, IsArch}
 
 abbrev fault : List ℕ → Option ArchFault
 fault text = first_fault (lines text)
@@ -57,3 +58,26 @@ a_class_too_large_comes_before_its_sides = refl
 pub a_pin_without_a_side : fault (codes "outpin class: 0 global") ≡ Some (BadPinLine 1)
 unfolding lines_from trimmed content is_continued without_backslash words_of is_io_rat is_inpin is_outpin pin_fault line_fault decimal_of
 a_pin_without_a_side = refl
+
+too_small_for_five : (n : ℕ) → 1 ≤ n → n < 3 → ¬ Holds (square n 1) 5 0
+too_small_for_five zero some few holds = absurd (omega (arith, some))
+too_small_for_five (suc zero) some few holds = absurd (omega (arith, holds.0))
+too_small_for_five (suc (suc zero)) some few holds = absurd (omega (arith, holds.0))
+too_small_for_five (suc (suc (suc n))) some few holds = absurd (omega (arith, few))
+
+-- five logic blocks and no pad
+pub three_by_three_is_the_least : IsLeastSquare (square 3 1) 5 0 1
+three_by_three_is_the_least = record {
+  is_square = refl;
+  limits = record { columns = (lit≤ tt, lit≤ tt); rows = (lit≤ tt, lit≤ tt); ratio = (lit≤ tt, lit≤ tt) };
+  enough = (lit≤ tt, lit≤ tt);
+  least = too_small_for_five;
+}
+
+-- four by four holds them too, but is not the least
+pub four_by_four_is_not_the_least : ¬ IsLeastSquare (square 4 1) 5 0 1
+four_by_four_is_not_the_least least = least.least 3 (lit≤ tt) (lit< tt) (lit≤ tt, lit≤ tt)
+
+-- two by two is too small
+pub two_by_two_is_not_enough : ¬ IsLeastSquare (square 2 1) 5 0 1
+two_by_two_is_not_enough least = too_small_for_five 2 (lit≤ tt) (lit< tt) least.enough

@@ -12,7 +12,7 @@ ghost use Rattle.fab_arch.specs.declared.fault.ArchFault.TheVariants.{NoMemory};
 use crate::architecture::{Arch, PinKind};
 use crate::fault::ArchFault;
 use fab_text::{Line, Lines, NumFault, decimal};
-use std::alloc::Global;
+use std::alloc::{AllocError, Global};
 
 fn word_at<'a>(line: &Line<'a>, i: usize) -> Option<&'a [u8]>
     ensures { option_map (λ w. w.now) result ≡ slice_get (shown line.now).words i }
@@ -142,33 +142,40 @@ fn ratio_of(line: &Line) -> Result<u16, ArchFault>
 }
 
 impl Seen {
-    /// Takes a line.
+    /// Whether a line is lawful behind those before it. That needs no memory, so a fault is always told as that fault.
     #[tactic(auto, unfolding(crate::specs::Arch::line_fault))]
-    fn take_line(&mut self, line: &Line) -> Result<(), ArchFault>
-        ensures ok { OnOk result (line_fault (is_some self.old.io_rat) (length self.old.pins.items) (shown line.now) ≡ None) }
-        ensures io_rat { OnOk result (self.new.io_rat ≡ ratio_after self.old.io_rat (shown line.now)) }
-        ensures pins { OnOk result (self.new.pins.items ≡ self.old.pins.items ++ pins_in (shown line.now)) }
-        ensures err { IfErr result (λ e. FaultIs e (line_fault (is_some self.old.io_rat) (length self.old.pins.items) (shown line.now))) }
+    fn check_line(&self, line: &Line) -> Result<(), ArchFault>
+        ensures { line_fault (is_some self.now.io_rat) (length self.now.pins.items) (shown line.now) ≡ err_of result }
     {
         if is_io_rat(line) {
             if self.io_rat.is_some() {
                 return Err(ArchFault::RepeatedIoRat(line.number));
             }
-            self.io_rat = Some(ratio_of(line)?);
+            ratio_of(line)?;
             return Ok(());
         }
-        let kind = if is_inpin(line) {
-            PinKind::Reads
-        } else if is_outpin(line) {
-            PinKind::Drives
-        } else {
+        if !is_inpin(line) && !is_outpin(line) {
             return Ok(());
-        };
+        }
         check_pin(line)?;
         if self.pins.len() >= 1024 {
             return Err(ArchFault::TooLarge(line.number));
         }
-        self.pins.push(kind)?;
+        Ok(())
+    }
+
+    /// Adds what a line says that is lawful. Nothing but want of memory can stop that.
+    fn add_line(&mut self, line: &Line) -> Result<(), AllocError>
+        ensures io_rat { OnOk result (self.new.io_rat ≡ ratio_after self.old.io_rat (shown line.now)) }
+        ensures pins { OnOk result (self.new.pins.items ≡ self.old.pins.items ++ pins_in (shown line.now)) }
+    {
+        if is_io_rat(line) {
+            self.io_rat = ratio_of(line).ok();
+        } else if is_inpin(line) {
+            self.pins.push(PinKind::Reads)?;
+        } else if is_outpin(line) {
+            self.pins.push(PinKind::Drives)?;
+        }
         Ok(())
     }
 }
@@ -196,7 +203,8 @@ fn read(alloc: Global, bytes: &[u8]) -> Result<Arch, ArchFault>
         pins: Vec::new(alloc),
     };
     while let Some(line) = left.next()? {
-        seen.take_line(&line)?;
+        seen.check_line(&line)?;
+        seen.add_line(&line)?;
     }
     let Seen { io_rat, pins } = seen;
     let Some(io_rat) = io_rat else {

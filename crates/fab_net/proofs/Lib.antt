@@ -10,5 +10,6 @@ pub mod Standing
 pub mod Accepted
 pub mod Entries
 pub mod Ready
+pub mod Room
 pub mod OnBlock
 pub mod PinCounts

@@ -50,7 +50,7 @@ itself x = (bytes_eq-Decides x x).1 refl
 pub other_way : (x y : List ℕ) → bytes_eq x y ≡ false → bytes_eq y x ≡ false
 other_way x y h = false_from_ne_true (bytes_eq y x) (λ e. false≢true (sym h ∙ (bytes_eq-Decides x y).1 (sym (same_name y x e))))
 
-kept : (x n : List ℕ) → bytes_eq x n ≡ false → (k : List ℕ) → bytes_eq x k ≡ true → is_other n k ≡ true
+pub kept : (x n : List ℕ) → bytes_eq x n ≡ false → (k : List ℕ) → bytes_eq x k ≡ true → is_other n k ≡ true
 kept x n h k e = let same : x ≡ k = same_name x k e in let f : bytes_eq n k ≡ false = ap (bytes_eq n) (sym same) ∙ other_way x n h in rw f refl
 
 filter_if : (p : List ℕ → Bool) (b : Bool) (xs ys : List (List ℕ)) → filter p (cond b xs ys) ≡ cond b (filter p xs) (filter p ys)

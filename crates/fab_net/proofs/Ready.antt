@@ -1,13 +1,14 @@
 -- What all lines have said makes a lawful netlist.
-use Rattle.std.proofs.Common.{◌≡◌, ℕ, ◌+◌, ◌<◌, ◌≤◌, Bool, true, false, List, [], ◌∷◌, Option, Some, None, IfOk, OnOk, Result, Ok, Err, length, map, get_or, ltb, inl, inr, refl, sym, ap, ◌∙◌, arith}
+use Rattle.std.proofs.Common.{Option, ◌≡◌, ℕ, ◌<◌, ◌≤◌, true, false, List, [], ◌∷◌, Some, None, IfOk, OnOk, Result, Ok, Err, length, map, get_or, ltb, inl, inr, refl, sym, ap, ◌∙◌, arith}
 use Rattle.std.proofs.lemmas.List.{length-map, get_or-map, get_or_past}
-use Rattle.std.proofs.lemmas.List.Elements.{All-get_or, All-map, All-nil}
+use Rattle.std.proofs.lemmas.List.Elements.{All-get_or, All-nil}
 use Rattle.std.proofs.lemmas.Bool.{cases_Bool, ltb-true}
 use Rattle.std.proofs.lemmas.Bool.Decides.{nat_tests}
 use Rattle.std.specs.Prelude.{is_some, slice_index_or}
 use Rattle.std.specs.List.{All, AllByRecursion, sum_by}
 use denote.Ref.{Bor}
 use Rattle.fab_text.specs.Lines.{TextLine}
+use Rattle.fab_text.specs.FirstFault.{or_else}
 use Rattle.fab_text.specs.LineWords.{can_be_word, AreWords}
 use Rattle.fab_arch.specs.declared.architecture.PinKind.{PinKind}
 use Rattle.fab_net.specs.declared.pieces.Head.{Head}
@@ -16,9 +17,9 @@ use Rattle.fab_net.specs.declared.pieces.Terminal.{Terminal}
 use Rattle.fab_net.specs.declared.fault.NetFault.{NetFault}
 use Rattle.fab_net.specs.declared.fault.NetFault.TheVariants.{DuplicateBlock, TooLarge}
 use Rattle.fab_net.specs.Names.{number_of}
-use Rattle.fab_net.specs.Netlist.{Netlist, IsLawful, net_at, block_on, terminal_count}
+use Rattle.fab_net.specs.Netlist.{Netlist, IsLawful, net_at, block_on}
 use Rattle.fab_net.specs.Text.{Section, PinOf, net_names, terminals_of, is_global_in, kind_in, name_in, name_at, head_of, ahead, sections, sections_by, IsNetlist}
-use Rattle.fab_net.specs.Faults.{driver_fault, text_fault, first_fault}
+use Rattle.fab_net.specs.Faults.{missing_fault, driver_fault, text_fault, first_fault}
 use Rattle.fab_net.specs.Said.{Said, said, netlist_said, opens_fault, end_fault, IsReady}
 use Rattle.fab_net.proofs.Naming.{terminals_blocks}
 use Rattle.fab_net.proofs.Texts.{said_blocks}
@@ -84,6 +85,13 @@ rows_within pins limit names n h = elim (cases_Bool (ltb n (length names))) [
       let e : get_or (map (terminals_of pins) names) n [] ≡ [] = get_or_past (map (terminals_of pins) names) n [] (omega (arith, le, length-map names (terminals_of pins))) in
       rw e (All-nil (λ (x : Terminal). x.block.0 < limit))
 ]
+
+pub driven_at_end : (s : Said) → end_fault s ≡ None → driver_fault s.pins (net_names s.pins) ≡ None
+driven_at_end s h = second (missing_fault s.awaiting) (driver_fault s.pins (net_names s.pins)) h
+  where
+    second : (f g : Option NetFault) → or_else f g ≡ None → g ≡ None
+    second None g h = h
+    second (Some e) g h = cc
 
 pub lawful_of : (s : Said) → IsReady s → driver_fault s.pins (net_names s.pins) ≡ None → sum_by length (map (terminals_of s.pins) (net_names s.pins)) ≤ length s.pins → IsLawful (netlist_said s)
 lawful_of s r d few =

@@ -21,18 +21,18 @@ pub record Standing (arch : List PinKind) (all left : List TextLine) (s : Said) 
 pub start : (arch : List PinKind) (all : List TextLine) (s : Said) → s ≡ said arch [] → Standing arch all all s
 start arch all s h = record { before = []; split = refl; clean = refl; underway = at_start arch; says = h }
 
-pub fault_from : (e : NetFault) (f g : Option NetFault) → ((x : NetFault) → f ≡ Some x → g ≡ Some x) → FaultIs e f → FaultIs e g
-fault_from NoMemory f g h k = tt
-fault_from (UnknownWord n) f g h k = h _ k
-fault_from (NoName n) f g h k = h _ k
-fault_from (PinlistWithoutBlock n) f g h k = h _ k
-fault_from (MissingPinlist s) f g h k = h _ k
-fault_from (PinCount n) f g h k = h _ k
-fault_from (SubblockWithoutLogic n) f g h k = h _ k
-fault_from (DuplicateBlock n) f g h k = h _ k
-fault_from (NoDriver s) f g h k = h _ k
-fault_from (TwoDrivers s) f g h k = h _ k
-fault_from (TooLarge n) f g h k = h _ k
+pub told : (e : NetFault) (f : Option NetFault) → f ≡ Some e → FaultIs e f
+told NoMemory f h = tt
+told (UnknownWord n) f h = h
+told (NoName n) f h = h
+told (PinlistWithoutBlock n) f h = h
+told (MissingPinlist s) f h = h
+told (PinCount n) f h = h
+told (SubblockWithoutLogic n) f h = h
+told (DuplicateBlock n) f h = h
+told (NoDriver s) f h = h
+told (TwoDrivers s) f h = h
+told (TooLarge n) f h = h
 
 or_else_some : (f g : Option NetFault) (e : NetFault) → f ≡ Some e → or_else f g ≡ Some e
 or_else_some f g e h = rw h refl
@@ -42,9 +42,9 @@ fault_is : (arch : List PinKind) (all : List TextLine) (l : TextLine) (left : Li
 fault_is arch all l left s w = said_fault_is arch w.before l ∙ ap (λ x. said_fault arch x l) (sym w.says)
 
 -- a fault of the next line is the text's
-pub fails : (arch : List PinKind) (all : List TextLine) (l : TextLine) (left : List TextLine) (s : Said) (e : NetFault) → Standing arch all (l ∷ left) s → FaultIs e (said_fault arch s l) → FaultIs e (first_fault arch all)
+pub fails : (arch : List PinKind) (all : List TextLine) (l : TextLine) (left : List TextLine) (s : Said) (e : NetFault) → Standing arch all (l ∷ left) s → said_fault arch s l ≡ Some e → FaultIs e (first_fault arch all)
 fails arch all l left s e w h =
-    fault_from e (said_fault arch s l) (first_fault arch all) (λ x k. w.clean ∙ or_else_some (fault_of arch w.before l) (fault_behind (fault_of arch) (text_fault arch) (w.before ++ l ∷ []) left) x (fault_is arch all l left s w ∙ k)) h
+    told e (first_fault arch all) (w.clean ∙ or_else_some (fault_of arch w.before l) (fault_behind (fault_of arch) (text_fault arch) (w.before ++ l ∷ []) left) e (fault_is arch all l left s w ∙ h))
 
 -- on by one line that has no fault
 pub step : (arch : List PinKind) (all : List TextLine) (l : TextLine) (left : List TextLine) (s new : Said) → Standing arch all (l ∷ left) s → said_fault arch s l ≡ None → new ≡ after arch s l → Standing arch all left new

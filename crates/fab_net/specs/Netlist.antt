@@ -1,6 +1,7 @@
 -- A netlist, as contracts see a design (VPR manual): blocks by number, and nets by
 -- number with a terminal for each pin on them.
 use Rattle.std.specs.Prelude.{ℕ, ◌≡◌, ◌≤◌, ◌<◌, Bool, true, false, not, ◌==◌, List, [], ◌∷◌, map, filter, count_by, length, slice_index_or, codes, refl}
+use Rattle.std.proofs.Common.{zero, suc, arith, lit<, lit≤}
 use Rattle.std.specs.List.{range_with_len, list_any, sum_by}
 use Rattle.fab_text.specs.LineWords.{AreWords}
 use Rattle.fab_net.specs.declared.pieces.BlockKind.{BlockKind}
@@ -99,3 +100,52 @@ a_repeated_block_is_two_terminals = refl
 
 pub both_pins_of_a_block_count : pin_count three_blocks 1 1 ≡ 2
 both_pins_of_a_block_count = refl
+
+each_has_terminals : (n : ℕ) → n < 2 → 0 < length (net_at three_blocks n).blocks
+each_has_terminals zero lt = lit< tt
+each_has_terminals (suc zero) lt = lit< tt
+each_has_terminals (suc (suc n)) lt = absurd (omega (arith, lt))
+
+all_on_blocks : (n i : ℕ) → i < length (net_at three_blocks n).blocks → slice_index_or (net_at three_blocks n).blocks i 0 < 3
+all_on_blocks zero zero lt = lit< tt
+all_on_blocks zero (suc zero) lt = lit< tt
+all_on_blocks zero (suc (suc i)) lt = absurd (omega (arith, lt))
+all_on_blocks (suc zero) zero lt = lit< tt
+all_on_blocks (suc zero) (suc zero) lt = lit< tt
+all_on_blocks (suc zero) (suc (suc zero)) lt = lit< tt
+all_on_blocks (suc zero) (suc (suc (suc i))) lt = absurd (omega (arith, lt))
+all_on_blocks (suc (suc n)) i lt = absurd (omega (arith, lt))
+
+pub three_blocks_are_lawful : IsLawful three_blocks
+three_blocks_are_lawful = record {
+  few_blocks = lit≤ tt;
+  few_nets = lit≤ tt;
+  few_terminals = lit≤ tt;
+  named = refl;
+  distinct = (refl, (refl, (refl, tt)));
+  words = (refl, (refl, (refl, tt)));
+  told = refl;
+  some_terminal = each_has_terminals;
+  within = all_on_blocks;
+}
+
+-- two pads on one net, of these names, and a second net with these terminals
+abbrev two_pads : List (List ℕ) → List Terminal → Netlist
+two_pads names more = record {
+  kinds = InputPad ∷ OutputPad ∷ [];
+  names = names;
+  terminals = (terminal 0 0 ∷ terminal 1 0 ∷ []) ∷ more ∷ [];
+  globals = false ∷ false ∷ [];
+}
+
+pub one_name_for_two_blocks_is_not_lawful : ¬ IsLawful (two_pads (codes "a" ∷ codes "a" ∷ []) (terminal 0 0 ∷ []))
+one_name_for_two_blocks_is_not_lawful h = let same : true ≡ false = h.distinct.0 in cc
+
+pub a_name_with_a_space_is_not_lawful : ¬ IsLawful (two_pads (codes "a" ∷ codes "b c" ∷ []) (terminal 0 0 ∷ []))
+a_name_with_a_space_is_not_lawful h = let word : false ≡ true = h.words.1.0 in cc
+
+pub a_net_without_terminals_is_not_lawful : ¬ IsLawful (two_pads (codes "a" ∷ codes "b" ∷ []) [])
+a_net_without_terminals_is_not_lawful h = omega (arith, h.some_terminal 1 (lit< tt))
+
+pub a_terminal_on_no_block_is_not_lawful : ¬ IsLawful (two_pads (codes "a" ∷ codes "b" ∷ []) (terminal 2 0 ∷ []))
+a_terminal_on_no_block_is_not_lawful h = omega (arith, h.within 1 0 (lit< tt))

@@ -1,6 +1,6 @@
 -- What lines have said so far, as one value: what a reader keeps between two lines, and what the next line adds.
 use Rattle.std.specs.List.{All}
-use Rattle.std.specs.Prelude.{ℕ, ◌≡◌, ◌≤◌, ◌<◌, ◌-◌, ◌==◌, not, nat_lt, List, [], ◌∷◌, ◌++◌, is_some, length, map, drop, slice_get, Option, Some, None, Bool, false}
+use Rattle.std.specs.Prelude.{ℕ, ◌≡◌, ◌≤◌, ◌<◌, ◌-◌, ◌==◌, not, nat_lt, List, [], ◌∷◌, ◌++◌, is_some, length, map, drop, slice_get, filter, Option, Some, None, Result, Ok, Err, Bool, false}
 use Rattle.fab_text.specs.Lines.{TextLine}
 use Rattle.fab_text.specs.LineWords.{AreWords}
 use Rattle.fab_text.specs.FirstFault.{or_else, unless}
@@ -14,7 +14,7 @@ use Rattle.fab_net.specs.declared.fault.NetFault.{NetFault}
 use Rattle.fab_net.specs.declared.fault.NetFault.TheVariants.{UnknownWord, NoName, PinlistWithoutBlock, PinCount, SubblockWithoutLogic, DuplicateBlock, TooLarge}
 use Rattle.fab_net.specs.Names.{number_of, AllDistinct}
 use Rattle.fab_net.specs.Netlist.{Netlist, is_logic}
-use Rattle.fab_net.specs.Text.{PinOf, head_of, sections, entries_in, pins_at, pins_from, net_names, terminals_of, is_global_in, global_names, name_at, name_in, kind_in, span_of_name, pin_count}
+use Rattle.fab_net.specs.Text.{PinOf, head_of, is_open, sections, entries_in, pins_at, pins_from, net_names, terminals_of, is_global_in, global_names, name_at, name_in, kind_in, span_of_name, pin_count}
 use Rattle.fab_net.specs.Faults.{awaiting, missing_fault, are_few, driver_fault}
 
 pub record Said : Type 0 where
@@ -37,6 +37,10 @@ kind_or_pad None = InputPad
 abbrev pub is_logic_last : Option BlockKind → Bool
 is_logic_last (Some k) = is_logic k
 is_logic_last None = false
+
+-- the words that name a net
+abbrev pub connected : List (List ℕ) → List (List ℕ)
+connected words = filter (λ w. not (is_open w)) words
 
 -- the pins that a line adds to the last block
 abbrev pub pins_more : List PinKind → List BlockKind → TextLine → List PinOf
@@ -65,6 +69,11 @@ said_fault_by arch s l head.Unknown = Some (UnknownWord l.number)
 -- the first fault of a line behind what was said
 abbrev pub said_fault : List PinKind → Said → TextLine → Option NetFault
 said_fault arch s l = said_fault_by arch s l (head_of l)
+
+-- the fault of an answer, if it is one
+abbrev pub err_of : {A : Type 0} → Result A NetFault → Option NetFault
+err_of (Ok value) = None
+err_of (Err e) = Some e
 
 abbrev pub end_fault : Said → Option NetFault
 end_fault s = or_else (missing_fault s.awaiting) (driver_fault s.pins (net_names s.pins))

@@ -1,11 +1,35 @@
 //! Names and their numbers: each name has the number of its first appearance.
 
-ghost use Rattle.std.specs.Prelude.{◌≡◌, ◌<◌, ◌++◌, ◌∷◌, [], None, Some, length, slice_index_or, IfOk, OnOk, OnErr};
-ghost use Rattle.fab_net.specs.Names.{number_of, with_name};
+ghost use Rattle.std.specs.Prelude.{◌≡◌, ℕ, ◌+◌, ◌<◌, ◌≤◌, ◌&&◌, ◌++◌, ◌∷◌, [], List, None, Some, is_some, length, map, not, slice_index_or, IfOk, OnOk, OnErr};
+ghost use Rattle.std.specs.List.{list_any, count_by};
+ghost use Rattle.std.specs.Str.{bytes_eq};
+ghost use Rattle.fab_net.specs.Names.{number_of, with_name, first_names};
+ghost use Rattle.fab_net.specs.Text.{is_open};
+ghost use Rattle.fab_net.specs.Said.{connected};
 
 use indexmap::IndexSet;
 use std::alloc::{AllocError, Global};
 use std::marker::Model;
+
+/// Whether a word of a pinlist names no net.
+pub(crate) fn is_open(name: &[u8]) -> bool
+    ensures { result ≡ is_open name.now }
+{
+    name == b"open".as_slice()
+}
+
+/// How many words of a pinlist name a net.
+pub(crate) fn connected_count(words: &[&[u8]]) -> usize
+    ensures count { result ≡ count_by (λ w. not (is_open w.now)) words.now }
+{
+    words.iter().filter(|word| !is_open(word)).count()
+}
+
+fn stands_among(name: &[u8], others: &[&[u8]]) -> bool
+    ensures { result ≡ list_any (λ w. bytes_eq name.now w.now) others.now }
+{
+    others.iter().any(|other| name == *other)
+}
 
 /// The names of nets while a text is read, as parts of the text.
 pub struct NetNames<'a> {
@@ -45,6 +69,26 @@ impl<'a> NetNames<'a> {
         ensures { result ≡ number_of name.now self.now }
     {
         self.names.get_index_of(name)
+    }
+
+    /// Whether a word of a pinlist would add a name, behind other words of it.
+    fn is_new(&self, word: &[u8], before: &[&[u8]]) -> bool
+        ensures { result ≡ ((not (is_open word.now) && not (is_some (number_of word.now self.now))) && not (list_any (λ w. bytes_eq word.now w.now) before.now)) }
+    {
+        !is_open(word) && self.number_of(word).is_none() && !stands_among(word, before)
+    }
+
+    /// How many names the words of a pinlist would add.
+    pub(crate) fn count_new(&self, words: &[&[u8]]) -> usize
+        ensures { (names : List (List ℕ)) → self.now ≡ first_names names → length self.now + result ≡ length (first_names (names ++ connected (map (λ w. w.now) words.now))) }
+    {
+        let mut count = 0;
+        for i in 0..words.len() {
+            if self.is_new(words[i], &words[..i]) {
+                count += 1;
+            }
+        }
+        count
     }
 
     /// The number of a name, which is added where it is not there yet. Want of memory changes nothing.

@@ -1,13 +1,14 @@
 //! Pins, whose nets are numbered by first appearance.
 
-ghost use Rattle.std.specs.Prelude.{◌≡◌, ◌++◌, ◌∷◌, ◌^◌, ◌<◌, ◌≤◌, [], length, map, filter, count_by, slice_index_or, IfOk};
+ghost use Rattle.std.specs.Prelude.{◌≡◌, ◌++◌, ◌∷◌, ◌^◌, ◌<◌, ◌≤◌, [], List, length, map, filter, count_by, slice_index_or, IfOk};
 ghost use Rattle.std.specs.List.{sum_by};
 ghost use Rattle.fab_net.specs.ByNumber.{net_entry, drives_its, driver_entry, span_at};
 ghost use Rattle.fab_net.specs.Names.{AllDistinct};
-ghost use Rattle.fab_net.specs.Faults.{first_span};
-ghost use Rattle.fab_net.specs.Text.{net_names, terminals_of, is_driver, is_global_in};
+ghost use Rattle.fab_net.specs.Faults.{are_few, first_span};
+ghost use Rattle.fab_net.specs.Said.{connected};
+ghost use Rattle.fab_net.specs.Text.{PinOf, net_of_pin, net_names, terminals_of, is_driver, is_global_in};
 
-use crate::names::NetNames;
+use crate::names::{NetNames, connected_count};
 use crate::pieces::{BlockId, Pin, Terminal};
 use crate::rows::{Rows, gather, row_counts};
 use fab_text::Span;
@@ -66,7 +67,6 @@ fn marks_of(alloc: Global, names: &NetNames, globals: &[&[u8]]) -> Result<Vec<bo
 }
 
 /// Connected pins, whose nets are numbered by first appearance.
-#[derive(Drop)]
 pub struct Pins<'a> {
     names: NetNames<'a>,
     pins: Vec<Pin>,
@@ -83,6 +83,12 @@ impl<'a> Model for Pins<'a> {
     ghost view = { λ a. map (pin_of a.names) a.pins.items };
 
     ghost invariant = { λ a. (a.names ≡ net_names (map (pin_of a.names) a.pins.items)) × All (λ p. p.net < length a.names) a.pins.items };
+}
+
+impl<'a> Drop for Pins<'a> {
+    fn drop(self) {
+        let Pins { names: _, pins: _ } = self;
+    }
 }
 
 impl<'a> Pins<'a> {
@@ -105,6 +111,21 @@ impl<'a> Pins<'a> {
         ensures { result ≡ length (net_names self.now) }
     {
         self.names.len()
+    }
+
+    /// Whether the pins of one more pinlist of at most 1,024 words are within the limits: 1,048,576 terminals and 65,535
+    /// nets. That the words name new nets is looked up only where there might be too many.
+    pub(crate) fn have_room(&self, words: &[&[u8]]) -> bool
+        requires words { length words.now ≤ 1024 }
+        requires few { length self.now ≤ 1048576 }
+        ensures { (more : List PinOf) → map net_of_pin more ≡ connected (map (λ w. w.now) words.now) → result ≡ are_few (self.now ++ more) }
+    {
+        let added = connected_count(words);
+        if self.len() + added > 1048576 {
+            return false;
+        }
+        let nets = self.net_count();
+        nets + added <= 65535 || nets + self.names.count_new(words) <= 65535
     }
 
     /// With one more pin.

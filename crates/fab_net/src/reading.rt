@@ -1,20 +1,21 @@
 //! Reading a netlist text: its lines one by one, what they have said so far, and the design at the end.
 
-ghost use Rattle.std.specs.Prelude.{◌≡◌, ℕ, ◌++◌, [], ◌≤◌, ◌<◌, ◌^◌, drop, length, map, slice_get, IfOk, IfErr, OnOk, MatchResult, List, None, is_some};
+ghost use Rattle.std.specs.Prelude.{◌≡◌, ℕ, ◌++◌, [], ◌≤◌, ◌<◌, ◌^◌, drop, length, map, slice_get, IfOk, IfErr, OnOk, MatchResult, List, None, IsTrue, count_by};
 ghost use Rattle.std.specs.Option.{option_map};
 ghost use Rattle.fab_arch.specs.declared.architecture.PinKind.{PinKind};
 ghost use Rattle.fab_text.specs.Lines.{TextLine, lines};
 ghost use Rattle.fab_text.specs.Shown.{shown};
 ghost use Rattle.fab_net.specs.Netlist.{Netlist};
-ghost use Rattle.fab_net.specs.Text.{head_word, head_of, is_open, drives_at, entries, entries_in, pins_at, pin_count, name_at, net_names, IsNetlist};
+ghost use Rattle.fab_net.specs.Names.{number_of};
+ghost use Rattle.fab_net.specs.Text.{head_word, head_of, is_driver, drives_at, entries, entries_in, pins_at, pin_count, name_at, net_names, IsNetlist};
 ghost use Rattle.fab_net.specs.Faults.{are_few, driver_fault, first_fault, MeansOrFaults, FaultIs};
-ghost use Rattle.fab_net.specs.Said.{last_kind, kind_or_pad, pins_more, opens_fault, pins_fault, said_fault, end_fault, said, netlist_said, opened, with_pins, with_globals, after, IsReady};
+ghost use Rattle.fab_net.specs.Said.{last_kind, kind_or_pad, pins_more, opens_fault, pins_fault, said_fault, end_fault, err_of, said, netlist_said, opened, with_pins, with_globals, after, IsReady};
 ghost use Rattle.fab_net.specs.declared.fault.NetFault.TheVariants.{NoMemory};
 
 use crate::blocks::{gather_nets, gather_pins};
 use crate::design::Design;
 use crate::fault::NetFault;
-use crate::names::BlockNames;
+use crate::names::{BlockNames, is_open};
 use crate::pieces::{BlockKind, Head};
 use crate::pins::Pins;
 use fab_arch::{Arch, PinKind};
@@ -56,12 +57,6 @@ fn head_of(line: &Line) -> Head
     ensures { result ≡ head_of (shown line.now) }
 {
     head_word(word_at(line, 0))
-}
-
-fn is_open(name: &[u8]) -> bool
-    ensures { result ≡ is_open name.now }
-{
-    name == b"open".as_slice()
 }
 
 fn drives_at(arch: &[PinKind], kind: BlockKind, i: usize) -> bool
@@ -125,75 +120,12 @@ fn push_entries<'a>(
     Ok(pins)
 }
 
-/// What the lines so far have said.
-#[derive(Drop)]
-struct Seen<'a> {
-    kinds: Vec<BlockKind>,
-    names: BlockNames,
-    awaiting: Option<Span>,
-    pins: Pins<'a>,
-    globals: Vec<&'a [u8]>,
-}
-
-impl<'a> Model for Seen<'a> {
-    ghost use Rattle.std.specs.Prelude.{◌≡◌, ◌≤◌, length, map};
-    ghost use Rattle.fab_net.specs.Said.{Said};
-
-    ghost Value = { Said };
-
-    ghost view = { λ a. record { kinds = a.kinds.items; names = a.names; awaiting = a.awaiting; pins = a.pins; globals = map (λ w. w.now) a.globals.items } };
-
-    ghost invariant = { λ a. (length a.kinds.items ≡ length a.names) × (length a.names ≤ 65535) × (length a.pins ≤ 1048576) };
-}
-
 /// The name of the block that a line opens.
 fn name_at<'a>(line: &Line<'a>) -> &'a [u8]
     requires { 1 < length line.now.words.items }
     ensures { result.now ≡ name_at (shown line.now) }
 {
     line.words[1]
-}
-
-/// Takes a line that opens a block.
-fn open<'a>(
-    alloc: Global,
-    seen: Seen<'a>,
-    kind: BlockKind,
-    line: &Line<'a>,
-) -> Result<Seen<'a>, NetFault>
-    ensures ok { OnOk result (opens_fault seen.entry (shown line.now) ≡ None) }
-    ensures said { IfOk result (λ r. r ≡ opened seen.entry kind (shown line.now)) }
-    ensures err { IfErr result (λ e. FaultIs e (opens_fault seen.entry (shown line.now))) }
-{
-    let Seen {
-        mut kinds,
-        mut names,
-        awaiting,
-        pins,
-        globals,
-    } = seen;
-    if let Some(span) = awaiting {
-        return Err(NetFault::MissingPinlist(span));
-    }
-    if line.words.len() < 2 {
-        return Err(NetFault::NoName(line.number));
-    }
-    let name = name_at(line);
-    if names.number_of(name).is_some() {
-        return Err(NetFault::DuplicateBlock(line.number));
-    }
-    if names.len() >= 65535 {
-        return Err(NetFault::TooLarge(line.number));
-    }
-    names.push(alloc, name)?;
-    kinds.push(kind)?;
-    Ok(Seen {
-        kinds,
-        names,
-        awaiting: Some(line.spans[1]),
-        pins,
-        globals,
-    })
 }
 
 /// How many entries a line has.
@@ -236,91 +168,242 @@ fn add_pins<'a>(
     push_entries(arch, kind, block, words, spans, before)
 }
 
-fn are_few(pins: &Pins) -> bool
-    ensures { result ≡ are_few pins.now }
+/// Whether each net has exactly one driver, where these are the counts of them.
+fn check_drivers(counts: &[u32], pins: &Pins) -> Result<(), NetFault>
+    requires counts { counts.now ≡ map (λ name. count_by (is_driver name) pins.now) (net_names pins.now) }
+    requires few { length pins.now < 2 ^ 32 }
+    ensures { driver_fault pins.now (net_names pins.now) ≡ err_of result }
 {
-    pins.len() <= 1048576 && pins.net_count() <= 65535
-}
-
-/// Takes the pins of the last block.
-fn take_pins<'a>(arch: &[PinKind], seen: Seen<'a>, line: &Line<'a>) -> Result<Seen<'a>, NetFault>
-    requires { length arch.now ≤ 1024 }
-    ensures ok { OnOk result (pins_fault arch.now seen.entry (shown line.now) ≡ None) }
-    ensures said { IfOk result (λ r. r ≡ with_pins arch.now seen.entry (shown line.now)) }
-    ensures err { IfErr result (λ e. FaultIs e (pins_fault arch.now seen.entry (shown line.now))) }
-{
-    let Seen {
-        kinds,
-        names,
-        awaiting,
-        pins,
-        globals,
-    } = seen;
-    if awaiting.is_none() {
-        return Err(NetFault::PinlistWithoutBlock(line.number));
-    }
-    if entry_count(line) != pin_count(arch, kind_or_pad(last_kind(&kinds))) {
-        return Err(NetFault::PinCount(line.number));
-    }
-    let pins = add_pins(arch, &kinds, pins, line)?;
-    if !are_few(&pins) {
-        return Err(NetFault::TooLarge(line.number));
-    }
-    Ok(Seen {
-        kinds,
-        names,
-        awaiting: None,
-        pins,
-        globals,
-    })
-}
-
-/// Takes the names of global nets.
-fn take_globals<'a>(seen: Seen<'a>, line: &Line<'a>) -> Result<Seen<'a>, NetFault>
-    ensures said { IfOk result (λ r. r ≡ with_globals seen.entry (shown line.now)) }
-    ensures err { IfErr result (λ e. FaultIs e None) }
-{
-    let Seen {
-        kinds,
-        names,
-        awaiting,
-        pins,
-        mut globals,
-    } = seen;
-    globals.extend_from_slice(rest_words(line))?;
-    Ok(Seen {
-        kinds,
-        names,
-        awaiting,
-        pins,
-        globals,
-    })
-}
-
-/// Takes a line.
-fn take_line<'a>(
-    alloc: Global,
-    arch: &[PinKind],
-    seen: Seen<'a>,
-    line: &Line<'a>,
-) -> Result<Seen<'a>, NetFault>
-    requires { length arch.now ≤ 1024 }
-    ensures ok { OnOk result (said_fault arch.now seen.entry (shown line.now) ≡ None) }
-    ensures said { IfOk result (λ r. r ≡ after arch.now seen.entry (shown line.now)) }
-    ensures err { IfErr result (λ e. FaultIs e (said_fault arch.now seen.entry (shown line.now))) }
-{
-    match head_of(line) {
-        Head::Opens(kind) => open(alloc, seen, kind, line),
-        Head::Pinlist => take_pins(arch, seen, line),
-        Head::Subblock => {
-            if last_kind(&seen.kinds) == Some(BlockKind::Logic) {
-                Ok(seen)
+    for net in 0..counts.len() {
+        if counts[net] != 1 {
+            let span = pins.first_span(net as u32);
+            return Err(if counts[net] == 0 {
+                NetFault::NoDriver(span)
             } else {
-                Err(NetFault::SubblockWithoutLogic(line.number))
-            }
+                NetFault::TwoDrivers(span)
+            });
         }
-        Head::Global => take_globals(seen, line),
-        Head::Unknown => Err(NetFault::UnknownWord(line.number)),
+    }
+    Ok(())
+}
+
+/// What the lines so far have said.
+struct Seen<'a> {
+    kinds: Vec<BlockKind>,
+    names: BlockNames,
+    awaiting: Option<Span>,
+    pins: Pins<'a>,
+    globals: Vec<&'a [u8]>,
+}
+
+impl<'a> Model for Seen<'a> {
+    ghost use Rattle.std.specs.Prelude.{◌≡◌, ◌≤◌, length, map};
+    ghost use Rattle.fab_net.specs.Said.{Said};
+
+    ghost Value = { Said };
+
+    ghost view = { λ a. record { kinds = a.kinds.items; names = a.names; awaiting = a.awaiting; pins = a.pins; globals = map (λ w. w.now) a.globals.items } };
+
+    ghost invariant = { λ a. (length a.kinds.items ≡ length a.names) × (length a.names ≤ 65535) × (length a.pins ≤ 1048576) };
+}
+
+impl<'a> Drop for Seen<'a> {
+    // A `drop` that is called is one step wherever the value goes out of scope; a derived one is proved anew there.
+    fn drop(self) {
+        let Seen {
+            kinds: _,
+            names: _,
+            awaiting: _,
+            pins: _,
+            globals: _,
+        } = self;
+    }
+}
+
+/// Each line is taken in two steps: first it is judged, which needs no memory, so that a fault is always told as that
+/// fault; then it is added, which only want of memory can stop.
+impl<'a> Seen<'a> {
+    /// Whether a line may open a block.
+    fn check_open(&self, line: &Line) -> Result<(), NetFault>
+        ensures { opens_fault self.now (shown line.now) ≡ err_of result }
+    {
+        if let Some(span) = self.awaiting {
+            return Err(NetFault::MissingPinlist(span));
+        }
+        if line.words.len() < 2 {
+            return Err(NetFault::NoName(line.number));
+        }
+        if self.names.number_of(name_at(line)).is_some() {
+            return Err(NetFault::DuplicateBlock(line.number));
+        }
+        if self.names.len() >= 65535 {
+            return Err(NetFault::TooLarge(line.number));
+        }
+        Ok(())
+    }
+
+    /// Adds the block that a line opens.
+    fn open(self, alloc: Global, kind: BlockKind, line: &Line) -> Result<Self, AllocError>
+        requires named { 1 < length line.now.words.items }
+        requires new { number_of (name_at (shown line.now)) self.names ≡ None }
+        requires few { length self.names < 65535 }
+        ensures { IfOk result (λ r. r ≡ opened self.entry kind (shown line.now)) }
+    {
+        let Seen {
+            mut kinds,
+            mut names,
+            awaiting: _,
+            pins,
+            globals,
+        } = self;
+        names.push(alloc, name_at(line))?;
+        kinds.push(kind)?;
+        Ok(Seen {
+            kinds,
+            names,
+            awaiting: Some(line.spans[1]),
+            pins,
+            globals,
+        })
+    }
+
+    /// Whether a line may be the pinlist of the last block.
+    fn check_pins(&self, arch: &[PinKind], line: &Line) -> Result<(), NetFault>
+        requires { length arch.now ≤ 1024 }
+        ensures { pins_fault arch.now self.now (shown line.now) ≡ err_of result }
+    {
+        if self.awaiting.is_none() {
+            return Err(NetFault::PinlistWithoutBlock(line.number));
+        }
+        if entry_count(line) != pin_count(arch, kind_or_pad(last_kind(&self.kinds))) {
+            return Err(NetFault::PinCount(line.number));
+        }
+        if !self.pins.have_room(rest_words(line)) {
+            return Err(NetFault::TooLarge(line.number));
+        }
+        Ok(())
+    }
+
+    /// Adds the pins of the last block.
+    fn take_pins(self, arch: &[PinKind], line: &Line<'a>) -> Result<Self, AllocError>
+        requires entries { length (entries_in (shown line.now)) ≤ 1024 }
+        requires few { IsTrue (are_few (self.pins ++ pins_more arch.now self.kinds (shown line.now))) }
+        ensures { IfOk result (λ r. r ≡ with_pins arch.now self.entry (shown line.now)) }
+    {
+        let Seen {
+            kinds,
+            names,
+            awaiting: _,
+            pins,
+            globals,
+        } = self;
+        let pins = add_pins(arch, &kinds, pins, line)?;
+        Ok(Seen {
+            kinds,
+            names,
+            awaiting: None,
+            pins,
+            globals,
+        })
+    }
+
+    /// Adds the names of global nets.
+    fn take_globals(self, line: &Line<'a>) -> Result<Self, AllocError>
+        ensures { IfOk result (λ r. r ≡ with_globals self.entry (shown line.now)) }
+    {
+        let Seen {
+            kinds,
+            names,
+            awaiting,
+            pins,
+            mut globals,
+        } = self;
+        globals.extend_from_slice(rest_words(line))?;
+        Ok(Seen {
+            kinds,
+            names,
+            awaiting,
+            pins,
+            globals,
+        })
+    }
+
+    /// Whether a line is lawful behind those before it.
+    fn check_line(&self, arch: &[PinKind], line: &Line) -> Result<(), NetFault>
+        requires { length arch.now ≤ 1024 }
+        ensures { said_fault arch.now self.now (shown line.now) ≡ err_of result }
+    {
+        match head_of(line) {
+            Head::Opens(_) => self.check_open(line),
+            Head::Pinlist => self.check_pins(arch, line),
+            Head::Subblock => {
+                if last_kind(&self.kinds) == Some(BlockKind::Logic) {
+                    Ok(())
+                } else {
+                    Err(NetFault::SubblockWithoutLogic(line.number))
+                }
+            }
+            Head::Global => Ok(()),
+            Head::Unknown => Err(NetFault::UnknownWord(line.number)),
+        }
+    }
+
+    /// Adds what a line says that is lawful.
+    fn take_line(self, alloc: Global, arch: &[PinKind], line: &Line<'a>) -> Result<Self, AllocError>
+        requires arch { length arch.now ≤ 1024 }
+        requires lawful { said_fault arch.now self (shown line.now) ≡ None }
+        ensures { IfOk result (λ r. r ≡ after arch.now self.entry (shown line.now)) }
+    {
+        match head_of(line) {
+            Head::Opens(kind) => self.open(alloc, kind, line),
+            Head::Pinlist => self.take_pins(arch, line),
+            Head::Subblock => Ok(self),
+            Head::Global => self.take_globals(line),
+            Head::Unknown => Ok(self),
+        }
+    }
+
+    /// Whether the whole text is lawful, whose lines are. Only to count the drivers of the nets needs memory.
+    fn check_end(&self, alloc: Global) -> Result<(), NetFault>
+        ensures ok { OnOk result (end_fault self.now ≡ None) }
+        ensures fault { IfErr result (λ e. FaultIs e (end_fault self.now)) }
+    {
+        if let Some(span) = self.awaiting {
+            return Err(NetFault::MissingPinlist(span));
+        }
+        let drivers = self.pins.driver_counts(alloc)?;
+        check_drivers(&drivers, &self.pins)
+    }
+
+    /// The design of what lawful lines have said.
+    fn design(self, alloc: Global) -> Result<Design, AllocError>
+        requires ready { IsReady self }
+        requires lawful { end_fault self ≡ None }
+        ensures { IfOk result (λ d. d ≡ netlist_said self.entry) }
+    {
+        let terminals = self.pins.terminals(alloc)?;
+        let marks = self.pins.marks(alloc, &self.globals)?;
+        let nets = gather_nets(alloc, self.kinds.len(), &terminals, &marks)?;
+        let counts = gather_pins(alloc, self.kinds.len(), &terminals, &marks)?;
+        let Seen {
+            kinds,
+            names,
+            awaiting: _,
+            pins: _,
+            globals: _,
+        } = self;
+        Ok(Design::new(kinds, names, terminals, marks, nets, counts))
+    }
+
+    /// The design of what lines have said, where the whole text is lawful.
+    fn finish(self, alloc: Global) -> Result<Design, NetFault>
+        requires { IsReady self }
+        ensures sound { OnOk result (end_fault self.entry ≡ None) }
+        ensures found { IfOk result (λ d. d ≡ netlist_said self.entry) }
+        ensures fault { IfErr result (λ e. FaultIs e (end_fault self.entry)) }
+    {
+        self.check_end(alloc)?;
+        Ok(self.design(alloc)?)
     }
 }
 
@@ -340,54 +423,10 @@ fn read<'a>(alloc: Global, bytes: &'a [u8], arch: &Arch) -> Result<Seen<'a>, Net
         globals: Vec::new(alloc),
     };
     while let Some(line) = left.next()? {
-        seen = take_line(alloc, &arch.pins, seen, &line)?;
+        seen.check_line(&arch.pins, &line)?;
+        seen = seen.take_line(alloc, &arch.pins, &line)?;
     }
     Ok(seen)
-}
-
-/// Whether each net has exactly one driver.
-fn check_drivers(alloc: Global, pins: &Pins) -> Result<(), NetFault>
-    requires { length pins.now < 2 ^ 32 }
-    ensures ok { OnOk result (driver_fault pins.now (net_names pins.now) ≡ None) }
-    ensures err { IfErr result (λ e. FaultIs e (driver_fault pins.now (net_names pins.now))) }
-{
-    let counts = pins.driver_counts(alloc)?;
-    for net in 0..counts.len() {
-        if counts[net] != 1 {
-            let span = pins.first_span(net as u32);
-            return Err(if counts[net] == 0 {
-                NetFault::NoDriver(span)
-            } else {
-                NetFault::TwoDrivers(span)
-            });
-        }
-    }
-    Ok(())
-}
-
-/// The design of what lines have said.
-fn finish(alloc: Global, seen: Seen) -> Result<Design, NetFault>
-    requires { IsReady seen }
-    ensures sound { OnOk result (end_fault seen.entry ≡ None) }
-    ensures found { IfOk result (λ d. d ≡ netlist_said seen.entry) }
-    ensures fault { IfErr result (λ e. FaultIs e (end_fault seen.entry)) }
-{
-    let Seen {
-        kinds,
-        names,
-        awaiting,
-        pins,
-        globals,
-    } = seen;
-    if let Some(span) = awaiting {
-        return Err(NetFault::MissingPinlist(span));
-    }
-    check_drivers(alloc, &pins)?;
-    let terminals = pins.terminals(alloc)?;
-    let marks = pins.marks(alloc, &globals)?;
-    let nets = gather_nets(alloc, kinds.len(), &terminals, &marks)?;
-    let counts = gather_pins(alloc, kinds.len(), &terminals, &marks)?;
-    Ok(Design::new(kinds, names, terminals, marks, nets, counts))
 }
 
 /// The design that a netlist text means, over an architecture, or the text's first fault: that of the first line
@@ -401,7 +440,7 @@ pub fn read_net(alloc: Global, bytes: &[u8], arch: &Arch) -> Result<Design, NetF
     ensures fault { IfErr result (λ e. FaultIs e (first_fault arch.now.pins.items (lines bytes.now))) }
 {
     let seen = read(alloc, bytes, arch)?;
-    finish(alloc, seen)
+    seen.finish(alloc)
 }
 
 /// The law that the lines of a text either mean a netlist or have a first fault, and never both.

@@ -25,7 +25,7 @@ all_both : {X : Type 0} (P Q : X → Type 0) (xs : List X) → AllByRecursion P 
 all_both P Q [] h k = tt
 all_both P Q (x ∷ xs) h k = ((h.0, k.0), all_both P Q xs h.1 k.1)
 
-all_filter : {X : Type 0} (P : X → Type 0) (f : X → Bool) (xs : List X) → AllByRecursion P xs → AllByRecursion P (filter f xs)
+pub all_filter : {X : Type 0} (P : X → Type 0) (f : X → Bool) (xs : List X) → AllByRecursion P xs → AllByRecursion P (filter f xs)
 all_filter P f [] h = tt
 all_filter P f (x ∷ xs) h = elim (cases_Bool (f x)) [
   | inl y ↦ rw y (h.0, all_filter P f xs h.1)
@@ -75,7 +75,7 @@ abbrev IsPlain : ℕ → Type 0
 IsPlain c = (is_line_feed c ≡ false) × (is_hash c ≡ false)
 
 -- a place of some bytes of a text, none of them a mark
-record IsClean (text : List ℕ) (s : Span) : Type 0 where
+pub record IsClean (text : List ℕ) (s : Span) : Type 0 where
   pub some : s.start < s.stop
   pub within : s.stop ≤ length text
   pub clean : (i : ℕ) → s.start ≤ i → i < s.stop → is_mark (get_or text i 0) ≡ false
@@ -191,7 +191,7 @@ of_part text p h =
 
 -- lines
 
-abbrev HasClean : List ℕ → Placed → Type 0
+abbrev pub HasClean : List ℕ → Placed → Type 0
 HasClean text l = AllByRecursion (IsClean text) l.spans
 
 join_clean : (text : List ℕ) (n : ℕ) (ws : List Span) (ls : List Placed) → AllByRecursion (IsClean text) ws → AllByRecursion (HasClean text) ls → AllByRecursion (HasClean text) (join_first n ws ls)
@@ -207,6 +207,9 @@ joined_clean text n (p ∷ ps) h =
       | inl y ↦ rw y (join_clean text n (words_of p) (joined (n + 1) ps) w rest)
       | inr m ↦ rw m (w, rest)
     ]
+
+pub front_clean : (text : List ℕ) → AllByRecursion (HasClean text) (joined 1 (physical 0 text))
+front_clean text = joined_clean text 1 (physical 0 text) (parts text 0 text (stand_all text))
 
 none_marked : (xs : List ℕ) → ((i : ℕ) → i < length xs → is_mark (get_or xs i 0) ≡ false) → list_any is_mark xs ≡ false
 none_marked [] h = refl
@@ -236,4 +239,4 @@ lines_are text (l ∷ ls) h = (words_are text l.spans h.0, lines_are text ls h.1
 
 pub lines_have_words : LinesHaveWords
 unfolding lines_from
-lines_have_words text = lines_are text _ (all_filter (HasClean text) _ (joined 1 (physical 0 text)) (joined_clean text 1 (physical 0 text) (parts text 0 text (stand_all text))))
+lines_have_words text = lines_are text _ (all_filter (HasClean text) _ (joined 1 (physical 0 text)) (front_clean text))

@@ -1,10 +1,12 @@
 pub mod Decimal
 pub mod Examples
 pub mod Failures
+pub mod FaultTexts
 pub mod FirstFault
 pub mod Fixed
 pub mod Lines
 pub mod LineWords
+pub mod Numbering
 pub mod Runs
 pub mod Shown
 pub mod Steps

@@ -1,26 +1,37 @@
 //! Decimal numbers in texts, read exactly: a whole number of the smallest unit that is asked for.
 
-ghost use Rattle.std.specs.Prelude.{◌≡◌, ◌++◌, ◌*◌, ◌^◌, ◌<◌, IsTrue, position};
+ghost use Rattle.std.specs.Prelude.{◌≡◌, ◌++◌, ◌*◌, ◌^◌, ◌<◌, IsTrue, Some, position};
 ghost use Rattle.std.specs.Char.{is_ascii_digit};
 ghost use Rattle.std.specs.List.{list_all};
 ghost use Rattle.std.specs.Option.{SomeIff};
 ghost use Rattle.std.specs.Str.Parse.{digits_value, digits_value_after};
 ghost use Rattle.fab_text.specs.Decimal.{is_point, whole_part, fraction_part, is_numeral, decimal_of};
+ghost use Rattle.fab_text.specs.FaultTexts.{num_fault_text};
 
+use std::fmt;
 use thiserror::Error;
 
 /// Why a text is no number. The first that applies is answered, in this order.
 #[derive(Clone, Copy, Debug, PartialEq, Eq, Error)]
 pub enum NumFault {
     /// It has no digit, or a byte that may not stand there.
-    #[error("U1 BadDigit")]
     BadDigit,
     /// It has more digits behind the point than there are places.
-    #[error("U2 TooManyPlaces")]
     TooManyPlaces,
     /// In the unit asked for, the number is above 18,446,744,073,709,551,615.
-    #[error("U3 TooLarge")]
     TooLarge,
+}
+
+impl fmt::Display for NumFault {
+    ghost output = { λ fault. Some (num_fault_text fault) };
+
+    fn fmt<W: fmt::Write>(&self, f: &mut fmt::Formatter<W>) -> fmt::Result {
+        f.write_str(match self {
+            NumFault::BadDigit => "U1 BadDigit",
+            NumFault::TooManyPlaces => "U2 TooManyPlaces",
+            NumFault::TooLarge => "U3 TooLarge",
+        })
+    }
 }
 
 fn are_digits(text: &[u8]) -> bool

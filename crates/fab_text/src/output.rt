@@ -1,17 +1,26 @@
 //! Whole writes: what takes bytes, and a write that goes on until all of them are out or one fails.
 
-ghost use Rattle.std.specs.Prelude.{◌≡◌, ℕ, Option, ◌≤◌, ◌<◌, List, length, take, IfOk, OnOk, OnErr};
+ghost use Rattle.std.specs.Prelude.{◌≡◌, ℕ, Option, Some, ◌≤◌, ◌<◌, List, length, take, IfOk, OnOk, OnErr};
 ghost use Rattle.std.specs.Io.KnownBytes.{Appends, WriteAppends};
 ghost use Rattle.fab_text.specs.Failures.{grown, failed_after};
+ghost use Rattle.fab_text.specs.FaultTexts.{write_fault_text};
 
+use std::fmt;
 use std::io::Write;
 use std::marker::Model;
 use thiserror::Error;
 
 /// A writer that failed, or that took nothing of some bytes.
 #[derive(Clone, Copy, Debug, PartialEq, Eq, Error)]
-#[error("the writer failed")]
 pub struct WriteFault;
+
+impl fmt::Display for WriteFault {
+    ghost output = { λ fault. Some (write_fault_text fault) };
+
+    fn fmt<W: fmt::Write>(&self, f: &mut fmt::Formatter<W>) -> fmt::Result {
+        f.write_str("the writer failed")
+    }
+}
 
 /// What takes bytes, and counts the writes that failed.
 pub trait Sink {

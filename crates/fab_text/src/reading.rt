@@ -5,6 +5,7 @@ ghost use Rattle.std.specs.Prelude.{◌≡◌, ℕ, ◌+◌, ◌-◌, ◌++◌, 
 ghost use Rattle.std.specs.List.{before_first};
 ghost use Rattle.fab_text.specs.Steps.{IsNextLine};
 ghost use Rattle.fab_text.specs.Runs.{SeparatorsPassed, RunsAreWords};
+ghost use Rattle.fab_text.specs.Numbering.{LineFeedsEndLines, TextsEndLines, LineFeedsAreCounted, FirstNumbersCount};
 ghost use Rattle.fab_text.specs.LineWords.{LinesHaveWords};
 ghost use Rattle.fab_text.specs.Shown.{shown};
 ghost use Rattle.fab_text.specs.Lines.{is_separator, is_hash, is_line_feed, trimmed, content, is_continued, words_at, bytes_at, physical, without_backslash, joined, lines, lines_from};
@@ -286,4 +287,17 @@ pub fn words_are_greatest_runs()
 /// The law that each word of each line of a text has a byte and no separator, no line feed and no `#`.
 pub fn lines_have_words()
     ensures { LinesHaveWords }
+{}
+
+/// The law that a physical line ends at a line feed or at the end of the text, and nowhere else.
+pub fn line_feeds_end_lines()
+    ensures feed { LineFeedsEndLines }
+    ensures end { TextsEndLines }
+{}
+
+/// The law that a line has the number of its first physical line, which is one more than the line feeds that stand
+/// before it in the text.
+pub fn lines_are_numbered_by_line_feeds()
+    ensures counted { LineFeedsAreCounted }
+    ensures first { FirstNumbersCount }
 {}

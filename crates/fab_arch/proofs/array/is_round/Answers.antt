@@ -1,4 +1,4 @@
-use Rattle.std.proofs.Common.{sym, refl}
+use Rattle.std.proofs.Common.{refl}
 use Rattle.fab_arch.proofs.Perimeter.{round_is}
 use Rattle.fab_arch.proofs.array.is_round.Goals as goal
 

@@ -1,4 +1,4 @@
-use Rattle.std.proofs.Common.{◌-◌, ◌+◌, sym, arith}
+use Rattle.std.proofs.Common.{◌-◌, sym, arith}
 use Rattle.fab_arch.specs.Grid.{shape}
 use Rattle.fab_arch.proofs.Perimeter.{at_left, at_top, at_right, at_bottom, past_all}
 use Rattle.fab_arch.proofs.array.position_at.Goals as goal

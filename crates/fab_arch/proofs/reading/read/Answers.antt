@@ -6,19 +6,19 @@ use Rattle.fab_text.specs.Shown.{shown}
 use Rattle.fab_arch.proofs.Standing.{step, fails, no_ratio, no_pins, ratio_bounds}
 use Rattle.fab_arch.proofs.reading.read.Goals as goal
 
-pub returns-in_err-take_line-clause-fault : goal.returns-in_err-take_line-clause-fault
-returns-in_err-take_line-clause-fault c =
-    let p = err_from_is_err_and c.from_residual-in_err-take_line.result c.from_residual-in_err-take_line.ensures.1 in
+pub returns-in_err-check_line-clause-fault : goal.returns-in_err-check_line-clause-fault
+returns-in_err-check_line-clause-fault c =
+    let p = err_from_is_err_and c.from_residual-in_err-check_line.result c.from_residual-in_err-check_line.ensures.1 in
     let next : c.loop-seen.left ≡ shown c.in-Some.line ∷ c.next.new.self = rw c.in-Some.is at c.in_ok-line.ensures.some in
     let here = rw next at c.loop-seen.invariant in
-    rw (p.1, p.2) (fails (lines c.args.bytes.now) (shown c.in-Some.line) c.next.new.self _ _ _ here c.in_err-take_line.ensures.err)
+    rw (p.1, p.2) (fails (lines c.args.bytes.now) (shown c.in-Some.line) c.next.new.self _ _ _ here c.in_err-check_line.ensures)
 
 pub loop-seen-preserved : goal.loop-seen-preserved
 loop-seen-preserved c =
     let next : c.loop-seen.left ≡ shown c.in-Some.line ∷ c.next.new.self = rw c.in-Some.is at c.in_ok-line.ensures.some in
     let here = rw next at c.loop-seen.invariant in
-    let there = step (lines c.args.bytes.now) (shown c.in-Some.line) c.next.new.self _ _ here c.in_ok-take_line.ensures.ok in
-    rw (c.in_ok-take_line.ensures.io_rat, c.in_ok-take_line.ensures.pins) there
+    let there = step (lines c.args.bytes.now) (shown c.in-Some.line) c.next.new.self _ _ here c.in_ok-check_line.ensures in
+    rw (c.in_ok-add_line.ensures.io_rat, c.in_ok-add_line.ensures.pins) there
 
 pub returns-in_default-io_rat-clause-fault : goal.returns-in_default-io_rat-clause-fault
 returns-in_default-io_rat-clause-fault c =

@@ -1,5 +1,5 @@
 use Rattle.std.proofs.Common.{◌≡◌, ℕ, ◌+◌, ◌<◌, [], None, List, length, get_or, drop, refl, sym, ap, ◌∙◌, arith, count_by}
-use Rattle.std.proofs.lemmas.List.{length-map, get_or-map, get_or_read}
+use Rattle.std.proofs.lemmas.List.{length-map, get_or-map}
 use Rattle.fab_net.specs.Faults.{driver_fault, net_fault}
 use Rattle.fab_net.specs.Text.{net_names, is_driver}
 use Rattle.fab_net.proofs.Naming.{nets_le}
@@ -9,9 +9,9 @@ use Rattle.fab_net.proofs.reading.check_drivers.Goals as goal
 pub overflow_cast-net : goal.overflow_cast-net
 overflow_cast-net c =
     let pins = c.args.pins.now in
-    let n = ap length c.in_ok-counts.ensures in
+    let n = ap length c.requires.counts in
     let m = length-map (net_names pins) (λ name. count_by (is_driver name) pins) in
-    omega (arith, c.loop-net-test.true, n, m, nets_le pins, c.len-net-end.ensures, c.in_ok-counts.counts.ok.0, c.requires)
+    omega (arith, c.loop-net-test.true, n, m, nets_le pins, c.requires.few)
 
 pub loop-net-preserved : goal.loop-net-preserved
 loop-net-preserved c =
@@ -19,11 +19,10 @@ loop-net-preserved c =
     let names = net_names pins in
     let i = c.loop-net.net in
     let f : List ℕ → ℕ = λ name. count_by (is_driver name) pins in
-    let n = ap length c.in_ok-counts.ensures in
+    let n = ap length c.requires.counts in
     let m = length-map names f in
-    let lt : i < length names = omega (arith, c.loop-net-test.true, n, m, c.len-net-end.ensures, c.in_ok-counts.counts.ok.0) in
-    let read = get_or_read c.in_ok-counts.counts.items i c.index.result.now (omega (arith, n, m, lt)) c.index.ensures 0 in
-    let one : count_by (is_driver (get_or names i [])) pins ≡ 1 = sym (read ∙ ap (λ xs. get_or xs i 0) c.in_ok-counts.ensures ∙ get_or-map f names i [] 0 lt) ∙ c.if-index-ne1.false in
+    let lt : i < length names = omega (arith, c.loop-net-test.true, n, m) in
+    let one : count_by (is_driver (get_or names i [])) pins ≡ 1 = sym (ap (λ xs. get_or xs i 0) c.requires.counts ∙ get_or-map f names i [] 0 lt) ∙ c.if-counts-net-ne1.false in
     let none : net_fault pins (get_or names i []) ≡ None = one_is_none pins (get_or names i []) one in
     let more : driver_fault pins (drop i names) ≡ driver_fault pins (drop (i + 1) names) = drivers_more pins names i lt ∙ rw none refl in
     sym more ∙ c.loop-net.invariant
