@@ -1,30 +1,30 @@
 -- A text that stands for a placement has no fault, and block lines without a fault make a placement.
-use Rattle.std.proofs.Common.{◌≡◌, ◌≢◌, ℕ, ◌+◌, ◌<◌, ◌≤◌, Bool, true, false, not, cond, eqb, ltb, ◌||◌, ◌&&◌, List, [], ◌∷◌, ◌++◌, Option, Some, None, length, map, get_or, zero, suc, refl, sym, ap, ◌∙◌, inl, inr, arith}
+use Rattle.std.proofs.Common.{◌≡◌, ℕ, ◌+◌, ◌<◌, Bool, true, false, not, eqb, ◌||◌, List, [], ◌∷◌, ◌++◌, Option, Some, None, length, map, get_or, zero, suc, refl, sym, ap, ◌∙◌, inl, inr, arith}
 use Rattle.std.specs.Prelude.{slice_get, is_some, position}
 use Rattle.std.specs.List.{list_any, AllByRecursion, position_or_len}
 use Rattle.std.specs.Str.{bytes_eq}
-use Rattle.std.proofs.lemmas.Bool.{cases_Bool, cases_eq, false≢true, eqb-true, eq-eqb, and_parts}
+use Rattle.std.proofs.lemmas.Bool.{cases_Bool, false≢true, eqb-true, eq-eqb}
 use Rattle.std.proofs.lemmas.List.{length-map, append-nil, append_assoc, map-append, ext_get_or}
 use Rattle.std.proofs.lemmas.List.Folds.{list_any-append}
 use Rattle.fab_text.specs.Lines.{TextLine}
-use Rattle.fab_text.specs.FirstFault.{or_else, unless, fault_behind}
+use Rattle.fab_text.specs.FirstFault.{fault_behind}
 use Rattle.fab_arch.specs.declared.array.Site.{Site}
 use Rattle.fab_arch.specs.declared.array.SiteKind.{SiteKind}
 use Rattle.fab_arch.specs.declared.array.SiteKind.TheVariants as site_kind
-use Rattle.fab_arch.specs.Grid.{GridShape, kind_at}
+use Rattle.fab_arch.specs.Grid.{GridShape}
 use Rattle.fab_net.specs.Names.{number_of, AllDistinct}
 use Rattle.fab_net.specs.Netlist.{Netlist, IsLawful}
 use Rattle.fab_net.proofs.Naming.{name_at_number, same_name, other_way, itself, any_position, has_number}
 use Rattle.fab_net.proofs.Underway.{all_push}
 use Rattle.fab_net.proofs.Distinct.{by_number}
-use Rattle.fab_site.specs.Placement.{same_site, site_of, nowhere, kind_wanted, fixed_at, IsLegal}
+use Rattle.fab_site.specs.Placement.{same_site, site_of, nowhere, kind_wanted, IsLegal}
 use Rattle.fab_site.specs.Draft.{is_missing}
 use Rattle.fab_site.proofs.Tables.{same_is}
 use Rattle.fab_file.specs.declared.fault.PlaceFault.{PlaceFault}
 use Rattle.fab_file.specs.declared.fault.PlaceFault.TheVariants as fault
-use Rattle.fab_file.specs.Place.{is_files_line, size_in, site_in, block_in, names_block, Places, StandsFor}
-use Rattle.fab_file.specs.PlaceFaults.{sites_given, is_block, is_repeated, same_kind, kind_fault, block_fault, block_fault_by, size_fault_by, fault_of, text_fault, missing_fault, first_fault, FaultIs}
-use Rattle.fab_file.specs.Taken.{LinesOf, has_site, end_fault}
+use Rattle.fab_file.specs.Place.{is_files_line, size_in, block_in, names_block, Places, StandsFor}
+use Rattle.fab_file.specs.PlaceFaults.{sites_given, is_block, is_repeated, same_kind, block_fault, text_fault, missing_fault, first_fault, FaultIs}
+use Rattle.fab_file.specs.Taken.{AreFitting, has_site, end_fault}
 use Rattle.fab_file.proofs.Seats.{none_some, some_none, inner, or_neither, all_kept, first_word, IsSeated, Seats}
 
 -- the first block that no line names
@@ -61,8 +61,8 @@ same_missing d g bs sites law u =
     missing_at sites i ∙ ap not (u.repeats i ∙ named_lines d sites i bs law.distinct (omega (arith, lt, long)) u.seated)) in
     rw (each, long) refl
 
-pub same_end : (d : Netlist) (g : GridShape) (files size : TextLine) (bs : List TextLine) (sites : List (Option Site)) → IsLawful d → Seats d g bs sites → end_fault (record { netlist = d; grid = g; sites = sites }) ≡ text_fault d (files ∷ size ∷ bs)
-same_end d g files size bs sites law u = ap missing_fault (same_missing d g bs sites law u)
+pub same_end : (d : Netlist) (g : GridShape) (bs : List TextLine) (sites : List (Option Site)) → IsLawful d → Seats d g bs sites → end_fault (record { netlist = d; grid = g; sites = sites }) ≡ text_fault d bs
+same_end d g bs sites law u = ap missing_fault (same_missing d g bs sites law u)
 
 -- block lines without a fault make a placement
 
@@ -90,9 +90,19 @@ each_fails : {X : Type 0} (p : X → Bool) (xs : List X) → list_any (λ x. not
 each_fails p [] h = tt
 each_fails p (x ∷ xs) h = let parts = or_neither (not (p x)) (list_any (λ x. not (p x)) xs) h in (not_false (p x) parts.0, each_fails p xs parts.1)
 
-no_missing : (o : Option ℕ) → missing_fault o ≡ None → o ≡ None
+pub no_missing : (o : Option ℕ) → missing_fault o ≡ None → o ≡ None
 no_missing None h = refl
 no_missing (Some b) h = absurd (some_none _ h)
+
+-- sites given to all blocks are a legal placement
+pub legal : (d : Netlist) (g : GridShape) (final : List Site) → length (map Some final) ≡ length d.kinds → AreFitting d g (map Some final) → IsLegal d g [] final
+legal d g final long u =
+    record {
+      all = sym (length-map final (λ (s : Site). Some s)) ∙ long;
+      fit = λ b lt. u.fit b (site_of final b) (got final b lt);
+      apart = λ a b la lb same. u.apart a b (site_of final a) (got final a la) (got final b lb ∙ ap (λ s. Some (Some s)) (sym same));
+      stay = λ b s h. absurd (none_some s h);
+    }
 
 pub stands : (d : Netlist) (g : GridShape) (ls : List TextLine) (files size : TextLine) (bs : List TextLine) (sites : List (Option Site)) (final : List Site) → IsLawful d → Seats d g bs sites
     → ls ≡ files ∷ size ∷ bs → is_files_line files ≡ true → size_in size ≡ Some (g.nx, g.ny) → map Some final ≡ sites → end_fault (record { netlist = d; grid = g; sites = sites }) ≡ None → StandsFor d g ls final
@@ -109,12 +119,7 @@ stands d g ls files size bs sites final law u' text files_line size_line all non
       lines = all_kept (IsSeated d (map Some final)) (Places d final) bs (λ l s. record { block = s.block; named = s.named; stands = s.given ∙ ap (λ x. Some x) (got_back final s.block s.site s.there) }) u.seated;
       distinct = u.distinct;
       complete = each_fails (λ name. list_any (names_block name) bs) d.names (none_passes (λ name. not (list_any (names_block name) bs)) d.names end);
-      legal = record {
-        all = sym (length-map final (λ (s : Site). Some s)) ∙ u.long;
-        fit = λ b lt. u.fits b (site_of final b) (got final b lt);
-        apart = λ a b la lb same. u.apart a b (site_of final a) (got final a la) (got final b lb ∙ ap (λ s. Some (Some s)) (sym same));
-        stay = λ b s h. absurd (none_some s h);
-      };
+      legal = legal d g final u.long (record { fit = u.fits; apart = u.apart });
     }
 
 -- a text that stands for a placement has no fault
@@ -173,23 +178,23 @@ all_pass p (x ∷ xs) h = rw (h.0) (all_pass p xs h.1)
 no_position : {X : Type 0} (p : X → Bool) (xs : List X) → list_any p xs ≡ false → position p xs ≡ None
 no_position p xs h = rw (any_position p xs ∙ h) refl
 
-no_fault_behind : (d : Netlist) (g : GridShape) (sites : List Site) (files size : TextLine) (before after : List TextLine) → IsLawful d → IsLegal d g [] sites → AllByRecursion (Places d sites) before → AllByRecursion (Places d sites) after → AllDistinct (map first_word (before ++ after))
-    → AllByRecursion (λ name. list_any (names_block name) (before ++ after) ≡ true) d.names → fault_behind (fault_of d g) (text_fault d) (files ∷ size ∷ before) after ≡ None
-no_fault_behind d g sites files size before [] law legal h k distinct complete' =
+no_fault_behind : (d : Netlist) (g : GridShape) (sites : List Site) (before after : List TextLine) → IsLawful d → IsLegal d g [] sites → AllByRecursion (Places d sites) before → AllByRecursion (Places d sites) after → AllDistinct (map first_word (before ++ after))
+    → AllByRecursion (λ name. list_any (names_block name) (before ++ after) ≡ true) d.names → fault_behind (block_fault d g) (text_fault d) before after ≡ None
+no_fault_behind d g sites before [] law legal h k distinct complete' =
     let whole : before ++ [] ≡ before = append-nil before in
     let complete : AllByRecursion (λ name. list_any (names_block name) before ≡ true) d.names = rw (← whole) complete' in
     ap missing_fault (no_position (λ name. not (list_any (names_block name) before)) d.names (all_pass (λ name. list_any (names_block name) before) d.names complete))
-no_fault_behind d g sites files size before (l ∷ after) law legal h k distinct complete =
+no_fault_behind d g sites before (l ∷ after) law legal h k distinct complete =
     let none = no_block_fault d g sites before l after law legal h k.0 distinct in
     let same : (before ++ l ∷ []) ++ after ≡ before ++ l ∷ after = append_assoc before (l ∷ []) after in
-    rw none (no_fault_behind d g sites files size (before ++ l ∷ []) after law legal (all_push (Places d sites) before l h k.0) k.1 (rw same distinct) (rw same complete))
+    rw none (no_fault_behind d g sites (before ++ l ∷ []) after law legal (all_push (Places d sites) before l h k.0) k.1 (rw same distinct) (rw same complete))
 
 itself_is : (n : ℕ) → eqb n n ≡ true
 itself_is n = eq-eqb n n refl
 
 pub no_fault_in : (d : Netlist) (g : GridShape) (ls : List TextLine) (sites : List Site) → IsLawful d → StandsFor d g ls sites → first_fault d g ls ≡ None
 no_fault_in d g ls sites law t =
-    let rest = no_fault_behind d g sites t.files t.size [] t.rest law t.legal tt t.lines t.distinct t.complete in
+    let rest = no_fault_behind d g sites [] t.rest law t.legal tt t.lines t.distinct t.complete in
     rw (t.text, t.files_line, t.size_line, itself_is g.nx, itself_is g.ny) rest
 
 -- a text stands for one placement at most

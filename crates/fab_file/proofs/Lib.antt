@@ -9,3 +9,4 @@ pub mod Told
 pub mod Spoken
 pub mod Laid
 pub mod Back
+pub mod Meaning

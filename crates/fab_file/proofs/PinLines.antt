@@ -18,7 +18,7 @@ use Rattle.fab_file.specs.declared.fault.PlaceFault.TheVariants as fault
 use Rattle.fab_file.specs.Place.{site_in, block_in, place_size_of}
 use Rattle.fab_file.specs.PlaceFaults.{size_fault_by}
 use Rattle.fab_file.specs.Taken.{LinesOf, no_lines, has_site, take_fault, with_line}
-use Rattle.fab_file.specs.Pinned.{block_lines, is_free, without_free, Locates, site_for, fixed_by, begun_by, first_given, IsLocated, pin_fault, pins_fault, header_fault}
+use Rattle.fab_file.specs.Pinned.{block_lines, is_free, without_free, Locates, site_for, fixed_by, begun_by, first_given, IsLocated, pin_fault, no_text_fault, pins_fault, header_fault}
 use Rattle.fab_file.proofs.Seats.{none_some, some_none, first_word, IsSeated, Seats, no_seats, IsTakable, takable, named_below, on, same_fault}
 use Rattle.fab_file.proofs.PinText.{behind_lawful_header, same_block, same_firsts, either_none}
 
@@ -30,7 +30,7 @@ pub record Pinning (d : Netlist) (g : GridShape) (all left : List TextLine) (p :
   pub text : block_lines all ≡ before ++ left
   pub header : header_fault g all ≡ None
   pub seats : Seats d g (map without_free before) sites
-  pub clean : pins_fault d g all ≡ fault_behind (pin_fault d g) (λ _. None) before left
+  pub clean : pins_fault d g all ≡ fault_behind (pin_fault d g) no_text_fault before left
   pub fixed_sites : (b : ℕ) → fixed_at fixed b ≡ first_given (fixed_by d b) before
   pub begun_sites : (b : ℕ) → fixed_at begun b ≡ first_given (begun_by d b) before
   pub both : (b : ℕ) → given_at fixed begun b ≡ flat (slice_get sites b)
@@ -50,7 +50,7 @@ begin d g all left p fixed begun new no_fixed no_begun rest header =
       text = sym rest;
       header = header;
       seats = no_seats d g;
-      clean = behind_lawful_header d g all header ∙ ap (fault_behind (pin_fault d g) (λ _. None) []) (sym rest);
+      clean = behind_lawful_header d g all header ∙ ap (fault_behind (pin_fault d g) no_text_fault []) (sym rest);
       fixed_sites = λ b. ap (λ x. fixed_at x b) no_fixed;
       begun_sites = λ b. ap (λ x. fixed_at x b) no_begun;
       both = λ b. ap (λ x. given_at x begun b) no_fixed ∙ ap (λ x. given_at [] x b) no_begun ∙ none_yet (length d.kinds) b;
@@ -75,10 +75,10 @@ given_push : (by_line : TextLine → Option Site) (ls : List TextLine) (l : Text
 given_push by_line [] l = either_none (by_line l)
 given_push by_line (k ∷ ls) l = ap (either_site (by_line k)) (given_push by_line ls l) ∙ sym (either_assoc (by_line k) (first_given by_line ls) (by_line l))
 
-for_own : (d : Netlist) (b : ℕ) (s : Site) (l : TextLine) → block_in d l ≡ Some b → site_in l ≡ Some s → site_for d b l ≡ Some s
+pub for_own : (d : Netlist) (b : ℕ) (s : Site) (l : TextLine) → block_in d l ≡ Some b → site_in l ≡ Some s → site_for d b l ≡ Some s
 for_own d b s l named given = rw (named, eq-eqb b b refl) given
 
-for_other : (d : Netlist) (a b : ℕ) (l : TextLine) → block_in d l ≡ Some b → a ≢ b → site_for d a l ≡ None
+pub for_other : (d : Netlist) (a b : ℕ) (l : TextLine) → block_in d l ≡ Some b → a ≢ b → site_for d a l ≡ None
 for_other d a b l named other = let no : eqb b a ≡ false = ne_eqb b a (λ e. other (sym e)) in rw (named, no) refl
 
 for_is : (d : Netlist) (a b : ℕ) (s : Site) (l : TextLine) → block_in d l ≡ Some b → site_for d a l ≡ Some s → a ≡ b
@@ -88,7 +88,7 @@ for_is d a b s l named h = elim (cases_eq a b) [
 ]
 
 -- the line's block is neither fixed nor begun
-new_block : (d : Netlist) (g : GridShape) (all left : List TextLine) (p : LinesOf) (fixed begun : List (Option Site)) (b : ℕ) → (r : Pinning d g all left p fixed begun) → has_site r.sites b ≡ false → (fixed_at fixed b ≡ None) × (fixed_at begun b ≡ None)
+pub new_block : (d : Netlist) (g : GridShape) (all left : List TextLine) (p : LinesOf) (fixed begun : List (Option Site)) (b : ℕ) → (r : Pinning d g all left p fixed begun) → has_site r.sites b ≡ false → (fixed_at fixed b ≡ None) × (fixed_at begun b ≡ None)
 new_block d g all left p fixed begun b r h = neither (fixed_at fixed b) (fixed_at begun b) (r.both b ∙ none_is (flat (slice_get r.sites b)) h)
 
 pub is_new : (d : Netlist) (g : GridShape) (all left : List TextLine) (l : TextLine) (p : LinesOf) (fixed begun : List (Option Site)) (b : ℕ) (s : Site) → Pinning d g all (l ∷ left) p fixed begun → take_fault p (without_free l) ≡ None → site_for d b (without_free l) ≡ Some s
@@ -147,7 +147,7 @@ step d g all left l p q fixed begun new_fixed new_begun law r none e n =
       text = r.text ∙ sym (append_assoc r.before (l ∷ []) left);
       header = r.header;
       seats = rw more seats;
-      clean = r.clean ∙ ap (λ x. or_else x (fault_behind (pin_fault d g) (λ _. None) (r.before ++ l ∷ []) left)) clear;
+      clean = r.clean ∙ ap (λ x. or_else x (fault_behind (pin_fault d g) no_text_fault (r.before ++ l ∷ []) left)) clear;
       fixed_sites = λ b. n.fixes b ∙ ap (λ o. either_site o (fixed_by d b l)) (r.fixed_sites b) ∙ sym (given_push (fixed_by d b) r.before l);
       begun_sites = λ b. n.begins b ∙ ap (λ o. either_site o (begun_by d b l)) (r.begun_sites b) ∙ sym (given_push (begun_by d b) r.before l);
       both = both t new (not_there r.sites t.block (omega (arith, named_below d plain t.block law t.named, r.seats.long)) t.new);
@@ -203,7 +203,7 @@ pub fails : (d : Netlist) (g : GridShape) (all left : List TextLine) (l : TextLi
 fails d g all left l p fixed begun e r k =
     let k' : take_fault (record { netlist = d; grid = g; sites = r.sites }) (without_free l) ≡ Some e = ap (λ x. take_fault x (without_free l)) (sym r.is) ∙ k in
     let here : pin_fault d g r.before l ≡ Some e = sym (same_fault d g (map without_free r.before) r.sites (without_free l) r.seats) ∙ k' in
-    r.clean ∙ ap (λ x. or_else x (fault_behind (pin_fault d g) (λ _. None) (r.before ++ l ∷ []) left)) here
+    r.clean ∙ ap (λ x. or_else x (fault_behind (pin_fault d g) no_text_fault (r.before ++ l ∷ []) left)) here
 
 -- all lines were taken
 
@@ -223,7 +223,7 @@ got_below [] b s h = absurd (none_some (Some s) h)
 got_below (o ∷ os) zero s h = omega arith
 got_below (o ∷ os) (suc b) s h = let rest = got_below os b s h in omega arith
 
-size_is : (g : GridShape) (o : Option (ℕ × ℕ)) → size_fault_by g o ≡ None → o ≡ Some (g.nx, g.ny)
+pub size_is : (g : GridShape) (o : Option (ℕ × ℕ)) → size_fault_by g o ≡ None → o ≡ Some (g.nx, g.ny)
 size_is g None h = absurd (some_none fault.BadHeader h)
 size_is g (Some (x, y)) h = elim (cases_Bool (eqb x g.nx && eqb y g.ny)) [
   | inl t ↦ let parts = and_parts (eqb x g.nx) (eqb y g.ny) t in rw (eqb-true x g.nx parts.0, eqb-true y g.ny parts.1) refl

@@ -21,41 +21,10 @@ use Rattle.fab_site.specs.Pins.{either_site, given_at, ArePins}
 use Rattle.fab_site.proofs.Tables.{same_is}
 use Rattle.fab_file.specs.declared.fault.PlaceFault.{PlaceFault}
 use Rattle.fab_file.specs.declared.fault.PlaceFault.TheVariants as fault
-use Rattle.fab_file.specs.Place.{is_files_line, size_in, site_in, block_in}
-use Rattle.fab_file.specs.PlaceFaults.{sites_given, is_block, is_repeated, same_kind, size_fault_by, FaultIs}
-use Rattle.fab_file.specs.Pinned.{begins_header, has_header, block_lines, is_free, without_free, Locates, site_for, fixed_by, begun_by, first_given, IsLocated, pin_fault, pins_line_fault, pins_text_fault, pins_fault, header_fault}
+use Rattle.fab_file.specs.Place.{site_in, block_in}
+use Rattle.fab_file.specs.PlaceFaults.{sites_given, is_block, is_repeated, same_kind, FaultIs}
+use Rattle.fab_file.specs.Pinned.{has_header, block_lines, is_free, without_free, Locates, site_for, fixed_by, begun_by, first_given, IsLocated, pin_fault, no_text_fault, pins_fault, header_fault}
 use Rattle.fab_file.proofs.Seats.{some_none, or_neither, first_word}
-
--- the header, and then the block lines
-
-behind_header : (d : Netlist) (g : GridShape) (files size : TextLine) (before left : List TextLine) → begins_header files ≡ true
-    → fault_behind (pins_line_fault d g) pins_text_fault (files ∷ size ∷ before) left ≡ fault_behind (pin_fault d g) (λ _. None) before left
-behind_header d g files size before [] h = refl
-behind_header d g files size before (l ∷ left) h = rw h (ap (or_else (pin_fault d g before l)) (behind_header d g files size (before ++ l ∷ []) left h))
-
-without_header : (d : Netlist) (g : GridShape) (first : TextLine) (before left : List TextLine) → begins_header first ≡ false
-    → fault_behind (pins_line_fault d g) pins_text_fault (first ∷ before) left ≡ fault_behind (pin_fault d g) (λ _. None) (first ∷ before) left
-without_header d g first [] [] h = rw h refl
-without_header d g first (second ∷ before) [] h = refl
-without_header d g first [] (l ∷ left) h = rw h (ap (or_else (pin_fault d g (first ∷ []) l)) (without_header d g first (l ∷ []) left h))
-without_header d g first (second ∷ before) (l ∷ left) h = rw h (ap (or_else (pin_fault d g (first ∷ second ∷ before) l)) (without_header d g first (second ∷ before ++ l ∷ []) left h))
-
-pub in_two : (d : Netlist) (g : GridShape) (ls : List TextLine) → pins_fault d g ls ≡ or_else (header_fault g ls) (fault_of_all (pin_fault d g) (λ _. None) (block_lines ls))
-in_two d g [] = refl
-in_two d g (files ∷ []) = elim (cases_Bool (begins_header files)) [
-  | inl y ↦ elim (cases_Bool (is_files_line files)) [
-    | inl k ↦ rw (k, y) refl
-    | inr k ↦ rw (k, y) refl
-  ]
-  | inr n ↦ rw n refl
-]
-in_two d g (files ∷ size ∷ ls) = elim (cases_Bool (begins_header files)) [
-  | inl y ↦ elim (cases_Bool (is_files_line files)) [
-    | inl k ↦ rw (k, y) (ap (or_else (size_fault_by g (size_in size))) (behind_header d g files size [] ls y))
-    | inr k ↦ rw (k, y) refl
-  ]
-  | inr n ↦ rw n (ap (λ x. or_else (pin_fault d g [] files) (or_else (pin_fault d g (files ∷ []) size) x)) (without_header d g files (size ∷ []) ls n))
-]
 
 -- a fault in place of another
 fault_for : (e : PlaceFault) (f k : Option PlaceFault) → (f ≡ Some e → k ≡ Some e) → FaultIs e f → FaultIs e k
@@ -74,10 +43,10 @@ fault_for fault.BadLabel f k t h = t h
 fault_for fault.Write f k t h = t h
 
 pub header_refused : (d : Netlist) (g : GridShape) (ls : List TextLine) (e : PlaceFault) → FaultIs e (header_fault g ls) → FaultIs e (pins_fault d g ls)
-header_refused d g ls e h = fault_for e (header_fault g ls) (pins_fault d g ls) (λ k. in_two d g ls ∙ ap (λ x. or_else x (fault_of_all (pin_fault d g) (λ _. None) (block_lines ls))) k) h
+header_refused d g ls e h = fault_for e (header_fault g ls) (pins_fault d g ls) (λ k. ap (λ x. or_else x (fault_of_all (pin_fault d g) no_text_fault (block_lines ls))) k) h
 
-pub behind_lawful_header : (d : Netlist) (g : GridShape) (ls : List TextLine) → header_fault g ls ≡ None → pins_fault d g ls ≡ fault_behind (pin_fault d g) (λ _. None) [] (block_lines ls)
-behind_lawful_header d g ls h = in_two d g ls ∙ ap (λ x. or_else x (fault_of_all (pin_fault d g) (λ _. None) (block_lines ls))) h
+pub behind_lawful_header : (d : Netlist) (g : GridShape) (ls : List TextLine) → header_fault g ls ≡ None → pins_fault d g ls ≡ fault_behind (pin_fault d g) no_text_fault [] (block_lines ls)
+behind_lawful_header d g ls h = ap (λ x. or_else x (fault_of_all (pin_fault d g) no_text_fault (block_lines ls))) h
 
 -- a line without its last word `free`
 
@@ -207,7 +176,7 @@ no_pin_fault d g fixed begun before l law h p new =
     rw (p.given, named, once, fit, kind_is (kind_wanted d p.block), free) refl
 
 no_fault_behind : (d : Netlist) (g : GridShape) (ls : List TextLine) (fixed begun : List (Option Site)) (before after : List TextLine) → IsLocated d g ls fixed begun → block_lines ls ≡ before ++ after → AllByRecursion (Stands d fixed begun) before → AllByRecursion (Locates d) after
-    → AllDistinct (map first_word (before ++ after)) → fault_behind (pin_fault d g) (λ _. None) before after ≡ None
+    → AllDistinct (map first_word (before ++ after)) → fault_behind (pin_fault d g) no_text_fault before after ≡ None
 no_fault_behind d g ls fixed begun before [] t whole h k distinct = refl
 no_fault_behind d g ls fixed begun before (l ∷ after) t whole h k distinct =
     let words : AllDistinct (map first_word before ++ first_word l ∷ map first_word after) = rw (← map-append first_word before (l ∷ after)) distinct in

@@ -1,6 +1,6 @@
 -- The sites that block lines have given, one line on.
-use Rattle.std.proofs.Common.{◌≡◌, ◌≢◌, ℕ, ◌+◌, ◌<◌, ◌≤◌, Bool, true, false, not, cond, eqb, ◌||◌, ◌&&◌, List, [], ◌∷◌, ◌++◌, Option, Some, None, length, map, get_or, set, replicate, zero, suc, refl, sym, ap, ◌∙◌, inl, inr, arith}
-use Rattle.std.specs.Prelude.{slice_get, is_some}
+use Rattle.std.proofs.Common.{◌≡◌, ◌≢◌, ℕ, ◌+◌, ◌<◌, Bool, true, false, not, eqb, ◌||◌, List, [], ◌∷◌, ◌++◌, Option, Some, None, length, map, set, replicate, zero, suc, refl, sym, ap, ◌∙◌, inl, inr, arith}
+use Rattle.std.specs.Prelude.{slice_get, slice_index_or, is_some}
 use Rattle.std.specs.List.{list_any, AllByRecursion}
 use Rattle.std.specs.Str.{bytes_eq}
 use Rattle.std.proofs.lemmas.Bool.{cases_Bool, cases_eq, false≢true, eqb-true, eq-eqb}
@@ -13,6 +13,9 @@ use Rattle.fab_arch.specs.declared.array.Site.{Site}
 use Rattle.fab_arch.specs.declared.array.SiteKind.{SiteKind}
 use Rattle.fab_arch.specs.declared.array.SiteKind.TheVariants as site_kind
 use Rattle.fab_arch.specs.Grid.{GridShape, kind_at}
+use Rattle.fab_net.specs.declared.pieces.BlockId.{BlockId}
+use Rattle.fab_net.specs.declared.pieces.BlockKind.{BlockKind}
+use Rattle.fab_net.specs.declared.pieces.BlockKind.TheVariants.{Logic}
 use Rattle.fab_net.specs.Names.{number_of, AllDistinct}
 use Rattle.fab_net.specs.Netlist.{Netlist, IsLawful}
 use Rattle.fab_net.proofs.Naming.{name_at_number, same_name}
@@ -23,7 +26,7 @@ use Rattle.fab_site.proofs.Drafting.{get_set_same, get_set_other, apart_put}
 use Rattle.fab_file.specs.declared.fault.PlaceFault.{PlaceFault}
 use Rattle.fab_file.specs.Place.{word_at, site_in, block_in}
 use Rattle.fab_file.specs.PlaceFaults.{sites_given, is_block, is_repeated, same_kind, kind_fault, block_fault, block_fault_by}
-use Rattle.fab_file.specs.Taken.{LinesOf, has_site, take_fault, take_fault_by}
+use Rattle.fab_file.specs.Taken.{AreFitting, wanted, has_site, take_fault, take_fault_by}
 
 pub none_some : {X : Type 0} (y : X) → None ≡ Some y → ⊥
 none_some y h = cc
@@ -113,7 +116,7 @@ pub record IsTakable (d : Netlist) (g : GridShape) (sites : List (Option Site)) 
   pub fit : kind_at g site ≡ Some (kind_wanted d block)
   pub free : is_some (holder_of sites site) ≡ false
 
-both_none : (a b : Option PlaceFault) → or_else a b ≡ None → (a ≡ None) × (b ≡ None)
+pub both_none : (a b : Option PlaceFault) → or_else a b ≡ None → (a ≡ None) × (b ≡ None)
 both_none None b h = (refl, h)
 both_none (Some e) b h = absurd (some_none e h)
 
@@ -223,6 +226,43 @@ none_is (Some x) h = absurd (false≢true (sym h))
 pub named_below : (d : Netlist) (l : TextLine) (b : ℕ) → IsLawful d → block_in d l ≡ Some b → b < length d.kinds
 named_below d l b law h = let at = name_at_number (first_word l) d.names b h in omega (arith, at.0, law.named)
 
+fits_set : (d : Netlist) (g : GridShape) (sites : List (Option Site)) (b : ℕ) (x : Site) → ((a : ℕ) (s : Site) → slice_get sites a ≡ Some (Some s) → kind_at g s ≡ Some (kind_wanted d a)) → slice_get sites b ≡ Some None → kind_at g x ≡ Some (kind_wanted d b)
+    → (a : ℕ) (s : Site) → slice_get (set sites b (Some x)) a ≡ Some (Some s) → kind_at g s ≡ Some (kind_wanted d a)
+fits_set d g sites b x fits missing fit a s h = elim (cases_eq a b) [
+  | inl e ↦
+      let there : Some (Some s) ≡ Some (Some x) = sym h ∙ ap (slice_get (set sites b (Some x))) e ∙ get_set_same sites b None (Some x) missing in
+      let same : s ≡ x = inner s x (inner (Some s) (Some x) there) in
+      ap (kind_at g) same ∙ fit ∙ ap (λ i. Some (kind_wanted d i)) (sym e)
+  | inr other ↦ fits a s (sym (get_set_other sites b a (Some x) other) ∙ h)
+]
+
+pub none_there_yet : (sites : List (Option Site)) (b : ℕ) (o : Option Site) → slice_get sites b ≡ Some o → is_some o ≡ false → slice_get sites b ≡ Some None
+none_there_yet sites b o h k = h ∙ ap (λ x. Some x) (none_is o k)
+
+pub nobody_there : (sites : List (Option Site)) (x : Site) (o : Option BlockId) → o ≡ holder_of sites x → is_some o ≡ false → holder_of sites x ≡ None
+nobody_there sites x o h k = sym h ∙ none_is o k
+
+kind_read : (kinds : List BlockKind) (b : ℕ) (k : BlockKind) → slice_get kinds b ≡ Some k → slice_index_or kinds b Logic ≡ k
+kind_read [] b k h = absurd (none_some k h)
+kind_read (x ∷ xs) zero k h = inner x k h
+kind_read (x ∷ xs) (suc b) k h = kind_read xs b k h
+
+-- a block that is taken onto a site of the kind it needs fits there
+pub fitting_put : (d : Netlist) (g : GridShape) (sites : List (Option Site)) (b : ℕ) (x : Site) (k : BlockKind) (kind : SiteKind) → AreFitting d g sites → slice_get sites b ≡ Some None → holder_of sites x ≡ None → slice_get d.kinds b ≡ Some k → kind_at g x ≡ Some kind → same_kind kind (wanted k) ≡ true
+    → AreFitting d g (set sites b (Some x))
+fitting_put d g sites b x k kind u missing free is there same =
+    let need : kind_wanted d b ≡ wanted k = ap wanted (kind_read d.kinds b k is) in
+    let fit : kind_at g x ≡ Some (kind_wanted d b) = there ∙ ap (λ v. Some v) (kinds_equal kind (wanted k) same ∙ sym need) in
+    record { fit = fits_set d g sites b x u.fit missing fit; apart = apart_put sites b x u.apart missing free }
+
+-- such a line has no fault
+pub no_take_fault : (d : Netlist) (g : GridShape) (sites : List (Option Site)) (l : TextLine) (b : ℕ) (x : Site) (k : BlockKind) (kind : SiteKind) → block_in d l ≡ Some b → site_in l ≡ Some x → slice_get sites b ≡ Some None → holder_of sites x ≡ None → slice_get d.kinds b ≡ Some k → kind_at g x ≡ Some kind → same_kind kind (wanted k) ≡ true
+    → take_fault (record { netlist = d; grid = g; sites = sites }) l ≡ None
+no_take_fault d g sites l b x k kind named given missing free is there same =
+    let new : has_site sites b ≡ false = ap (λ o. is_some (flat o)) missing in
+    let fits : same_kind kind (kind_wanted d b) ≡ true = ap (λ v. same_kind kind (wanted v)) (kind_read d.kinds b k is) ∙ same in
+    rw (given, named, new, there, fits, free) refl
+
 pub on : (d : Netlist) (g : GridShape) (bs : List TextLine) (l : TextLine) (sites : List (Option Site)) → IsLawful d → Seats d g bs sites → (t : IsTakable d g sites l) → Seats d g (bs ++ l ∷ []) (set sites t.block (Some t.site))
 on d g bs l sites law u t =
     let below = named_below d l t.block law t.named in
@@ -240,18 +280,9 @@ on d g bs l sites law u t =
           (all_kept (IsSeated d sites) (IsSeated d (set sites t.block (Some t.site))) bs (seated_on d sites t.block t.site missing) u.seated)
           (record { block = t.block; site = t.site; named = t.named; given = t.given; there = get_set_same sites t.block None (Some t.site) missing });
       distinct = rw (map_push first_word bs l) (distinct_push (map first_word bs) (first_word l) u.distinct (unnamed d.names (first_word l) t.block bs t.named (sym (u.repeats t.block) ∙ t.new)));
-      fits = fits missing;
+      fits = fits_set d g sites t.block t.site u.fits missing t.fit;
       apart = apart_put sites t.block t.site u.apart missing (none_is (holder_of sites t.site) t.free);
     }
-  where
-    fits : slice_get sites t.block ≡ Some None → (b : ℕ) (s : Site) → slice_get (set sites t.block (Some t.site)) b ≡ Some (Some s) → kind_at g s ≡ Some (kind_wanted d b)
-    fits missing b s h = elim (cases_eq b t.block) [
-      | inl e ↦
-          let there : Some (Some s) ≡ Some (Some t.site) = sym h ∙ ap (slice_get (set sites t.block (Some t.site))) e ∙ get_set_same sites t.block None (Some t.site) missing in
-          let same : s ≡ t.site = inner s t.site (inner (Some s) (Some t.site) there) in
-          ap (kind_at g) same ∙ t.fit ∙ ap (λ i. Some (kind_wanted d i)) (sym e)
-      | inr other ↦ u.fits b s (sym (get_set_other sites t.block b (Some t.site) other) ∙ h)
-    ]
 
 -- a line's first fault is told by the sites that the lines before it gave
 faults_by : (d : Netlist) (g : GridShape) (bs : List TextLine) (sites : List (Option Site)) (n : ℕ) (o : Option Site) (q : Option ℕ) → Seats d g bs sites

@@ -1,10 +1,10 @@
 -- A reader of block lines: the lines that it took, and those that are left.
-use Rattle.std.proofs.Common.{◌≡◌, ℕ, Bool, true, false, not, cond, eqb, ◌&&◌, List, [], ◌∷◌, ◌++◌, Option, Some, None, IfOk, OnOk, Result, Ok, Err, length, map, set, drop, replicate, refl, sym, ap, ◌∙◌, inl, inr, arith}
+use Rattle.std.proofs.Common.{◌≡◌, ℕ, Bool, true, false, cond, eqb, ◌&&◌, List, [], ◌∷◌, ◌++◌, Option, Some, None, IfOk, OnOk, Result, Ok, Err, length, map, set, drop, replicate, refl, sym, ap, ◌∙◌}
 use Rattle.std.specs.Prelude.{IfErr, MatchResult}
-use Rattle.std.proofs.lemmas.Bool.{cases_Bool, false≢true, and_parts, eqb-true, eq-eqb}
+use Rattle.std.proofs.lemmas.Bool.{eq-eqb}
 use Rattle.std.proofs.lemmas.List.{append-nil, append_assoc}
 use Rattle.fab_text.specs.Lines.{TextLine}
-use Rattle.fab_text.specs.FirstFault.{or_else, unless, fault_behind}
+use Rattle.fab_text.specs.FirstFault.{or_else, unless, fault_behind, fault_of_all}
 use Rattle.fab_arch.specs.declared.array.Site.{Site}
 use Rattle.fab_arch.specs.Grid.{GridShape}
 use Rattle.fab_net.specs.Netlist.{Netlist, IsLawful}
@@ -12,9 +12,9 @@ use Rattle.fab_site.specs.Placement.{PlacementOf}
 use Rattle.fab_file.specs.declared.fault.PlaceFault.{PlaceFault}
 use Rattle.fab_file.specs.declared.fault.PlaceFault.TheVariants as fault
 use Rattle.fab_file.specs.Place.{is_files_line, size_in, place_size_of, site_in, block_in, StandsFor}
-use Rattle.fab_file.specs.PlaceFaults.{FaultIs, fault_of, text_fault, first_fault, size_fault, block_fault}
+use Rattle.fab_file.specs.PlaceFaults.{FaultIs, size_fault_by, text_fault, first_fault, size_fault, block_fault}
 use Rattle.fab_file.specs.Taken.{LinesOf, no_lines, take_fault, with_line, end_fault}
-use Rattle.fab_file.proofs.Seats.{none_some, some_none, inner, Seats, no_seats, takable, on, same_fault}
+use Rattle.fab_file.proofs.Seats.{none_some, inner, Seats, no_seats, takable, on, same_fault}
 use Rattle.fab_file.proofs.Legal.{stands, same_end, no_fault_in, one_placement, memory_only}
 
 -- the first two lines are the header of this array
@@ -25,7 +25,7 @@ pub record HasHeader (g : GridShape) (ls rest : List TextLine) : Type 0 where
   pub files_line : is_files_line files ≡ true
   pub size_line : size_in size ≡ Some (g.nx, g.ny)
 
-sized : (b : Bool) (o : Option (ℕ × ℕ)) (r : ℕ × ℕ) → cond b o None ≡ Some r → (b ≡ true) × (o ≡ Some r)
+pub sized : (b : Bool) (o : Option (ℕ × ℕ)) (r : ℕ × ℕ) → cond b o None ≡ Some r → (b ≡ true) × (o ≡ Some r)
 sized true o r h = (refl, h)
 sized false o r h = absurd (none_some r h)
 
@@ -39,12 +39,7 @@ header g (files ∷ size ∷ ls) rest nx ny h d x y =
 -- a text whose header is bad, or gives another size
 
 pub bad_header : (d : Netlist) (g : GridShape) (ls : List TextLine) → place_size_of ls ≡ None → first_fault d g ls ≡ Some fault.BadHeader
-bad_header d g [] h = refl
-bad_header d g (files ∷ []) h = elim (cases_Bool (is_files_line files)) [ inl y ↦ rw y refl | inr n ↦ rw n refl ]
-bad_header d g (files ∷ size ∷ ls) h = elim (cases_Bool (is_files_line files)) [
-  | inl y ↦ let none : size_in size ≡ None = rw y at h in rw (y, none) refl
-  | inr n ↦ rw n refl
-]
+bad_header d g ls h = ap (λ o. or_else (size_fault_by g o) (fault_of_all (block_fault d g) (text_fault d) (drop 2 ls))) h
 
 bad_size : (o : Option (ℕ × ℕ)) (e : PlaceFault) → size_fault o ≡ Some e → (o ≡ None) × (e ≡ fault.BadHeader)
 bad_size None e h = (refl, sym (inner fault.BadHeader e h))
@@ -69,9 +64,9 @@ size_refused d g ls fault.BadLabel h = absurd (let k = (bad_size (place_size_of 
 size_refused d g ls fault.Write h = absurd (let k = (bad_size (place_size_of ls) fault.Write h).1 in cc)
 
 pub wrong_size : (d : Netlist) (g : GridShape) (ls : List TextLine) (nx ny : ℕ) → place_size_of ls ≡ Some (nx, ny) → (eqb nx g.nx && eqb ny g.ny) ≡ false → first_fault d g ls ≡ Some fault.WrongSize
-wrong_size d g [] nx ny h k = absurd (none_some (nx, ny) h)
-wrong_size d g (files ∷ []) nx ny h k = absurd (none_some (nx, ny) h)
-wrong_size d g (files ∷ size ∷ ls) nx ny h k = let parts = sized (is_files_line files) (size_in size) (nx, ny) h in rw (parts.0, parts.1, k) refl
+wrong_size d g ls nx ny h k =
+    let rest = fault_of_all (block_fault d g) (text_fault d) (drop 2 ls) in
+    ap (λ o. or_else (size_fault_by g o) rest) h ∙ ap (λ b. or_else (unless b fault.WrongSize) rest) k
 
 -- the lines that were taken have no fault, and gave these sites; the others are left
 pub record Reading (d : Netlist) (g : GridShape) (all left : List TextLine) (p : LinesOf) : Type 0 where
@@ -84,7 +79,7 @@ pub record Reading (d : Netlist) (g : GridShape) (all left : List TextLine) (p :
   pub files_line : is_files_line files ≡ true
   pub size_line : size_in size ≡ Some (g.nx, g.ny)
   pub seats : Seats d g before sites
-  pub clean : first_fault d g all ≡ fault_behind (fault_of d g) (text_fault d) (files ∷ size ∷ before) left
+  pub clean : first_fault d g all ≡ fault_behind (block_fault d g) (text_fault d) before left
 
 pub begin : (d : Netlist) (g : GridShape) (all left : List TextLine) (p : LinesOf) → HasHeader g all left → p ≡ no_lines d g → Reading d g all left p
 begin d g all left p h e =
@@ -120,14 +115,14 @@ step d g all left l p q law r none e =
       files_line = r.files_line;
       size_line = r.size_line;
       seats = on d g r.before l r.sites law r.seats t;
-      clean = r.clean ∙ ap (λ x. or_else x (fault_behind (fault_of d g) (text_fault d) (r.files ∷ r.size ∷ (r.before ++ l ∷ [])) left)) clear;
+      clean = r.clean ∙ ap (λ x. or_else x (fault_behind (block_fault d g) (text_fault d) (r.before ++ l ∷ []) left)) clear;
     }
 
 pub fails : (d : Netlist) (g : GridShape) (all left : List TextLine) (l : TextLine) (p : LinesOf) (e : PlaceFault) → Reading d g all (l ∷ left) p → take_fault p l ≡ Some e → first_fault d g all ≡ Some e
 fails d g all left l p e r k =
     let k' : take_fault (record { netlist = d; grid = g; sites = r.sites }) l ≡ Some e = ap (λ x. take_fault x l) (sym r.is) ∙ k in
     let here : block_fault d g r.before l ≡ Some e = sym (same_fault d g r.before r.sites l r.seats) ∙ k' in
-    r.clean ∙ ap (λ x. or_else x (fault_behind (fault_of d g) (text_fault d) (r.files ∷ r.size ∷ (r.before ++ l ∷ [])) left)) here
+    r.clean ∙ ap (λ x. or_else x (fault_behind (block_fault d g) (text_fault d) (r.before ++ l ∷ []) left)) here
 
 -- all lines were taken
 
@@ -137,7 +132,7 @@ all_stand d g all p final law r none whole =
     stands d g all r.files r.size r.before r.sites final law r.seats text r.files_line r.size_line (whole ∙ ap (λ x. x.sites) r.is) (ap end_fault (sym r.is) ∙ none)
 
 pub all_fault : (d : Netlist) (g : GridShape) (all : List TextLine) (p : LinesOf) → IsLawful d → Reading d g all [] p → first_fault d g all ≡ end_fault p
-all_fault d g all p law r = r.clean ∙ sym (ap end_fault r.is ∙ same_end d g r.files r.size r.before r.sites law r.seats)
+all_fault d g all p law r = r.clean ∙ sym (ap end_fault r.is ∙ same_end d g r.before r.sites law r.seats)
 
 -- what a reader answers
 

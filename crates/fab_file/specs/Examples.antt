@@ -1,8 +1,8 @@
 -- Examples of what .place texts stand for: the netlist of a pad `a`, a pad `z` and a logic block `b`, on one logic site.
-use Rattle.std.specs.Prelude.{ℕ, ◌≡◌, List, [], ◌∷◌, ◌++◌, Option, Some, None, refl, codes, false}
-use Rattle.fab_text.specs.Lines.{TextLine, lines, lines_from, trimmed, content, is_continued, without_backslash, words_of}
+use Rattle.std.specs.Prelude.{ℕ, ◌≡◌, List, [], ◌∷◌, ◌++◌, Option, Some, None, refl, codes}
+use Rattle.fab_text.specs.Lines.{lines, lines_from, trimmed, content, is_continued, without_backslash, words_of}
 use Rattle.fab_text.specs.Decimal.{decimal_of}
-use Rattle.fab_arch.specs.Grid.{GridShape, shape}
+use Rattle.fab_arch.specs.Grid.{shape}
 use Rattle.fab_net.specs.declared.pieces.BlockKind.TheVariants.{InputPad, OutputPad, Logic}
 use Rattle.fab_net.specs.Netlist.{Netlist}
 use Rattle.fab_file.specs.declared.fault.PlaceFault.{PlaceFault}
@@ -71,3 +71,7 @@ an_unknown_block = refl
 pub a_size_that_is_no_number : fault (codes "Netlist file: t.net Architecture file: t.arch\nArray size: 1 x -1 logic blocks\n") ≡ Some BadHeader
 unfolding lines_from trimmed content is_continued without_backslash words_of decimal_of
 a_size_that_is_no_number = refl
+
+pub another_size_before_a_bad_line : fault (codes "Netlist file: t.net Architecture file: t.arch\nArray size: 1 x 2 logic blocks\na 0 1 0\na 0 1 0\n") ≡ Some WrongSize
+unfolding lines_from trimmed content is_continued without_backslash words_of decimal_of
+another_size_before_a_bad_line = refl

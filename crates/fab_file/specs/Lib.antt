@@ -7,3 +7,4 @@ pub mod Written
 pub mod ReadsBack
 pub mod Examples
 pub mod FaultTexts
+pub mod MeaningExamples

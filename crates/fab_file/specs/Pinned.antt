@@ -3,7 +3,7 @@
 use Rattle.std.specs.Prelude.{ℕ, ◌≡◌, Bool, true, false, ◌&&◌, ◌==◌, if◌then◌else◌, List, [], ◌∷◌, length, map, take, drop, codes, Option, Some, None}
 use Rattle.std.specs.List.{AllByRecursion}
 use Rattle.fab_text.specs.Lines.{TextLine}
-use Rattle.fab_text.specs.FirstFault.{fault_of_all}
+use Rattle.fab_text.specs.FirstFault.{or_else, fault_of_all}
 use Rattle.fab_arch.specs.declared.array.Site.{Site}
 use Rattle.fab_arch.specs.Grid.{GridShape}
 use Rattle.fab_net.specs.Names.{AllDistinct}
@@ -11,9 +11,8 @@ use Rattle.fab_net.specs.Netlist.{Netlist}
 use Rattle.fab_site.specs.Placement.{fixed_at}
 use Rattle.fab_site.specs.Pins.{either_site, ArePins}
 use Rattle.fab_file.specs.declared.fault.PlaceFault.{PlaceFault}
-use Rattle.fab_file.specs.declared.fault.PlaceFault.TheVariants.{BadHeader}
-use Rattle.fab_file.specs.Place.{word_at, is_word, size_in, place_size_of, site_in, block_in}
-use Rattle.fab_file.specs.PlaceFaults.{is_block, files_fault, size_fault_by, block_fault}
+use Rattle.fab_file.specs.Place.{word_at, is_word, place_size_of, site_in, block_in}
+use Rattle.fab_file.specs.PlaceFaults.{is_block, place_header_fault, block_fault}
 
 -- a first line that begins so is the header's
 abbrev pub begins_header : TextLine → Bool
@@ -76,22 +75,20 @@ pub record IsLocated (d : Netlist) (g : GridShape) (ls : List TextLine) (fixed b
 abbrev pub pin_fault : Netlist → GridShape → List TextLine → TextLine → Option PlaceFault
 pin_fault d g before l = block_fault d g (map without_free before) (without_free l)
 
--- the first fault of a line that follows others: where the first begins a header, the first two lines are it
-abbrev pub pins_line_fault : Netlist → GridShape → List TextLine → TextLine → Option PlaceFault
-pins_line_fault d g [] l = if begins_header l then files_fault l else pin_fault d g [] l
-pins_line_fault d g (first ∷ []) l = if begins_header first then size_fault_by g (size_in l) else pin_fault d g (first ∷ []) l
-pins_line_fault d g (first ∷ second ∷ before) l = pin_fault d g (if begins_header first then before else first ∷ second ∷ before) l
-
--- the fault of a whole text, whose lines have none: half a header
-abbrev pub pins_text_fault : List TextLine → Option PlaceFault
-pins_text_fault [] = None
-pins_text_fault (first ∷ []) = if begins_header first then Some BadHeader else None
-pins_text_fault (first ∷ second ∷ rest) = None
-
--- the first fault of a location text
-abbrev pub pins_fault : Netlist → GridShape → List TextLine → Option PlaceFault
-pins_fault d g ls = fault_of_all (pins_line_fault d g) pins_text_fault ls
-
 -- the fault of the header, where there is one
 abbrev pub header_fault : GridShape → List TextLine → Option PlaceFault
-header_fault g ls = if has_header ls then size_fault_by g (place_size_of ls) else None
+header_fault g ls = if has_header ls then place_header_fault g ls else None
+
+-- a whole text has no fault where its header and its block lines have none: it need not name each block
+abbrev pub no_text_fault : List TextLine → Option PlaceFault
+no_text_fault blocks = None
+
+-- the first fault of a location text: the header's, else the first of the block lines' faults
+abbrev pub pins_fault : Netlist → GridShape → List TextLine → Option PlaceFault
+pins_fault d g ls = or_else (header_fault g ls) (fault_of_all (pin_fault d g) no_text_fault (block_lines ls))
+
+-- a text stands for sites of blocks, or has a first fault, and never both
+abbrev pub LocationMeansOrFaults : Netlist → GridShape → List TextLine → Type 0
+LocationMeansOrFaults d g ls =
+    ((fixed begun : List (Option Site)) → IsLocated d g ls fixed begun → pins_fault d g ls ≡ None)
+    × (pins_fault d g ls ≡ None → (fixed : List (Option Site)) × ((begun : List (Option Site)) × IsLocated d g ls fixed begun))

@@ -102,3 +102,7 @@ half_a_header = refl
 pub another_size : fault (codes "Netlist file: t.net Architecture file: t.arch\nArray size: 2 x 3 logic blocks\nq\n") ≡ Some WrongSize
 unfolding lines_from trimmed content is_continued without_backslash words_of decimal_of
 another_size = refl
+
+pub a_bad_header_before_a_bad_line : fault (codes "Netlist file: t.net Architecture file: t.arch\nArray size: 2 x q logic blocks\nb1 1 1 0\nb1 1 1 0\n") ≡ Some BadHeader
+unfolding lines_from trimmed content is_continued without_backslash words_of decimal_of
+a_bad_header_before_a_bad_line = refl

@@ -1,7 +1,6 @@
 -- The first fault of a .place text (its order is our own).
-use Rattle.std.specs.Prelude.{ℕ, ◌≡◌, ◌==◌, Bool, true, false, not, ◌&&◌, is_some, List, [], ◌∷◌, ◌++◌, if◌then◌else◌, length, map, position, Option, Some, None}
+use Rattle.std.specs.Prelude.{ℕ, ◌≡◌, ◌==◌, Bool, true, false, not, ◌&&◌, List, drop, position, Option, Some, None}
 use Rattle.std.specs.List.{list_any, filter_map}
-use Rattle.std.specs.Str.{bytes_eq}
 use Rattle.fab_text.specs.Lines.{TextLine}
 use Rattle.fab_text.specs.FirstFault.{or_else, unless, fault_of_all}
 use Rattle.fab_arch.specs.declared.array.Site.{Site}
@@ -12,14 +11,16 @@ use Rattle.fab_net.specs.Netlist.{Netlist}
 use Rattle.fab_site.specs.Placement.{same_site, kind_wanted}
 use Rattle.fab_file.specs.declared.fault.PlaceFault.{PlaceFault}
 use Rattle.fab_file.specs.declared.fault.PlaceFault.TheVariants.{BadHeader, WrongSize, UnknownBlock, Repeated, NoSuchSite, WrongKind, Taken, Missing, BadLine, NoMemory}
-use Rattle.fab_file.specs.Place.{is_files_line, size_in, site_in, block_in, names_block}
+use Rattle.fab_file.specs.Place.{place_size_of, site_in, block_in, names_block, StandsFor}
 
-abbrev pub files_fault : TextLine → Option PlaceFault
-files_fault l = unless (is_files_line l) BadHeader
-
+-- the fault of a header that gives this size, or none, and must give this array's
 abbrev pub size_fault_by : GridShape → Option (ℕ × ℕ) → Option PlaceFault
 size_fault_by g None = Some BadHeader
 size_fault_by g (Some size) = unless (size.0 == g.nx && size.1 == g.ny) WrongSize
+
+-- the fault of the header, the first two lines of a .place text
+abbrev pub place_header_fault : GridShape → List TextLine → Option PlaceFault
+place_header_fault g ls = size_fault_by g (place_size_of ls)
 
 -- the sites that lines give
 abbrev pub sites_given : List TextLine → List Site
@@ -58,25 +59,23 @@ block_fault_by d g before n (Some site) (Some block) =
 abbrev pub block_fault : Netlist → GridShape → List TextLine → TextLine → Option PlaceFault
 block_fault d g before l = block_fault_by d g before l.number (site_in l) (block_in d l)
 
--- the first fault of a line that follows others: the first two lines are the header
-abbrev pub fault_of : Netlist → GridShape → List TextLine → TextLine → Option PlaceFault
-fault_of d g [] l = files_fault l
-fault_of d g (files ∷ []) l = size_fault_by g (size_in l)
-fault_of d g (files ∷ size ∷ blocks) l = block_fault d g blocks l
-
 abbrev pub missing_fault : Option ℕ → Option PlaceFault
 missing_fault None = None
 missing_fault (Some block) = Some (Missing block)
 
--- the fault of a whole text, whose lines have none: no header, or a block that no line names
+-- the fault of a whole text, where its header and these block lines have none: the first block that no line names
 abbrev pub text_fault : Netlist → List TextLine → Option PlaceFault
-text_fault d [] = Some BadHeader
-text_fault d (files ∷ []) = Some BadHeader
-text_fault d (files ∷ size ∷ blocks) = missing_fault (position (λ name. not (list_any (names_block name) blocks)) d.names)
+text_fault d blocks = missing_fault (position (λ name. not (list_any (names_block name) blocks)) d.names)
 
--- the first fault of a text
+-- the first fault of a text: the header's, else the first of the block lines' faults, else that of the whole text
 abbrev pub first_fault : Netlist → GridShape → List TextLine → Option PlaceFault
-first_fault d g ls = fault_of_all (fault_of d g) (text_fault d) ls
+first_fault d g ls = or_else (place_header_fault g ls) (fault_of_all (block_fault d g) (text_fault d) (drop 2 ls))
+
+-- a text stands for a placement, or has a first fault, and never both
+abbrev pub PlaceMeansOrFaults : Netlist → GridShape → List TextLine → Type 0
+PlaceMeansOrFaults d g ls =
+    ((sites : List Site) → StandsFor d g ls sites → first_fault d g ls ≡ None)
+    × (first_fault d g ls ≡ None → (sites : List Site) × StandsFor d g ls sites)
 
 -- a fault that was answered is this one, or want of memory, which may come for any text
 abbrev pub FaultIs : PlaceFault → Option PlaceFault → Type 0

@@ -1,6 +1,5 @@
 -- What block lines have said so far: of each block the site that a line gave it (our own).
-use Rattle.std.specs.Prelude.{ℕ, ◌≡◌, ◌==◌, Bool, not, is_some, if◌then◌else◌, List, [], ◌∷◌, position, replicate, length, Option, Some, None, slice_get, slice_set}
-use Rattle.std.specs.List.{list_any}
+use Rattle.std.specs.Prelude.{ℕ, ◌≡◌, Bool, not, is_some, if◌then◌else◌, List, position, replicate, length, Option, Some, None, slice_get, slice_set}
 use Rattle.fab_text.specs.Lines.{TextLine}
 use Rattle.fab_text.specs.FirstFault.{or_else, unless}
 use Rattle.fab_arch.specs.declared.array.Site.{Site}
@@ -9,8 +8,8 @@ use Rattle.fab_arch.specs.declared.array.SiteKind.{SiteKind}
 use Rattle.fab_arch.specs.declared.array.SiteKind.TheVariants as site_kind
 use Rattle.fab_net.specs.declared.pieces.BlockKind.{BlockKind}
 use Rattle.fab_net.specs.Netlist.{Netlist, is_logic}
-use Rattle.fab_site.specs.Placement.{flat}
-use Rattle.fab_site.specs.Draft.{holder_of, is_missing}
+use Rattle.fab_site.specs.Placement.{flat, Fits}
+use Rattle.fab_site.specs.Draft.{NoneShared, holder_of, is_missing}
 use Rattle.fab_file.specs.declared.fault.PlaceFault.{PlaceFault}
 use Rattle.fab_file.specs.declared.fault.PlaceFault.TheVariants.{UnknownBlock, Repeated, Taken, BadLine}
 use Rattle.fab_file.specs.Place.{site_in, block_in}
@@ -21,6 +20,11 @@ pub record LinesOf : Type 0 where
   pub netlist : Netlist
   pub grid : GridShape
   pub sites : List (Option Site)
+
+-- each site given is one of the array's, of its block's kind, and no two blocks have one
+pub record AreFitting (d : Netlist) (g : GridShape) (sites : List (Option Site)) : Type 0 where
+  pub fit : (b : ℕ) (s : Site) → slice_get sites b ≡ Some (Some s) → Fits d g b s
+  pub apart : NoneShared sites
 
 abbrev pub no_lines : Netlist → GridShape → LinesOf
 no_lines d g = record { netlist = d; grid = g; sites = replicate (length d.kinds) None }

@@ -21,7 +21,7 @@ pub mod writing;
 
 pub use fault::PlaceFault;
 pub use header::place_size;
-pub use pinning::read_pins;
-pub use reading::read_place;
+pub use pinning::{location_texts_mean_or_fault, read_pins};
+pub use reading::{place_texts_mean_or_fault, read_place};
 pub use taking::PlaceLines;
 pub use writing::{Labels, are_labels, write_place, written_texts_read_back};

@@ -2,12 +2,14 @@
 
 ghost use Rattle.std.specs.Prelude.{◌≡◌, ℕ, List, Option, Some, None, if◌then◌else◌, IfOk, IfErr, OnOk, MatchResult};
 ghost use Rattle.fab_arch.specs.declared.array.Site.{Site};
-ghost use Rattle.fab_text.specs.Lines.{lines};
+ghost use Rattle.fab_text.specs.Lines.{TextLine, lines};
+ghost use Rattle.fab_arch.specs.Grid.{GridShape};
+ghost use Rattle.fab_net.specs.Netlist.{Netlist, IsLawful};
 ghost use Rattle.fab_text.specs.Shown.{shown};
 ghost use Rattle.fab_site.specs.Placement.{fixed_at};
 ghost use Rattle.fab_site.specs.Pins.{either_site, ArePins};
 ghost use Rattle.fab_file.specs.PlaceFaults.{FaultIs};
-ghost use Rattle.fab_file.specs.Pinned.{begins_header, has_header, block_lines, header_fault, is_free, without_free, site_for, IsLocated, pins_fault};
+ghost use Rattle.fab_file.specs.Pinned.{begins_header, has_header, block_lines, header_fault, is_free, without_free, site_for, IsLocated, LocationMeansOrFaults, pins_fault};
 ghost use Rattle.fab_file.specs.declared.fault.PlaceFault.TheVariants.{NoMemory};
 
 use crate::fault::PlaceFault;
@@ -126,3 +128,8 @@ pub fn read_pins(
     }
     Ok(Pins { fixed, begun })
 }
+
+/// The law that the lines of a location text either stand for sites of blocks or have a first fault, and never both.
+pub fn location_texts_mean_or_fault()
+    ensures { (d : Netlist) (g : GridShape) (ls : List TextLine) → IsLawful d → LocationMeansOrFaults d g ls }
+{}

@@ -2,9 +2,11 @@
 
 ghost use Rattle.std.specs.Prelude.{◌≡◌, ◌==◌, ◌&&◌, List, IfOk, IfErr, MatchResult};
 ghost use Rattle.fab_arch.specs.declared.array.Site.{Site};
-ghost use Rattle.fab_text.specs.Lines.{lines};
+ghost use Rattle.fab_text.specs.Lines.{TextLine, lines};
+ghost use Rattle.fab_arch.specs.Grid.{GridShape};
+ghost use Rattle.fab_net.specs.Netlist.{Netlist, IsLawful};
 ghost use Rattle.fab_file.specs.Place.{StandsFor};
-ghost use Rattle.fab_file.specs.PlaceFaults.{FaultIs, first_fault};
+ghost use Rattle.fab_file.specs.PlaceFaults.{FaultIs, PlaceMeansOrFaults, first_fault};
 ghost use Rattle.fab_file.specs.declared.fault.PlaceFault.TheVariants.{NoMemory};
 
 use crate::fault::PlaceFault;
@@ -50,3 +52,8 @@ pub fn read_place(
     }
     placed.finish()
 }
+
+/// The law that the lines of a placement text either stand for a placement or have a first fault, and never both.
+pub fn place_texts_mean_or_fault()
+    ensures { (d : Netlist) (g : GridShape) (ls : List TextLine) → IsLawful d → PlaceMeansOrFaults d g ls }
+{}

@@ -26,12 +26,12 @@ fn give(draft: &mut Draft, grid: &Grid, block: BlockId, to: Site) -> bool
 }
 
 // The placement, where each block has its site.
-fn finished(alloc: Global, draft: Draft) -> Result<Option<Placement>, AllocError>
+fn finished(draft: Draft) -> Result<Option<Placement>, AllocError>
     ensures { IfOk result (λ o. IfSome o (λ p. p.grid ≡ draft.grid)) }
 {
     match draft.first_missing() {
         Some(_) => Ok(None),
-        None => Ok(Some(draft.finish(alloc)?)),
+        None => Ok(Some(draft.finish()?)),
     }
 }
 
@@ -41,7 +41,7 @@ fn two_blocks(alloc: Global, grid: &Grid, first: Site, second: Site) -> Result<P
 {
     let mut draft = Draft::new(alloc, 2, grid)?;
     if give(&mut draft, grid, BlockId(0), first) && give(&mut draft, grid, BlockId(1), second) {
-        if let Some(placement) = finished(alloc, draft)? {
+        if let Some(placement) = finished(draft)? {
             return Ok(placement);
         }
     }
@@ -101,7 +101,7 @@ fn a_draft_becomes_a_placement(rt: HostRuntime) -> Result<(), Fail> {
     assert_eq!(rt; draft.first_missing(), Some(0));
     assert!(rt; give(&mut draft, &grid, BlockId(0), site(2, 2, 0)));
     assert_eq!(rt; draft.first_missing(), None);
-    let Some(placement) = finished(rt.alloc(), draft)? else {
+    let Some(placement) = finished(draft)? else {
         return Err(Fail::from("a block without a site"));
     };
     assert_eq!(rt; placement.blocks(), 2);
@@ -223,7 +223,7 @@ fn a_logic_block_on_a_pad_site_is_not_legal(rt: HostRuntime) -> Result<(), Fail>
 fn none_are_legal(alloc: Global, design: &Design) -> Result<bool, Fail> {
     let grid = Grid::new(2, 2, 2)?;
     let draft = Draft::new(alloc, 0, &grid)?;
-    match finished(alloc, draft)? {
+    match finished(draft)? {
         Some(placement) => Ok(is_legal(design, &grid, &Fixed::none(alloc), &placement)),
         None => Err(Fail::from("no placement")),
     }

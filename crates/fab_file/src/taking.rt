@@ -1,7 +1,9 @@
 //! Block lines, taken one after the other: `name x y sub`, in any order.
 
-ghost use Rattle.std.specs.Prelude.{◌≡◌, Some, None, map, IfOk, IfErr, OnOk, OnErr};
+ghost use Rattle.std.specs.Prelude.{◌≡◌, Some, None, [], map, IfOk, IfErr, OnOk, OnErr};
 ghost use Rattle.fab_text.specs.Shown.{shown};
+ghost use Rattle.fab_site.specs.Placement.{IsLegal};
+ghost use Rattle.fab_file.specs.declared.fault.PlaceFault.TheVariants.{NoMemory};
 ghost use Rattle.fab_file.specs.PlaceFaults.{FaultIs, same_kind};
 ghost use Rattle.fab_file.specs.Taken.{LinesOf, no_lines, take_fault, with_line, end_fault, wanted};
 
@@ -17,7 +19,6 @@ use std::marker::Model;
 /// What block lines have said so far: of each block of a design the site that a line gave it.
 #[derive(Drop)]
 pub struct PlaceLines<'a> {
-    alloc: Global,
     design: &'a Design,
     grid: &'a Grid,
     draft: Draft,
@@ -26,13 +27,13 @@ pub struct PlaceLines<'a> {
 impl<'a> Model for PlaceLines<'a> {
     ghost use Rattle.std.specs.Prelude.{◌≡◌, length};
     ghost use Rattle.fab_net.specs.Netlist.{IsLawful};
-    ghost use Rattle.fab_file.specs.Taken.{LinesOf};
+    ghost use Rattle.fab_file.specs.Taken.{AreFitting, LinesOf};
 
     ghost Value = { LinesOf };
 
     ghost view = { λ p. record { netlist = p.design.now; grid = p.grid.now; sites = p.draft.sites } };
 
-    ghost invariant = { λ p. (p.draft.grid ≡ p.grid.now) × (length p.draft.sites ≡ length p.design.now.kinds) × IsLawful p.design.now };
+    ghost invariant = { λ p. (p.draft.grid ≡ p.grid.now) × (length p.draft.sites ≡ length p.design.now.kinds) × IsLawful p.design.now × AreFitting p.design.now p.grid.now p.draft.sites };
 }
 
 impl<'a> PlaceLines<'a> {
@@ -49,7 +50,6 @@ impl<'a> PlaceLines<'a> {
     {
         let draft = Draft::new(alloc, design.blocks(), grid)?;
         Ok(PlaceLines {
-            alloc,
             design,
             grid,
             draft,
@@ -87,17 +87,19 @@ impl<'a> PlaceLines<'a> {
         Ok(())
     }
 
-    /// The placement, or the first block without a site.
+    /// The placement, or the first block without a site. `NoMemory` comes only where each block has one.
     pub fn finish(self) -> Result<Placement, PlaceFault>
         ensures ok { OnOk result (end_fault self.entry ≡ None) }
         ensures grid { IfOk result (λ p. p.grid ≡ self.entry.grid) }
         ensures sites { IfOk result (λ p. map Some p.sites ≡ self.entry.sites) }
+        ensures legal { IfOk result (λ p. IsLegal self.entry.netlist self.entry.grid [] p.sites) }
         ensures fault { IfErr result (λ e. FaultIs e (end_fault self.entry)) }
+        ensures memory { IfErr result (λ e. e ≡ NoMemory → end_fault self.entry ≡ None) }
     {
-        let PlaceLines { alloc, draft, .. } = self;
+        let PlaceLines { draft, .. } = self;
         match draft.first_missing() {
             Some(block) => Err(PlaceFault::Missing(block as u64)),
-            None => Ok(draft.finish(alloc)?),
+            None => Ok(draft.finish()?),
         }
     }
 }

@@ -1,6 +1,6 @@
 -- The start placement is legal.
 use Rattle.std.proofs.Common.{◌≡◌, ℕ, ◌+◌, ◌*◌, ◌^◌, ◌<◌, ◌≤◌, Bool, true, false, not, cond, ◌⊎◌, List, [], ◌∷◌, Option, Some, None, length, map, zero, suc, refl, sym, ap, ◌∙◌, inl, inr, arith}
-use Rattle.std.specs.Prelude.{slice_get, slice_index_or}
+use Rattle.std.specs.Prelude.{slice_get, slice_index_or, is_some}
 use Rattle.std.specs.List.{range_with_len}
 use Rattle.std.proofs.lemmas.Bool.{cases_Bool}
 use Rattle.std.proofs.lemmas.List.FromFn.{length-map-range_with_len, get_or-map-range_with_len}
@@ -239,8 +239,10 @@ start_room d g fixed begun room pins =
       enough g site_kind.Pad is_pad given d.kinds (pad_sites g) long pd pk pf (omega (arith, pads_length g, room.1)),
     )
 
-pub start_legal : (d : Netlist) (g : GridShape) (fixed begun : List (Option Site)) (word : ℕ → ℕ) → Holds g (logic_count d) (pad_count d) → ArePins d g fixed begun → ((j : ℕ) → j < drawing (given_sites d fixed begun) d.kinds → word j < 2 ^ 32) → IsLegal d g fixed (start_sites d g fixed begun word)
-start_legal d g fixed begun word room pins h =
+-- what the sites of a start placement are
+start_dealt : (d : Netlist) (g : GridShape) (fixed begun : List (Option Site)) (word : ℕ → ℕ) → Holds g (logic_count d) (pad_count d) → ArePins d g fixed begun → ((j : ℕ) → j < drawing (given_sites d fixed begun) d.kinds → word j < 2 ^ 32)
+    → AreDealt (sites_left (given_sites d fixed begun) (logic_sites g)) (sites_left (given_sites d fixed begun) (pad_sites g)) (given_sites d fixed begun) d.kinds (start_sites d g fixed begun word)
+start_dealt d g fixed begun word room pins h =
     let given = given_sites d fixed begun in
     let long : length given ≡ length d.kinds = length-map-range_with_len (given_at fixed begun) 0 (length d.kinds) in
     let ld = run_distinct g 0 (logic_sites g) (logic_run g) in
@@ -251,7 +253,24 @@ start_legal d g fixed begun word room pins h =
     let shared : NoneShared given = λ a b s p q. pins.apart a b s (given_is d fixed begun a s p).1 (given_is d fixed begun b s q).1 in
     let l = stock_of g site_kind.Logic given (logic_sites g) ld lk in
     let p = stock_of g site_kind.Pad given (pad_sites g) pd pk in
-    let r = dealt g word 0 (sites_left given (logic_sites g)) (sites_left given (pad_sites g)) given d.kinds long shared l p enough.0 enough.1 (λ j lo hi. h j (omega (arith, hi))) in
+    dealt g word 0 (sites_left given (logic_sites g)) (sites_left given (pad_sites g)) given d.kinds long shared l p enough.0 enough.1 (λ j lo hi. h j (omega (arith, hi)))
+
+-- a given block stands at its site
+start_given : (d : Netlist) (g : GridShape) (fixed begun : List (Option Site)) (word : ℕ → ℕ) → Holds g (logic_count d) (pad_count d) → ArePins d g fixed begun → ((j : ℕ) → j < drawing (given_sites d fixed begun) d.kinds → word j < 2 ^ 32)
+    → (b : ℕ) (s : Site) → given_at fixed begun b ≡ Some s → slice_get (start_sites d g fixed begun word) b ≡ Some s
+start_given d g fixed begun word room pins h b s there =
+    (start_dealt d g fixed begun word room pins h).kept b s (given_get d fixed begun b (pins.within b s there) ∙ ap (λ x. Some x) there)
+
+pub start_legal : (d : Netlist) (g : GridShape) (fixed begun : List (Option Site)) (word : ℕ → ℕ) → Holds g (logic_count d) (pad_count d) → ArePins d g fixed begun → ((j : ℕ) → j < drawing (given_sites d fixed begun) d.kinds → word j < 2 ^ 32) → IsLegal d g fixed (start_sites d g fixed begun word)
+start_legal d g fixed begun word room pins h =
+    let given = given_sites d fixed begun in
+    let ld = run_distinct g 0 (logic_sites g) (logic_run g) in
+    let pd = run_distinct g (g.nx * g.ny) (pad_sites g) (pads_run g) in
+    let lk = run_logic g 0 (logic_sites g) (omega (arith, logic_len g)) (logic_run g) in
+    let pk = run_pad g (g.nx * g.ny) (pad_sites g) (omega arith) (pads_run g) in
+    let l = stock_of g site_kind.Logic given (logic_sites g) ld lk in
+    let p = stock_of g site_kind.Pad given (pad_sites g) pd pk in
+    let r = start_dealt d g fixed begun word room pins h in
     record {
       all = r.long;
       fit = λ b lt. elim (r.from b lt) [
@@ -259,14 +278,21 @@ start_legal d g fixed begun word room pins h =
         | inr a ↦ kind_of_list g given (sites_left given (logic_sites g)) (sites_left given (pad_sites g)) (is_logic (slice_index_or d.kinds b Logic)) _ l p a
       ];
       apart = r.apart;
-      stay = λ b s e.
-          let there : given_at fixed begun b ≡ Some s = either_fixed (fixed_at fixed b) (fixed_at begun b) s e in
-          r.kept b s (given_get d fixed begun b (pins.within b s there) ∙ ap (λ x. Some x) there);
+      stay = λ b s e. start_given d g fixed begun word room pins h b s (either_fixed (fixed_at fixed b) (fixed_at begun b) s e);
     }
   where
     kind_of_list : (g : GridShape) (given : List (Option Site)) (logic pads : List Site) (c : Bool) (t : Site) → IsStock g site_kind.Logic given logic → IsStock g site_kind.Pad given pads → Among t (cond c logic pads) → kind_at g t ≡ Some (cond c site_kind.Logic site_kind.Pad)
     kind_of_list g given logic pads true t l p a = ap (kind_at g) (sym a.is) ∙ l.kinds a.place a.below
     kind_of_list g given logic pads false t l p a = ap (kind_at g) (sym a.is) ∙ p.kinds a.place a.below
+
+not_fixed : (fixed begun : Option Site) (s : Site) → (is_some fixed ≡ true → begun ≡ None) → begun ≡ Some s → either_site fixed begun ≡ Some s
+not_fixed None begun s once h = h
+not_fixed (Some f) begun s once h = absurd (none_some s (sym (once refl) ∙ h))
+
+-- a begun block stands at its site
+pub start_begun : (d : Netlist) (g : GridShape) (fixed begun : List (Option Site)) (word : ℕ → ℕ) → Holds g (logic_count d) (pad_count d) → ArePins d g fixed begun → ((j : ℕ) → j < drawing (given_sites d fixed begun) d.kinds → word j < 2 ^ 32)
+    → (b : ℕ) (s : Site) → fixed_at begun b ≡ Some s → slice_get (start_sites d g fixed begun word) b ≡ Some s
+start_begun d g fixed begun word room pins h b s e = start_given d g fixed begun word room pins h b s (not_fixed (fixed_at fixed b) (fixed_at begun b) s (pins.once b) e)
 
 pub given_long : (d : Netlist) (fixed begun : List (Option Site)) → length (given_sites d fixed begun) ≡ length d.kinds
 given_long d fixed begun = length-map-range_with_len (given_at fixed begun) 0 (length d.kinds)

@@ -1,5 +1,5 @@
 -- One more block gets its site.
-use Rattle.std.proofs.Common.{◌≡◌, ◌≢◌, ℕ, ◌+◌, ◌<◌, ◌≤◌, true, false, cond, List, [], ◌∷◌, Option, Some, None, length, map, get_or, set, replicate, zero, suc, refl, sym, ap, ◌∙◌, inl, inr, arith}
+use Rattle.std.proofs.Common.{◌≡◌, ◌≢◌, ◌↔◌, ℕ, ◌+◌, ◌-◌, ◌<◌, ◌≤◌, true, false, cond, List, [], ◌∷◌, Option, Some, None, length, map, get_or, set, replicate, zero, suc, refl, sym, ap, ◌∙◌, inl, inr, arith}
 use Rattle.std.specs.Prelude.{slice_get, slice_index, is_some, position}
 use Rattle.std.specs.List.{list_all, list_any, position_or_len}
 use Rattle.std.proofs.lemmas.Bool.{cases_Bool, cases_eq, false≢true}
@@ -96,6 +96,41 @@ held_by n (o ∷ os) zero s h k =
     inner : (u v : Option Site) → Some u ≡ Some v → u ≡ v
     inner u v h = cc
 held_by n (o ∷ os) (suc a) s h k = held_by (n + 1) os a s h (tail_none n o os s k).1
+
+-- a block that is found on a site, by its number in a list whose first block has this one
+found : (n : ℕ) (os : List (Option Site)) (s : Site) (c : BlockId) → holder_from n os s ≡ Some c → (n ≤ c.0) × (slice_get os (c.0 - n) ≡ Some (Some s))
+found n [] s c h = absurd (none_some c h)
+found n (o ∷ os) s c h = elim (cases_Bool (is_site o s)) [
+  | inl y ↦
+      let e : Some (record { 0 = n }) ≡ Some c = rw y at h in
+      let same : c.0 ≡ n = number_is n c e in
+      let z : c.0 - n ≡ 0 = omega (arith, same) in
+      (omega (arith, same), ap (slice_get (o ∷ os)) z ∙ ap (λ x. Some x) (is_here o s y))
+  | inr k ↦
+      let r = found (n + 1) os s c (rw k at h) in
+      let z : c.0 - n ≡ suc (c.0 - (n + 1)) = omega (arith, r.0) in
+      (omega (arith, r.0), ap (slice_get (o ∷ os)) z ∙ r.1)
+]
+  where
+    number_is : (n : ℕ) (c : BlockId) → Some (record { 0 = n }) ≡ Some c → c.0 ≡ n
+    number_is n c h = cc
+
+    is_here : (o : Option Site) (s : Site) → is_site o s ≡ true → o ≡ Some s
+    is_here None s h = absurd (false≢true h)
+    is_here (Some x) s h = ap (λ v. Some v) (same_is x s h)
+
+holder_stands : (os : List (Option Site)) (s : Site) (b : BlockId) → holder_of os s ≡ Some b → slice_get os b.0 ≡ Some (Some s)
+holder_stands os s b h = let z : b.0 ≡ b.0 - 0 = omega arith in ap (slice_get os) z ∙ (found 0 os s b h).1
+
+-- the block on a site is the one that got it
+pub holder_is : (os : List (Option Site)) (s : Site) (b : BlockId) → NoneShared os → (holder_of os s ≡ Some b) ↔ (slice_get os b.0 ≡ Some (Some s))
+holder_is os s b apart = (holder_stands os s b, λ h. by_holder (holder_of os s) refl h)
+  where
+    by_holder : (o : Option BlockId) → holder_of os s ≡ o → slice_get os b.0 ≡ Some (Some s) → holder_of os s ≡ Some b
+    by_holder None e h = absurd (held_by 0 os b.0 s h e)
+    by_holder (Some c) e h =
+        let same : c.0 ≡ b.0 = apart c.0 b.0 s (holder_stands os s c e) h in
+        e ∙ ap (λ (n : ℕ). Some (record { 0 = n })) same
 
 put_site : (os : List (Option Site)) (b : ℕ) (x s : Site) → slice_get os b ≡ Some None → slice_get (set os b (Some x)) b ≡ Some (Some s) → x ≡ s
 put_site os b x s h k = inner x s (sym (get_set_same os b None (Some x) h) ∙ k)

@@ -1,8 +1,9 @@
 -- Who stands where after a swap.
-use Rattle.std.proofs.Common.{◌≡◌, ◌≢◌, ℕ, zero, suc, ◌+◌, ◌<◌, true, false, cond, List, [], ◌∷◌, Option, Some, None, length, refl, sym, ap, ◌∙◌, ◌⊎◌, inl, inr, arith}
-use Rattle.std.specs.Prelude.{slice_set}
+use Rattle.std.proofs.Common.{◌≡◌, ◌≢◌, ◌↔◌, ℕ, zero, suc, ◌+◌, ◌<◌, true, false, cond, List, [], ◌∷◌, Option, Some, None, length, refl, sym, ap, ◌∙◌, ◌⊎◌, inl, inr, arith}
+use Rattle.std.specs.Prelude.{slice_get, slice_set}
 use Rattle.std.proofs.lemmas.Bool.{cases_Bool, cases_eq}
 use Rattle.std.proofs.lemmas.List.{get_or-set_same, get_or-set_other, length-set}
+use Rattle.std.proofs.lemmas.Option.{slice_get-get_or, slice_get_within}
 use Rattle.fab_arch.specs.declared.array.Site.{Site}
 use Rattle.fab_net.specs.declared.pieces.BlockId.{BlockId}
 use Rattle.fab_site.specs.Placement.{site_of, same_site, nowhere, at, at_from, with_other, swapped, AreApart}
@@ -76,6 +77,15 @@ pub at_here : (xs : List Site) (b : ℕ) (s : Site) → AreApart xs → b < leng
 at_here xs b s apart lt e =
     let z : 0 + b ≡ b = omega arith in
     here_from 0 xs b s lt e (λ a l k. apart a b l lt (k ∙ sym e)) ∙ ap (λ (n : ℕ). Some (record { 0 = n })) z
+
+-- the block on a site is the one that stands there
+pub at_is : (xs : List Site) (s : Site) (b : BlockId) → AreApart xs → (at xs s ≡ Some b) ↔ (slice_get xs b.0 ≡ Some s)
+at_is xs s b apart = (
+  λ h. let p = at_stands xs s b h in slice_get-get_or xs b.0 nowhere p.0 ∙ ap (λ x. Some x) p.1,
+  λ h.
+      let lt = slice_get_within xs b.0 s h in
+      at_here xs b.0 s apart lt (some_same (site_of xs b.0) s (sym (slice_get-get_or xs b.0 nowhere lt) ∙ h)),
+)
 
 pub at_none : (xs : List Site) (s : Site) → ((c : ℕ) → c < length xs → site_of xs c ≢ s) → at xs s ≡ None
 at_none xs s h = none_there 0 xs s (λ a lt. false_of (same_site (site_of xs a) s) (λ y. h a lt (same_is (site_of xs a) s y)))

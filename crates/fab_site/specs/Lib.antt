@@ -5,3 +5,4 @@ pub mod Free
 pub mod Pins
 pub mod Words
 pub mod Start
+pub mod Examples

@@ -1,7 +1,8 @@
 //! A placement in the making: blocks get their sites one by one, in any order.
 
-ghost use Rattle.std.specs.Prelude.{◌≡◌, ℕ, ◌+◌, ◌^◌, ◌<◌, ◌≤◌, length, map, replicate, is_some, position, slice_get, slice_set, None, Some, IsTrue, IfOk};
+ghost use Rattle.std.specs.Prelude.{◌≡◌, ◌↔◌, ℕ, ◌+◌, ◌^◌, ◌<◌, ◌≤◌, length, map, replicate, is_some, position, slice_get, slice_set, None, Some, IsTrue, IfOk};
 ghost use Rattle.fab_arch.specs.Grid.{kind_at};
+ghost use Rattle.fab_net.specs.declared.pieces.BlockId.{BlockId};
 ghost use Rattle.fab_site.specs.Draft.{holder_of, is_missing};
 ghost use Rattle.fab_site.specs.Index.{index_of, site_count};
 
@@ -13,8 +14,8 @@ use std::alloc::{AllocError, Global};
 use std::marker::Model;
 
 /// Of each block the site that it got, if any; no site is given twice.
-#[derive(Drop)]
 pub struct Draft {
+    alloc: Global,
     grid: Grid,
     sites: Vec<Option<Site>>,
     holders: Vec<u32>,
@@ -30,6 +31,18 @@ impl Model for Draft {
     ghost invariant = { λ p. IsTabled p.grid p.sites.items p.holders.items };
 }
 
+impl Drop for Draft {
+    // A `drop` that is called is one step wherever a draft goes out of scope; a derived one is proved anew there.
+    fn drop(self) {
+        let Draft {
+            alloc: _,
+            grid: _,
+            sites: _,
+            holders: _,
+        } = self;
+    }
+}
+
 impl Draft {
     /// A draft of so many blocks, none of which has a site.
     pub fn new(alloc: Global, blocks: usize, grid: &Grid) -> Result<Draft, AllocError>
@@ -39,6 +52,7 @@ impl Draft {
         let sites = no_sites(alloc, blocks)?;
         let holders = vec![in alloc; 0u32; site_count(grid)]?;
         Ok(Draft {
+            alloc,
             grid: *grid,
             sites,
             holders,
@@ -55,7 +69,8 @@ impl Draft {
 
     /// The block that got a site.
     pub fn at(&self, site: Site) -> Option<BlockId>
-        ensures { result ≡ holder_of self.now.sites site }
+        ensures first { result ≡ holder_of self.now.sites site }
+        ensures stands { (b : BlockId) → (result ≡ Some b) ↔ (slice_get self.now.sites b.0 ≡ Some (Some site)) }
     {
         held(&self.holders, index_of(&self.grid, site))
     }
@@ -79,12 +94,13 @@ impl Draft {
     }
 
     /// The placement, where each block has its site.
-    pub fn finish(self, alloc: Global) -> Result<Placement, AllocError>
+    pub fn finish(self) -> Result<Placement, AllocError>
         requires { position is_missing self.sites ≡ None }
         ensures grid { IfOk result (λ p. p.grid ≡ self.grid) }
         ensures sites { IfOk result (λ p. map Some p.sites ≡ self.sites) }
     {
         let Draft {
+            alloc,
             grid,
             sites,
             holders,

@@ -10,7 +10,6 @@ use std::alloc::{AllocError, Global};
 use std::marker::Model;
 
 /// Of some blocks the site where each must stay.
-#[derive(Drop)]
 pub struct Fixed {
     sites: Vec<Option<Site>>,
     /// The blocks below the end of `sites` that are not fixed, ascending: so one of them is found by its rank.
@@ -27,6 +26,13 @@ impl Model for Fixed {
     ghost view = { λ f. f.sites.items };
 
     ghost invariant = { λ f. f.free.items ≡ free_below f.sites.items (length f.sites.items) };
+}
+
+impl Drop for Fixed {
+    // A `drop` that is called is one step wherever fixed blocks go out of scope; a derived one is proved anew there.
+    fn drop(self) {
+        let Fixed { sites: _, free: _ } = self;
+    }
 }
 
 impl Fixed {

@@ -1,6 +1,6 @@
 //! A placement: the site of each block, and on each site its block, in two flat arrays.
 
-ghost use Rattle.std.specs.Prelude.{◌≡◌, ℕ, ◌+◌, ◌^◌, ◌<◌, ◌≤◌, [], length, is_some, slice_set, Some, IsTrue, IfOk};
+ghost use Rattle.std.specs.Prelude.{◌≡◌, ◌↔◌, ℕ, ◌+◌, ◌^◌, ◌<◌, ◌≤◌, [], length, is_some, slice_get, slice_set, Some, IsTrue, IfOk};
 ghost use Rattle.fab_arch.specs.Grid.{kind_at};
 ghost use Rattle.fab_net.specs.declared.pieces.BlockId.{BlockId};
 ghost use Rattle.fab_site.specs.Index.{IsIndexed, index_of, site_count, number_for};
@@ -14,7 +14,6 @@ use std::alloc::{AllocError, Global};
 use std::marker::Model;
 
 /// Where each block stands, on one array.
-#[derive(Drop)]
 pub struct Placement {
     grid: Grid,
     sites: Vec<Site>,
@@ -30,6 +29,17 @@ impl Model for Placement {
     ghost view = { λ p. record { grid = p.grid; sites = p.sites.items } };
 
     ghost invariant = { λ p. IsIndexed p.grid p.sites.items p.holders.items };
+}
+
+impl Drop for Placement {
+    // A `drop` that is called is one step wherever a placement goes out of scope; a derived one is proved anew there.
+    fn drop(self) {
+        let Placement {
+            grid: _,
+            sites: _,
+            holders: _,
+        } = self;
+    }
 }
 
 impl Placement {
@@ -77,7 +87,8 @@ impl Placement {
 
     /// The block on a site, or `None` where the site is empty or none of the array's.
     pub fn at(&self, site: Site) -> Option<BlockId>
-        ensures { result ≡ block_at self.now.sites site }
+        ensures first { result ≡ block_at self.now.sites site }
+        ensures stands { (b : BlockId) → (result ≡ Some b) ↔ (slice_get self.now.sites b.0 ≡ Some site) }
     {
         held(&self.holders, index_of(&self.grid, site))
     }

@@ -1,11 +1,12 @@
 //! The start placement: given blocks at their sites, the others on sites that they draw.
 
-ghost use Rattle.std.specs.Prelude.{◌≡◌, ◌++◌, ℕ, ◌+◌, ◌^◌, ◌<◌, ◌≤◌, [], ◌∷◌, length, map, IsTrue, IfOk, OnOk};
+ghost use Rattle.std.specs.Prelude.{◌≡◌, ◌++◌, ℕ, ◌+◌, ◌^◌, ◌<◌, ◌≤◌, [], ◌∷◌, length, map, slice_get, Some, IsTrue, IfOk, OnOk};
 ghost use Rattle.std.specs.List.{range_with_len};
+ghost use Rattle.fab_arch.specs.declared.array.Site.{Site};
 ghost use Rattle.fab_arch.specs.Grid.{Holds};
 ghost use Rattle.fab_net.specs.Netlist.{is_logic, logic_count, pad_count};
 ghost use Rattle.fab_site.specs.Pins.{ArePins, given_at};
-ghost use Rattle.fab_site.specs.Placement.{IsLegal, site as site_at, site_of as site_of_block};
+ghost use Rattle.fab_site.specs.Placement.{IsLegal, fixed_at, site as site_at, site_of as site_of_block};
 ghost use Rattle.fab_site.specs.Start.{deal as dealt, drawing, entry_of, given_sites, is_pad, logic_sites, pad_sites, sites_left, start_sites, waiting, without};
 
 use crate::drafts::Draft;
@@ -31,6 +32,7 @@ pub fn start<W: Words>(
     ensures sites { IfOk result (λ p. p.sites ≡ start_sites design.now grid.now pins.now.fixed pins.now.begun (W.starts words.now)) }
     ensures grid { IfOk result (λ p. p.grid ≡ grid.now) }
     ensures legal { IfOk result (λ p. IsLegal design.now grid.now pins.now.fixed p.sites) }
+    ensures begun { IfOk result (λ p. (b : ℕ) (s : Site) → fixed_at pins.now.begun b ≡ Some s → slice_get p.sites b ≡ Some s) }
 {
     let given = given(alloc, design, grid, pins)?;
     let logic = logic_left(alloc, grid, &given)?;

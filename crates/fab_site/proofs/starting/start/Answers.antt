@@ -1,8 +1,10 @@
-use Rattle.std.proofs.Common.{◌≡◌, length, ap, ◌∙◌}
+use Rattle.std.proofs.Common.{◌≡◌, ℕ, Some, length, ap, ◌∙◌}
+use Rattle.std.specs.Prelude.{slice_get}
 use Rattle.std.proofs.lemmas.Result.{IfOk-weaker}
-use Rattle.fab_site.specs.Placement.{IsLegal}
+use Rattle.fab_arch.specs.declared.array.Site.{Site}
+use Rattle.fab_site.specs.Placement.{IsLegal, fixed_at}
 use Rattle.fab_site.specs.Start.{start_sites}
-use Rattle.fab_site.proofs.Dealing.{start_room, start_legal, given_long, legal_free}
+use Rattle.fab_site.proofs.Dealing.{start_room, start_legal, start_begun, given_long, legal_free}
 use Rattle.fab_site.proofs.starting.start.Goals as goal
 
 pub deal-requires-clause-all : goal.deal-requires-clause-all
@@ -43,3 +45,16 @@ returns-clause-legal g c =
     let words = rw c.in_ok-given.ensures.sites at c.in_ok-sites.ensures.words in
     let legal = start_legal d grid fixed begun word c.requires.room c.requires.pins words in
     IfOk-weaker c.of_sites.result (λ p. p.sites ≡ c.deref.result.now) (λ p. IsLegal d grid fixed p.sites) (λ p e. rw (e, c.deref.ensures.value, sites) legal) c.of_sites.ensures.sites
+
+pub returns-clause-begun : goal.returns-clause-begun
+returns-clause-begun g c =
+    let d = c.args.design.now in
+    let grid = c.args.grid.now in
+    let fixed = c.args.pins.now.fixed in
+    let begun = c.args.pins.now.begun in
+    let word = g.W.Words.starts c.args.words.now in
+    let sites : c.in_ok-sites.sites.items ≡ start_sites d grid fixed begun word = rw (← c.in_ok-given.ensures.sites, ← c.in_ok-logic.ensures.sites, ← c.in_ok-pads.ensures.sites) c.in_ok-sites.ensures.sites in
+    let words = rw c.in_ok-given.ensures.sites at c.in_ok-sites.ensures.words in
+    let stand = start_begun d grid fixed begun word c.requires.room c.requires.pins words in
+    IfOk-weaker c.of_sites.result (λ p. p.sites ≡ c.deref.result.now) (λ p. (b : ℕ) (s : Site) → fixed_at begun b ≡ Some s → slice_get p.sites b ≡ Some s)
+    (λ p e b s h. ap (λ xs. slice_get xs b) (e ∙ c.deref.ensures.value ∙ sites) ∙ stand b s h) c.of_sites.ensures.sites
