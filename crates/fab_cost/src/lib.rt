@@ -14,7 +14,6 @@ pub mod wire;
 
 pub use crossings::cross;
 pub use edge_boxes::EdgeBoxes;
-pub use edge_counts::EdgeCounts;
 pub use net_box::NetBox;
 pub use net_boxes::Boxes;
 pub use wire::WireCost;

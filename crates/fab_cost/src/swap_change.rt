@@ -125,7 +125,7 @@ fn new_box(
     requires some { shares.mine ≢ shares.others }
     requires mine { shares.mine ≡ times swap.now.block.0 (blocks_of design.now net.0) }
     requires others { shares.others ≡ times_other swap.now.other (blocks_of design.now net.0) }
-    requires lawful { IsSwapOf placement.now.grid placement.now.sites swap.now }
+    requires lawful { IsSwapOf grid.now placement.now.sites swap.now }
     requires whole { length design.now.kinds ≡ length placement.now.sites }
     ensures { box_of result ≡ net_box design.now grid.now (swapped placement.now.sites swap.now) net.0 }
 {
@@ -185,7 +185,7 @@ fn change_of_few(
     requires net { Counts design.now net.0 }
     requires terminals { terminals.now ≡ slice_index_or design.now.terminals net.0 [] }
     requires first { (b : Block) → but ≡ Some b → b ≡ swap.now.block }
-    requires lawful { IsSwapOf placement.now.grid placement.now.sites swap.now }
+    requires lawful { IsSwapOf grid.now placement.now.sites swap.now }
     requires whole { length design.now.kinds ≡ length placement.now.sites }
     ensures { IsChange (cost_unless design.now grid.now placement.now.sites but net.0) (cost_unless design.now grid.now (swapped placement.now.sites swap.now) but net.0) result.gained result.lost }
 {
@@ -217,14 +217,14 @@ fn change_of_many(
     requires part { IsPart swap.now block but }
     requires block { block.0 < length design.now.kinds }
     requires within { i < length (nets_of design.now block.0) }
-    requires lawful { IsSwapOf placement.now.grid placement.now.sites swap.now }
+    requires lawful { IsSwapOf grid.now placement.now.sites swap.now }
     requires whole { length design.now.kinds ≡ length placement.now.sites }
     ensures { IsChange (cost_unless design.now grid.now placement.now.sites but (slice_index (nets_of design.now block.0) i)) (cost_unless design.now grid.now (swapped placement.now.sites swap.now) but (slice_index (nets_of design.now block.0) i)) result.gained result.lost }
 {
     let _nets = design.nets();
     let net = net_of(design, block, i);
     let own = own_pins(design, block, i);
-    let beside = partner_pins(design, placement, swap, block, but, i);
+    let beside = partner_pins(design, swap, block, but, i);
     let shares = shares_with(swap, block, but, own, beside);
     if is_left_out(but, shares) {
         return NO_TALLY;
@@ -270,7 +270,7 @@ fn change_of_net(
     requires block { block.0 < length design.now.kinds }
     requires left_out { (b : Block) → but ≡ Some b → b.0 < length design.now.kinds }
     requires within { i < length (nets_of design.now block.0) }
-    requires lawful { IsSwapOf placement.now.grid placement.now.sites swap.now }
+    requires lawful { IsSwapOf grid.now placement.now.sites swap.now }
     requires whole { length design.now.kinds ≡ length placement.now.sites }
     ensures { IsChange (cost_unless design.now grid.now placement.now.sites but (slice_index (nets_of design.now block.0) i)) (cost_unless design.now grid.now (swapped placement.now.sites swap.now) but (slice_index (nets_of design.now block.0) i)) result.gained result.lost }
 {
@@ -308,7 +308,7 @@ fn change_of_nets(
     requires part { IsPart swap.now block but }
     requires block { block.0 < length design.now.kinds }
     requires left_out { (b : Block) → but ≡ Some b → b.0 < length design.now.kinds }
-    requires lawful { IsSwapOf placement.now.grid placement.now.sites swap.now }
+    requires lawful { IsSwapOf grid.now placement.now.sites swap.now }
     requires whole { length design.now.kinds ≡ length placement.now.sites }
     ensures { IsChange (sum_by (cost_unless design.now grid.now placement.now.sites but) (nets_of design.now block.0)) (sum_by (cost_unless design.now grid.now (swapped placement.now.sites swap.now) but) (nets_of design.now block.0)) result.gained result.lost }
 {
@@ -338,7 +338,7 @@ pub(crate) fn whole_change(
     swap: &Swap,
 ) -> Tally
     requires have { HaveBoxes boxes.now.items design.now grid.now placement.now.sites }
-    requires lawful { IsSwapOf placement.now.grid placement.now.sites swap.now }
+    requires lawful { IsSwapOf grid.now placement.now.sites swap.now }
     requires whole { length design.now.kinds ≡ length placement.now.sites }
     ensures balance { cost_of design.now grid.now (swapped placement.now.sites swap.now) + result.lost ≡ cost_of design.now grid.now placement.now.sites + result.gained }
     ensures gained { result.gained < 2 ^ 43 }

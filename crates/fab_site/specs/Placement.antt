@@ -1,9 +1,10 @@
 -- A placement is the list of sites by block number (our own): each block on a site of its kind, no two on one.
-use Rattle.std.specs.Prelude.{ℕ, ◌≡◌, ◌+◌, ◌<◌, Bool, ◌&&◌, ◌==◌, if◌then◌else◌, List, [], ◌∷◌, length, Option, Some, None, slice_get, slice_index_or, slice_set, refl}
+use Rattle.std.specs.Prelude.{ℕ, ◌≡◌, ◌+◌, ◌<◌, Bool, true, false, ◌&&◌, ◌==◌, if◌then◌else◌, List, [], ◌∷◌, length, is_some, Option, Some, None, slice_get, slice_index_or, slice_set, refl}
+use Rattle.std.proofs.Common.{subst}
 use Rattle.fab_arch.specs.declared.array.Site.{Site}
 use Rattle.fab_arch.specs.declared.array.SiteKind.{SiteKind}
 use Rattle.fab_arch.specs.declared.array.SiteKind.TheVariants as site_kind
-use Rattle.fab_arch.specs.Grid.{GridShape, kind_at}
+use Rattle.fab_arch.specs.Grid.{GridShape, shape, kind_at}
 use Rattle.fab_net.specs.declared.pieces.BlockId.{BlockId}
 use Rattle.fab_net.specs.Netlist.{Netlist, is_logic_at}
 use Rattle.fab_site.specs.declared.pieces.Swap.{Swap}
@@ -41,13 +42,13 @@ abbrev pub swapped : List Site → Swap → List Site
 swapped sites s = with_other (slice_set sites s.block.0 s.to) s.other s.from
 
 -- the swap is one of these sites (our own): its block stands at `from` and goes to another site of the same kind,
--- and `other` is the block that stands there, if any. Blocks of a placement stand on sites of its array, so `to` is
--- one of them too
+-- and `other` is the block that stands there, if any. `from` is a site of the array; `to`, of the same kind, is one too
 pub record IsSwapOf (g : GridShape) (sites : List Site) (s : Swap) : Type 0 where
   pub stands : slice_get sites s.block.0 ≡ Some s.from
   pub away : ¬ (s.to ≡ s.from)
   pub holder : at sites s.to ≡ s.other
   pub kind : kind_at g s.to ≡ kind_at g s.from
+  pub there : is_some (kind_at g s.from) ≡ true
 
 -- the kind of site that a block needs
 abbrev pub kind_wanted : Netlist → ℕ → SiteKind
@@ -93,6 +94,33 @@ two_blocks_change_places = refl
 
 pub one_block_goes_to_an_empty_site : swapped two_sites (record { block = record { 0 = 1 }; from = site 2 2 0; to = site 2 1 0; other = None }) ≡ site 1 1 0 ∷ site 2 1 0 ∷ []
 one_block_goes_to_an_empty_site = refl
+
+abbrev to_an_empty_site : Swap
+to_an_empty_site = record { block = record { 0 = 1 }; from = site 2 2 0; to = site 2 1 0; other = None }
+
+abbrev off_the_array : Swap
+off_the_array = record { block = record { 0 = 1 }; from = site 2 2 0; to = site 4 4 0; other = None }
+
+abbrev IsSure : Bool → Type 0
+IsSure true = true ≡ true
+IsSure false = ⊥
+
+pub a_swap_of_these_sites : IsSwapOf (shape 2 2 1) two_sites to_an_empty_site
+a_swap_of_these_sites = record {
+  stands = refl;
+  away = λ e. subst (λ (s : Site). IsSure (s.y == 1)) e refl;
+  holder = refl;
+  kind = refl;
+  there = refl;
+}
+
+-- the target is no site of the array, and so of no kind
+pub no_swap_to_a_site_off_the_array : IsSwapOf (shape 2 2 1) two_sites off_the_array → None ≡ Some site_kind.Logic
+no_swap_to_a_site_off_the_array is = is.kind
+
+-- on a smaller array neither is one, so that they are of one kind, which is none
+pub no_swap_between_sites_off_the_array : IsSwapOf (shape 1 1 1) two_sites off_the_array → false ≡ true
+no_swap_between_sites_off_the_array is = is.there
 
 pub a_block_past_the_end_is_not_fixed : fixed_at (None ∷ Some (site 0 1 0) ∷ []) 2 ≡ None
 a_block_past_the_end_is_not_fixed = refl

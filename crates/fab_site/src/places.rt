@@ -65,6 +65,31 @@ impl Placement {
         })
     }
 
+    /// This placement on the array given, on which each of its blocks stands on a site of its kind: as it is where
+    /// that is its array, else with the table of that one.
+    pub fn on_array(self, design: &Design, grid: &Grid) -> Result<Placement, AllocError>
+        requires { IsLegal design.now grid.now [] self.sites }
+        ensures grid { IfOk result (λ p. p.grid ≡ grid.now) }
+        ensures sites { IfOk result (λ p. p.sites ≡ self.sites) }
+    {
+        let _blocks = design.blocks();
+        if self.grid == *grid {
+            return Ok(self);
+        }
+        let Placement {
+            grid: _,
+            sites,
+            holders: _,
+        } = self;
+        let alloc = *sites.allocator();
+        let holders = holders_of(alloc, grid, &sites)?;
+        Ok(Placement {
+            grid: *grid,
+            sites,
+            holders,
+        })
+    }
+
     /// The placement of sites by block, with the table that holds their blocks.
     pub(crate) fn of_table(grid: Grid, sites: Vec<Site>, holders: Vec<u32>) -> Self
         requires { IsIndexed grid sites.items holders.items }
