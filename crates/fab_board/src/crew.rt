@@ -26,7 +26,7 @@ pub trait Task<T>: Drop {
 
     /// An answer for the number. Threads call it side by side, and may ask for a number twice. An error comes only where memory
     /// ran out.
-    fn judge(&self, alloc: Global, number: u64) -> Result<T, AllocError>
+    fn judge(&self, number: u64) -> Result<T, AllocError>
         requires { number < count self.now }
         ensures { IfOk result (λ x. answer self.now number x) };
 }
@@ -102,7 +102,7 @@ fn claim_all<E: Task<T>, T: Drop>(
         }
         let past = from + chunk.min(count - from);
         for number in from..past {
-            answers.push(job.judge(alloc, number)?)?;
+            answers.push(job.judge(number)?)?;
             numbers.push(number)?;
         }
     }
@@ -125,6 +125,7 @@ fn judge_posted<E: Task<T>, T: Drop, J: Naming>(
 /// What the threads of a crew share.
 #[derive(Drop)]
 pub struct Shared<E: Task<T>, T: Drop, J: Naming> {
+    alloc: Global,
     book: Book<E, J>,
     posted: RwLock<Option<Posted<E, J>>>,
     // A place for each worker's reply.
@@ -195,6 +196,7 @@ impl<E: Task<T>, T: Drop, J: Naming> Shared<E, T, J> {
             boxes.push(Mutex::new(None))?;
         }
         Ok(Shared {
+            alloc,
             book,
             posted: RwLock::new(None),
             boxes,
@@ -208,11 +210,11 @@ impl<E: Task<T>, T: Drop, J: Naming> Shared<E, T, J> {
     }
 
     // Answers what is left of the posted job. None where there is no job or no memory.
-    fn judge<R: Wait>(&self, rt: &R, alloc: Global) -> Option<Reply<E, T, J>> {
+    fn judge<R: Wait>(&self, rt: &R) -> Option<Reply<E, T, J>> {
         let guard = self.posted.read(rt);
         match &*guard {
             Some(posted) => {
-                judge_posted(alloc, posted, &self.next, self.boxes.len() as u64).ok()
+                judge_posted(self.alloc, posted, &self.next, self.boxes.len() as u64).ok()
             }
             None => None,
         }
@@ -229,7 +231,7 @@ impl<E: Task<T>, T: Drop, J: Naming> Shared<E, T, J> {
     }
 
     // A worker's life.
-    fn work<R: Wait>(&self, rt: &R, alloc: Global, me: usize) {
+    fn work<R: Wait>(&self, rt: &R, me: usize) {
         let mut seen = 0;
         for _ in rt.forever() {
             seen = wait_past(rt, &self.turn, &self.asleep, seen);
@@ -237,7 +239,7 @@ impl<E: Task<T>, T: Drop, J: Naming> Shared<E, T, J> {
                 return;
             }
             self.inside.fetch_add(1, Ordering::SeqCst);
-            if let Some(reply) = self.judge(rt, alloc) {
+            if let Some(reply) = self.judge(rt) {
                 self.leave(rt, me, reply);
             }
             self.inside.fetch_sub(1, Ordering::SeqCst);
@@ -360,19 +362,14 @@ fn place_all<E: Task<T>, T: Drop>(_job: &E, judged: Judged<T>, slots: &mut Vec<O
 }
 
 // The answer in the slot, or a new one.
-fn one_answer<E: Task<T>, T: Drop>(
-    alloc: Global,
-    job: &E,
-    number: u64,
-    slot: Option<T>,
-) -> Result<T, AllocError>
+fn one_answer<E: Task<T>, T: Drop>(job: &E, number: u64, slot: Option<T>) -> Result<T, AllocError>
     requires number { number < E.count job.now }
     requires slot { IfSome slot (E.answer job.now number) }
     ensures { IfOk result (λ x. E.answer job.now number x) }
 {
     match slot {
         Some(answer) => Ok(answer),
-        None => job.judge(alloc, number),
+        None => job.judge(number),
     }
 }
 
@@ -390,18 +387,14 @@ fn complete<E: Task<T>, T: Drop>(
     let mut answers = Vec::with_capacity(alloc, job.count() as usize)?;
     let mut number = 0;
     for slot in slots {
-        answers.push(one_answer(alloc, job, number, slot)?)?;
+        answers.push(one_answer(job, number, slot)?)?;
         number += 1;
     }
-    judge_rest(alloc, job, answers)
+    judge_rest(job, answers)
 }
 
 // Judges the numbers that are left, in order.
-fn judge_rest<E: Task<T>, T: Drop>(
-    alloc: Global,
-    job: &E,
-    mut answers: Vec<T>,
-) -> Result<Vec<T>, AllocError>
+fn judge_rest<E: Task<T>, T: Drop>(job: &E, mut answers: Vec<T>) -> Result<Vec<T>, AllocError>
     requires len { length answers.items ≤ E.count job.now }
     requires each { AllAnswered (E.answer job.now) answers.items }
     ensures len { IfOk result (λ v. length v.items ≡ E.count job.now) }
@@ -409,7 +402,7 @@ fn judge_rest<E: Task<T>, T: Drop>(
 {
     let done = answers.len() as u64;
     for number in done..job.count() {
-        answers.push(job.judge(alloc, number)?)?;
+        answers.push(job.judge(number)?)?;
     }
     Ok(answers)
 }
@@ -494,7 +487,7 @@ fn gather<E: Task<T>, T: Drop, J: Naming, R: Wait>(
 impl<E: Task<T>, T: Drop, J: Naming> Lead<E, T, J> {
     /// Hands a job to the crew, which works on it from now on. A job that was out before is let go. An error comes only where memory
     /// ran out, and then no job is out.
-    pub fn post<R: Wait>(&mut self, rt: &R, alloc: Global, job: E) -> Result<(), AllocError>
+    pub fn post<R: Wait>(&mut self, rt: &R, job: E) -> Result<(), AllocError>
         ensures out { OnOk result (self.new ≡ Some job) }
         ensures none { OnErr result (self.new ≡ None) }
     {
@@ -503,7 +496,7 @@ impl<E: Task<T>, T: Drop, J: Naming> Lead<E, T, J> {
             self.shared.withdraw(rt);
         }
         self.job = None;
-        let Ok(job) = Arc::new(alloc, job) else {
+        let Ok(job) = Arc::new(self.shared.alloc, job) else {
             return Err(AllocError);
         };
         self.posted = hand_out(rt, &*self.shared, &mut self.front, &job);
@@ -514,21 +507,22 @@ impl<E: Task<T>, T: Drop, J: Naming> Lead<E, T, J> {
     /// Helps the crew, waits for it, and gives an answer for each number of the job that is out; no answers where none is out. Answer
     /// j is one for the number j. The crew has let go of the job then, and so has the owner. What a worker had no memory for is
     /// judged again here, so an error comes only where memory is refused to this thread.
-    pub fn collect<R: Wait>(&mut self, rt: &R, alloc: Global) -> Result<Vec<T>, AllocError>
+    pub fn collect<R: Wait>(&mut self, rt: &R) -> Result<Vec<T>, AllocError>
         ensures gone { self.new ≡ None }
         ensures len { IfOk result (λ v. (e : E) → self.old ≡ Some e → length v.items ≡ E.count e) }
         ensures each { IfOk result (λ v. (e : E) → self.old ≡ Some e → AllAnswered (E.answer e) v.items) }
         ensures none { IfOk result (λ v. self.old ≡ None → v.items ≡ []) }
     {
+        let alloc = self.shared.alloc;
         let posted = self.posted;
         self.posted = false;
         let Some(job) = self.job.take() else {
             return Ok(Vec::new(alloc));
         };
         if !posted {
-            return judge_rest(alloc, &*job, Vec::new(alloc));
+            return judge_rest(&*job, Vec::new(alloc));
         }
-        let mine = self.shared.judge(rt, alloc);
+        let mine = self.shared.judge(rt);
         self.shared.finish(rt);
         self.shared.withdraw(rt);
         gather(rt, alloc, &*self.shared, &self.front, &*job, mine)
@@ -581,14 +575,14 @@ pub fn work_all<
     T: Drop + Send,
     J: Naming + Send + Sync,
     R: Threads + Wait + Sync,
->(rt: &R, alloc: Global, crew: &Shared<E, T, J>, workers: u64) {
+>(rt: &R, crew: &Shared<E, T, J>, workers: u64) {
     if workers == 0 {
         return;
     }
     thread::scope(thread::scope_env(), rt, |scope| {
         for me in 1..workers {
-            let _ = scope.spawn(move || crew.work(rt, alloc, me as usize));
+            let _ = scope.spawn(move || crew.work(rt, me as usize));
         }
-        crew.work(rt, alloc, 0);
+        crew.work(rt, 0);
     });
 }

@@ -13,7 +13,7 @@ use Rattle.fab_move.specs.declared.proposals.Proposal.{Proposal}
 use Rattle.fab_move.specs.declared.proposals.Proposal.TheVariants.{Nothing, Void, Move}
 use Rattle.fab_move.specs.Propose.{is_fixed, movable, propose_held, propose_to, propose_for, proposal, target}
 use Rattle.fab_site.specs.Words.{pick_of}
-use Rattle.std.specs.Prelude.{slice_index}
+use Rattle.std.specs.Prelude.{is_some, slice_index}
 
 some_same : (x y : ℕ) → Some x ≡ Some y → x ≡ y
 some_same x y q = cc
@@ -53,9 +53,9 @@ same_here : (s : Site) → same_site s s ≡ true
 same_here s = and_from _ _ (and_from _ _ (eq-eqb s.x s.x refl) (eq-eqb s.y s.y refl)) (eq-eqb s.sub s.sub refl)
 
 -- what is proposed for a block at its site is a swap
-pub lawful_to : (g : GridShape) (fixed : List (Option Site)) (sites : List Site) (b : BlockId) (from to : Site) (s : Swap) → slice_get sites b.0 ≡ Some from → kind_at g to ≡ kind_at g from → propose_to fixed sites b from to ≡ Move s → IsSwapOf g sites s
+pub lawful_to : (g : GridShape) (fixed : List (Option Site)) (sites : List Site) (b : BlockId) (from to : Site) (s : Swap) → slice_get sites b.0 ≡ Some from → kind_at g to ≡ kind_at g from → is_some (kind_at g from) ≡ true → propose_to fixed sites b from to ≡ Move s → IsSwapOf g sites s
 unfolding the_swap is_move
-lawful_to g fixed sites b from to s stands kind e = by_site (same_site from to) refl e
+lawful_to g fixed sites b from to s stands kind there e = by_site (same_site from to) refl e
   where
     swap_of : Option BlockId → Swap
     swap_of o = record { block = b; from = from; to = to; other = o }
@@ -66,6 +66,7 @@ lawful_to g fixed sites b from to s stands kind e = by_site (same_site from to) 
       away = λ q. false≢true (sym apart ∙ ap (same_site from) q ∙ same_here from);
       holder = holds;
       kind = kind;
+      there = there;
     }
 
     by_holder : (o : Option BlockId) → same_site from to ≡ false → at sites to ≡ o → propose_held fixed b from to o ≡ Move s → IsSwapOf g sites s

@@ -77,3 +77,16 @@ just_below_fifteen_temperatures = refl
 pub hardly_worse_at_the_highest_temperature : is_accepted (pos 1) 1073741824 4294967295 ≡ true
 unfolding is_accepted chance_of
 hardly_worse_at_the_highest_temperature = refl
+
+-- one temperature and a half are 24 sixteenths: what is multiplied by 16 is the change, and not its whole temperatures
+pub one_temperature_and_a_half : chance_of 24 ≡ 223130
+unfolding chance_of
+one_temperature_and_a_half = refl
+
+pub the_last_word_that_is_accepted_between_two_temperatures : is_accepted (pos 15) 10 958336052 ≡ true
+unfolding is_accepted chance_of
+the_last_word_that_is_accepted_between_two_temperatures = refl
+
+pub the_first_word_that_is_not_between_two_temperatures : is_accepted (pos 15) 10 958336053 ≡ false
+unfolding is_accepted chance_of
+the_first_word_that_is_not_between_two_temperatures = refl

@@ -8,7 +8,7 @@ ghost use Rattle.fab_cost.specs.Boxes.{StandsFor};
 ghost use Rattle.fab_cost.specs.Swapping.{CountedStandsFor};
 
 use fab_arch::{Grid, Site, SiteKind, read_arch};
-use fab_cost::{Boxes, EdgeBoxes, EdgeCounts, WireCost, cross};
+use fab_cost::{Boxes, EdgeBoxes, WireCost, cross};
 use fab_net::{BlockId, BlockKind, Design, NetId, read_net};
 use fab_site::{Placement, Swap};
 use std::alloc::{AllocError, Global};
@@ -190,11 +190,11 @@ fn site_of_block(placement: &Placement, block: BlockId) -> Option<Site>
 
 // The swap of a block to another site of the kind where it stands.
 fn swap_to(placement: &Placement, grid: &Grid, block: BlockId, to: Site) -> Option<Swap>
-    requires { placement.now.grid ≡ grid.now }
-    ensures { IfSome result (λ s. IsSwapOf placement.now.grid placement.now.sites s) }
+    ensures { IfSome result (λ s. IsSwapOf grid.now placement.now.sites s) }
 {
     let from = site_of_block(placement, block)?;
-    if from == to || grid.has_site(from) != grid.has_site(to) {
+    let kind = grid.has_site(from);
+    if from == to || kind.is_none() || grid.has_site(to) != kind {
         return None;
     }
     let other = placement.at(to);
@@ -215,7 +215,7 @@ fn made<W: WireCost>(
     swap: &Swap,
 ) -> (i64, u64)
     requires stands { W.StandsFor wire.old design.now grid.now placement.now.sites }
-    requires lawful { IsSwapOf placement.now.grid placement.now.sites swap.now }
+    requires lawful { IsSwapOf grid.now placement.now.sites swap.now }
     ensures stands { W.StandsFor wire.new design.now grid.now (swapped placement.now.sites swap.now) }
     ensures below { result.1 < 2 ^ 43 }
 {
@@ -225,7 +225,7 @@ fn made<W: WireCost>(
 }
 
 // The edge counts of the first net, xmin, xmax, ymin and ymax, where there is one that is not global.
-fn first_counts(design: &Design, edges: &EdgeBoxes) -> Option<EdgeCounts>
+fn first_counts(design: &Design, edges: &EdgeBoxes) -> Option<[u32; 4]>
     requires { (g : GridShape) × (sites : List ArraySite) × CountedStandsFor edges.now design.now g sites }
 {
     if design.nets() == 0 {
@@ -238,10 +238,10 @@ fn first_counts(design: &Design, edges: &EdgeBoxes) -> Option<EdgeCounts>
 #[derive(Clone, Copy, PartialEq, Eq, Debug)]
 struct Row {
     cost: u64,
-    counts: Option<EdgeCounts>,
+    counts: Option<[u32; 4]>,
     delta: i64,
     cost_after: u64,
-    counts_after: Option<EdgeCounts>,
+    counts_after: Option<[u32; 4]>,
     cost_of_the_copy: u64,
 }
 
@@ -254,7 +254,7 @@ fn swapped_row(
     swap: &Swap,
 ) -> Result<Row, AllocError>
     requires stands { CountedStandsFor edges design.now grid.now placement.now.sites }
-    requires lawful { IsSwapOf placement.now.grid placement.now.sites swap.now }
+    requires lawful { IsSwapOf grid.now placement.now.sites swap.now }
 {
     let copy = edges.copy()?;
     let cost = WireCost::cost(&edges);
@@ -306,13 +306,8 @@ fn row_of(
     Ok(row_on(alloc, &design, &grid, sites, block, to)?)
 }
 
-fn counts(xmin: u32, xmax: u32, ymin: u32, ymax: u32) -> Option<EdgeCounts> {
-    Some(EdgeCounts {
-        xmin,
-        xmax,
-        ymin,
-        ymax,
-    })
+fn counts(xmin: u32, xmax: u32, ymin: u32, ymax: u32) -> Option<[u32; 4]> {
+    Some([xmin, xmax, ymin, ymax])
 }
 
 #[test]
@@ -517,7 +512,7 @@ fn caught_up(
     swap: &Swap,
 ) -> Result<(u64, u64, bool), AllocError>
     requires stands { CountedStandsFor edges design.now grid.now placement.now.sites }
-    requires lawful { IsSwapOf placement.now.grid placement.now.sites swap.now }
+    requires lawful { IsSwapOf grid.now placement.now.sites swap.now }
 {
     let mut copy = edges.copy()?;
     let before = WireCost::cost(&copy);

@@ -25,10 +25,9 @@ pub fn judge<C: WireCost, W: Words>(
     k: u64,
 ) -> Result<Verdict, AllocError>
     requires legal { IsLegal view.now.design.now view.now.grid.now view.now.fixed.now view.now.placement.now.sites }
-    requires array { view.now.placement.now.grid ≡ view.now.grid.now }
     requires stands { C.StandsFor view.now.cost.now view.now.design.now view.now.grid.now view.now.placement.now.sites }
     ensures number { IfOk result (λ v. v.k ≡ k) }
-    ensures lawful { IfOk result (λ v. (s : Swap) → v.swap ≡ Some s → IsSwapOf view.now.placement.now.grid view.now.placement.now.sites s) }
+    ensures lawful { IfOk result (λ v. (s : Swap) → v.swap ≡ Some s → IsSwapOf view.now.grid.now view.now.placement.now.sites s) }
     ensures judged { IfOk result (λ v. says v ≡ judged (problem view.now.design.now view.now.grid.now view.now.fixed.now (W.moves view.now.words.now)) view.now.placement.now.sites k view.now.t view.now.range) }
 {
     let (proposal, word) = proposed(view, k);
@@ -47,9 +46,8 @@ pub fn judge<C: WireCost, W: Words>(
 /// legal and the wire cost stands for it by condition.
 pub fn decide<C: WireCost, W: Words>(view: &View<'_, C, W>, k: u64) -> Decision
     requires legal { IsLegal view.now.design.now view.now.grid.now view.now.fixed.now view.now.placement.now.sites }
-    requires array { view.now.placement.now.grid ≡ view.now.grid.now }
     requires stands { C.StandsFor view.now.cost.now view.now.design.now view.now.grid.now view.now.placement.now.sites }
-    ensures lawful { (s : Swap) → result.swap ≡ Some s → IsSwapOf view.now.placement.now.grid view.now.placement.now.sites s }
+    ensures lawful { (s : Swap) → result.swap ≡ Some s → IsSwapOf view.now.grid.now view.now.placement.now.sites s }
     ensures decided { IsDecision result (judged (problem view.now.design.now view.now.grid.now view.now.fixed.now (W.moves view.now.words.now)) view.now.placement.now.sites k view.now.t view.now.range) }
 {
     let (proposal, word) = proposed(view, k);
@@ -60,9 +58,8 @@ pub fn decide<C: WireCost, W: Words>(view: &View<'_, C, W>, k: u64) -> Decision
 #[inline(always)]
 fn proposed<C: WireCost, W: Words>(view: &View<'_, C, W>, k: u64) -> (Proposal, u32)
     requires legal { IsLegal view.now.design.now view.now.grid.now view.now.fixed.now view.now.placement.now.sites }
-    requires array { view.now.placement.now.grid ≡ view.now.grid.now }
     ensures value { result.0 ≡ proposal view.now.design.now view.now.grid.now view.now.fixed.now view.now.placement.now.sites view.now.range (W.moves view.now.words.now k) }
-    ensures lawful { (s : Swap) → result.0 ≡ proposes s → IsSwapOf view.now.placement.now.grid view.now.placement.now.sites s }
+    ensures lawful { (s : Swap) → result.0 ≡ proposes s → IsSwapOf view.now.grid.now view.now.placement.now.sites s }
     ensures word { result.1 ≡ slice_index (W.moves view.now.words.now k) 3 }
 {
     let words = view.words.move_words(k);
@@ -81,8 +78,8 @@ fn proposed<C: WireCost, W: Words>(view: &View<'_, C, W>, k: u64) -> (Proposal, 
 #[inline(always)]
 fn weighed<C: WireCost, W: Words>(view: &View<'_, C, W>, proposal: Proposal, word: u32) -> Decision
     requires stands { C.StandsFor view.now.cost.now view.now.design.now view.now.grid.now view.now.placement.now.sites }
-    requires lawful { (s : Swap) → proposal ≡ proposes s → IsSwapOf view.now.placement.now.grid view.now.placement.now.sites s }
-    ensures lawful { (s : Swap) → result.swap ≡ Some s → IsSwapOf view.now.placement.now.grid view.now.placement.now.sites s }
+    requires lawful { (s : Swap) → proposal ≡ proposes s → IsSwapOf view.now.grid.now view.now.placement.now.sites s }
+    ensures lawful { (s : Swap) → result.swap ≡ Some s → IsSwapOf view.now.grid.now view.now.placement.now.sites s }
     ensures decided { IsDecision result (judged_as (problem view.now.design.now view.now.grid.now view.now.fixed.now (W.moves view.now.words.now)) view.now.placement.now.sites view.now.t word proposal) }
 {
     match proposal {

@@ -39,9 +39,8 @@ pub fn propose(
     words: [u32; 4],
 ) -> Proposal
     requires legal { IsLegal design.now grid.now fixed.now placement.now.sites }
-    requires array { placement.now.grid ≡ grid.now }
     ensures value { result ≡ proposal design.now grid.now fixed.now placement.now.sites range words }
-    ensures lawful { (s : Swap) → result ≡ proposes s → IsSwapOf placement.now.grid placement.now.sites s }
+    ensures lawful { (s : Swap) → result ≡ proposes s → IsSwapOf grid.now placement.now.sites s }
 {
     match chosen(design, fixed, words[0]) {
         None => Proposal::Nothing,

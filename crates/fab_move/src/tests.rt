@@ -38,7 +38,6 @@ struct Placed {
     grid: Grid,
     fixed: Fixed,
     placement: Placement,
-    ghost array: { placement.grid ≡ grid },
 }
 
 fn no_pins(alloc: Global) -> Pins
@@ -56,9 +55,7 @@ fn started<W: Words>(
     design: &Design,
     grid: &Grid,
     words: &W,
-) -> Result<Placement, Fail>
-    ensures { IfOk result (λ p. p.grid ≡ grid.now) }
-{
+) -> Result<Placement, Fail> {
     grid.holds(design.logic_blocks(), design.pads())?;
     Ok(start(alloc, design, grid, &no_pins(alloc), words)?)
 }

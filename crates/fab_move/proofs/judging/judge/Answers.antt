@@ -5,10 +5,10 @@ use Rattle.fab_move.proofs.Judgements.{decided_says, judged_on}
 use Rattle.fab_move.proofs.judging.judge.Goals as goal
 
 pub footprint_of-requires-clause-block : goal.footprint_of-requires-clause-block
-footprint_of-requires-clause-block g c = λ s is. block_below c.args.view.now.placement.now.grid c.args.view.now.placement.now.sites s _ (c.proposed-proposal.ensures.lawful s is) (sym c.requires.legal.all)
+footprint_of-requires-clause-block g c = λ s is. block_below c.args.view.now.grid.now c.args.view.now.placement.now.sites s _ (c.proposed-proposal.ensures.lawful s is) (sym c.requires.legal.all)
 
 pub footprint_of-requires-clause-other : goal.footprint_of-requires-clause-other
-footprint_of-requires-clause-other g c = λ s b is there. other_below c.args.view.now.placement.now.grid c.args.view.now.placement.now.sites s b _ (c.proposed-proposal.ensures.lawful s is) there (sym c.requires.legal.all)
+footprint_of-requires-clause-other g c = λ s b is there. other_below c.args.view.now.grid.now c.args.view.now.placement.now.sites s b _ (c.proposed-proposal.ensures.lawful s is) there (sym c.requires.legal.all)
 
 pub returns-clause-judged : goal.returns-clause-judged
 returns-clause-judged g c =

@@ -8,4 +8,4 @@ delta-delta-requires-clause-lawful g c = c.requires.lawful c.in-Move.swap c.in-M
 
 pub returns-in-Move-clause-lawful : goal.returns-in-Move-clause-lawful
 returns-in-Move-clause-lawful g c = λ s e.
-    subst (IsSwapOf c.args.view.now.placement.now.grid c.args.view.now.placement.now.sites) (same_swap c.in-Move.swap s e) (c.requires.lawful c.in-Move.swap c.in-Move.is)
+    subst (IsSwapOf c.args.view.now.grid.now c.args.view.now.placement.now.sites) (same_swap c.in-Move.swap s e) (c.requires.lawful c.in-Move.swap c.in-Move.is)

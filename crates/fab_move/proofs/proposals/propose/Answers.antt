@@ -1,5 +1,6 @@
 use Rattle.std.proofs.Common.{◌<◌, length, Some, sym, ap, subst, ◌∙◌, arith}
-use Rattle.fab_site.specs.Placement.{Fits, IsSwapOf}
+use Rattle.std.specs.Prelude.{is_some}
+use Rattle.fab_site.specs.Placement.{Fits}
 use Rattle.fab_move.specs.Propose.{propose_to, target}
 use Rattle.fab_move.specs.Chosen.{number_of}
 use Rattle.fab_move.proofs.Choices.{chosen_below, nothing_chosen, some_chosen, lawful_to, stands_at}
@@ -47,8 +48,8 @@ returns-in-Some-clause-lawful c = λ s is.
     let all = c.requires.legal.all in
     let inside : c.in-Some.block.0 < length sites = grind (arith, l, all) in
     let there : Fits c.args.design.now g c.in-Some.block.0 c.site_of-from.result = subst (Fits c.args.design.now g c.in-Some.block.0) (sym c.site_of-from.ensures) (c.requires.legal.fit c.in-Some.block.0 inside) in
-    subst (λ k. IsSwapOf k sites s) (sym c.requires.array)
-    (lawful_to g c.args.fixed.now sites c.in-Some.block c.site_of-from.result c.target-to.result s
+    lawful_to g c.args.fixed.now sites c.in-Some.block c.site_of-from.result c.target-to.result s
     (stands_at sites c.in-Some.block.0 inside ∙ ap (λ x. Some x) (sym c.site_of-from.ensures))
     (c.target-to.ensures.fits ∙ sym there)
-    (sym c.propose_to.ensures ∙ is))
+    (ap is_some there)
+    (sym c.propose_to.ensures ∙ is)
