@@ -49,11 +49,17 @@ both (Some x) (Some y) = Some (x, y)
 abbrev pub size_in : TextLine → Option (ℕ × ℕ)
 size_in l = if is_size_line l then both (small_number (word_at l 2)) (small_number (word_at l 4)) else None
 
+-- the size that a header gives, of which these lines are there
+abbrev pub header_size : Option TextLine → Option TextLine → Option (ℕ × ℕ)
+header_size None size = None
+header_size (Some files) None = None
+header_size (Some files) (Some size) = if is_files_line files then size_in size else None
+
 -- the size that the header of a text gives
 abbrev pub place_size_of : List TextLine → Option (ℕ × ℕ)
 place_size_of [] = None
-place_size_of (files ∷ []) = None
-place_size_of (files ∷ size ∷ rest) = if is_files_line files then size_in size else None
+place_size_of (files ∷ []) = header_size (Some files) None
+place_size_of (files ∷ size ∷ rest) = header_size (Some files) (Some size)
 
 abbrev pub site_from : Option ℕ → Option ℕ → Option ℕ → Option Site
 site_from None y sub = None

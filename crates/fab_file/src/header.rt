@@ -1,13 +1,15 @@
 //! The header of a placement text: two lines, the second of which gives the size of the array.
 
 ghost use Rattle.std.specs.Prelude.{◌≡◌, Some, None, drop, IfOk, IfErr, OnOk};
+ghost use Rattle.std.specs.Option.{option_map};
 ghost use Rattle.fab_text.specs.Lines.{lines};
 ghost use Rattle.fab_text.specs.Shown.{shown};
-ghost use Rattle.fab_file.specs.Place.{is_files_line, is_size_line, size_in, both, place_size_of};
-ghost use Rattle.fab_file.specs.PlaceFaults.{FaultIs, size_fault};
+ghost use Rattle.fab_file.specs.Place.{is_files_line, is_size_line, size_in, both, header_size, place_size_of};
+ghost use Rattle.fab_file.specs.PlaceFaults.{FaultIs, size_fault, size_fault_by};
 
 use crate::fault::PlaceFault;
 use crate::words::{is_word, small_number, word_at};
+use fab_arch::Grid;
 use fab_text::{Line, Lines};
 use std::alloc::Global;
 
@@ -51,25 +53,46 @@ pub(crate) fn size_in(line: &Line) -> Option<(u16, u16)>
     }
 }
 
+/// The columns and rows that a header gives, of which these lines are there, or `BadHeader`. Takes no memory.
+fn header_size(files: &Option<Line>, size: &Option<Line>) -> Result<(u16, u16), PlaceFault>
+    ensures size { IfOk result (λ r. header_size (option_map (λ l. shown l) files.now) (option_map (λ l. shown l) size.now) ≡ Some r) }
+    ensures fault { IfErr result (λ e. size_fault (header_size (option_map (λ l. shown l) files.now) (option_map (λ l. shown l) size.now)) ≡ Some e) }
+{
+    let Some(files) = files else {
+        return Err(PlaceFault::BadHeader);
+    };
+    let Some(size) = size else {
+        return Err(PlaceFault::BadHeader);
+    };
+    if !is_files_line(files) {
+        return Err(PlaceFault::BadHeader);
+    }
+    match size_in(size) {
+        Some(sides) => Ok(sides),
+        None => Err(PlaceFault::BadHeader),
+    }
+}
+
 /// Takes the header off the lines of a placement text: the columns and rows that it gives.
 pub(crate) fn take_size(left: &mut Lines) -> Result<(u16, u16), PlaceFault>
     ensures size { IfOk result (λ r. place_size_of left.old ≡ Some r) }
     ensures rest { OnOk result (left.new ≡ drop 2 left.old) }
     ensures fault { IfErr result (λ e. FaultIs e (size_fault (place_size_of left.old))) }
 {
-    let Some(files) = left.next()? else {
-        return Err(PlaceFault::BadHeader);
-    };
-    let Some(size) = left.next()? else {
-        return Err(PlaceFault::BadHeader);
-    };
-    if !is_files_line(&files) {
-        return Err(PlaceFault::BadHeader);
+    let files = left.next()?;
+    let size = left.next()?;
+    header_size(&files, &size)
+}
+
+/// Compares the columns and rows that a header gives with the array's, or answers `WrongSize`. Takes no memory.
+pub(crate) fn check_size(grid: &Grid, nx: u16, ny: u16) -> Result<(), PlaceFault>
+    ensures ok { OnOk result (size_fault_by grid.now (Some (nx, ny)) ≡ None) }
+    ensures fault { IfErr result (λ e. size_fault_by grid.now (Some (nx, ny)) ≡ Some e) }
+{
+    if nx != grid.nx() || ny != grid.ny() {
+        return Err(PlaceFault::WrongSize);
     }
-    match size_in(&size) {
-        Some(sides) => Ok(sides),
-        None => Err(PlaceFault::BadHeader),
-    }
+    Ok(())
 }
 
 /// The columns and rows that the header of a placement text gives, or `BadHeader`. The lines behind the header are

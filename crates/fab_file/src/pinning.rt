@@ -13,7 +13,7 @@ ghost use Rattle.fab_file.specs.Pinned.{begins_header, has_header, block_lines, 
 ghost use Rattle.fab_file.specs.declared.fault.PlaceFault.TheVariants.{NoMemory};
 
 use crate::fault::PlaceFault;
-use crate::header::take_size;
+use crate::header::{check_size, take_size};
 use crate::taking::PlaceLines;
 use crate::words::{is_word, site_in, word_at};
 use fab_arch::{Grid, Site};
@@ -48,9 +48,7 @@ fn block_lines<'a>(alloc: Global, bytes: &'a [u8], grid: &Grid) -> Result<Lines<
     let mut left = Lines::new(alloc, bytes);
     if has_header(alloc, bytes)? {
         let (nx, ny) = take_size(&mut left)?;
-        if nx != grid.nx() || ny != grid.ny() {
-            return Err(PlaceFault::WrongSize);
-        }
+        check_size(grid, nx, ny)?;
     }
     Ok(left)
 }

@@ -1,6 +1,6 @@
 //! Placement texts: a header, and a line for each block.
 
-ghost use Rattle.std.specs.Prelude.{◌≡◌, ◌==◌, ◌&&◌, List, IfOk, IfErr, MatchResult};
+ghost use Rattle.std.specs.Prelude.{◌≡◌, List, IfOk, IfErr, MatchResult};
 ghost use Rattle.fab_arch.specs.declared.array.Site.{Site};
 ghost use Rattle.fab_text.specs.Lines.{TextLine, lines};
 ghost use Rattle.fab_arch.specs.Grid.{GridShape};
@@ -10,20 +10,13 @@ ghost use Rattle.fab_file.specs.PlaceFaults.{FaultIs, PlaceMeansOrFaults, first_
 ghost use Rattle.fab_file.specs.declared.fault.PlaceFault.TheVariants.{NoMemory};
 
 use crate::fault::PlaceFault;
-use crate::header::take_size;
+use crate::header::{check_size, take_size};
 use crate::taking::PlaceLines;
 use fab_arch::Grid;
 use fab_net::Design;
 use fab_site::Placement;
 use fab_text::Lines;
 use std::alloc::Global;
-
-/// Whether an array has so many columns and rows.
-fn is_size(grid: &Grid, nx: u16, ny: u16) -> bool
-    ensures { result ≡ (nx == grid.now.nx && ny == grid.now.ny) }
-{
-    nx == grid.nx() && ny == grid.ny()
-}
 
 /// The placement that a text stands for, of a design on an array, or the text's first fault: that of the first line
 /// with one, else the first block that no line names.
@@ -44,9 +37,7 @@ pub fn read_place(
     let mut placed = PlaceLines::new(alloc, design, grid)?;
     let mut left = Lines::new(alloc, bytes);
     let (nx, ny) = take_size(&mut left)?;
-    if !is_size(grid, nx, ny) {
-        return Err(PlaceFault::WrongSize);
-    }
+    check_size(grid, nx, ny)?;
     while let Some(line) = left.next()? {
         placed.take(&line)?;
     }

@@ -1,11 +1,11 @@
-use Rattle.std.proofs.Common.{◌≡◌, ◌∷◌, sym, ◌∙◌}
-use Rattle.std.proofs.lemmas.Bool.{and_parts, eqb-true}
+use Rattle.std.proofs.Common.{Some, ap, ◌≡◌, ◌∷◌, sym, ◌∙◌}
 use Rattle.std.proofs.lemmas.Result.{err_from_is_err_and}
 use Rattle.fab_text.specs.Lines.{lines}
 use Rattle.fab_text.specs.Shown.{shown}
-use Rattle.fab_file.proofs.Seats.{none_some}
+use Rattle.fab_file.proofs.Seats.{none_some, inner}
+use Rattle.fab_file.proofs.PinLines.{size_is}
 use Rattle.fab_file.proofs.Legal.{no_fault_in}
-use Rattle.fab_file.proofs.Underway.{header, size_refused, wrong_size, begin, step, fails, fault_is, found_stands, found_alone, first_refused}
+use Rattle.fab_file.proofs.Underway.{header, size_refused, begin, step, fails, fault_is, found_stands, found_alone, first_refused}
 use Rattle.fab_file.proofs.reading.read_place.Goals as goal
 
 pub returns-in_err-nx-clause-fault : goal.returns-in_err-nx-clause-fault
@@ -14,19 +14,14 @@ returns-in_err-nx-clause-fault c =
     let h = rw c.new-left.ensures at c.in_err-nx.ensures.fault in
     rw (p.1, p.2) (size_refused c.args.design.now c.args.grid.now (lines c.args.bytes.now) _ h)
 
-pub returns-then-not-is_size-clause-fault : goal.returns-then-not-is_size-clause-fault
-returns-then-not-is_size-clause-fault c =
-    let size = rw c.new-left.ensures at c.in_ok-nx.ensures.size in
-    wrong_size c.args.design.now c.args.grid.now (lines c.args.bytes.now) c.in_ok-nx.nx c.in_ok-nx.ny size (sym c.is_size.ensures ∙ c.if-not-is_size.true)
-
 pub loop-placed-init : goal.loop-placed-init
 loop-placed-init c =
     let g = c.args.grid.now in
     let size = rw c.new-left.ensures at c.in_ok-nx.ensures.size in
     let rest = rw c.new-left.ensures at c.in_ok-nx.ensures.rest in
-    let both = and_parts _ _ (sym c.is_size.ensures ∙ c.if-not-is_size.false) in
+    let same = inner (c.in_ok-nx.nx, c.in_ok-nx.ny) (g.nx, g.ny) (size_is g (Some (c.in_ok-nx.nx, c.in_ok-nx.ny)) c.in_ok-check_size.ensures.ok) in
     begin c.args.design.now g (lines c.args.bytes.now) c.take_size.new.left c.in_ok-placed.placed
-    (header g (lines c.args.bytes.now) c.take_size.new.left c.in_ok-nx.nx c.in_ok-nx.ny size rest (eqb-true c.in_ok-nx.nx g.nx both.0) (eqb-true c.in_ok-nx.ny g.ny both.1))
+    (header g (lines c.args.bytes.now) c.take_size.new.left c.in_ok-nx.nx c.in_ok-nx.ny size rest (ap (λ s. s.0) same) (ap (λ s. s.1) same))
     c.in_ok-placed.ensures.none
 
 pub returns-in_err-take-clause-only : goal.returns-in_err-take-clause-only
