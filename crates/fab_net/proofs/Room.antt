@@ -140,6 +140,9 @@ sizes pins more ws h =
 above : (n m : ℕ) → m < n → leb n m ≡ false
 above n m h = grind (arith, nat_tests)
 
+pub over : (n m : ℕ) → leb n m ≡ false → m < n
+over n m h = grind (arith, nat_tests)
+
 pub no_room : (pins more : List PinOf) (ws : List (List ℕ)) → map net_of_pin more ≡ connected ws → 1048576 < length pins + length (connected ws) → false ≡ are_few (pins ++ more)
 no_room pins more ws h gt =
     let s = sizes pins more ws h in

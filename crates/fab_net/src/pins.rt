@@ -1,6 +1,6 @@
 //! Pins, whose nets are numbered by first appearance.
 
-ghost use Rattle.std.specs.Prelude.{◌≡◌, ◌++◌, ◌∷◌, ◌^◌, ◌<◌, ◌≤◌, [], List, length, map, filter, count_by, slice_index_or, IfOk};
+ghost use Rattle.std.specs.Prelude.{◌≡◌, ◌++◌, ◌∷◌, ◌^◌, ◌<◌, ◌≤◌, [], List, nat_le, length, map, filter, count_by, slice_index_or, IfOk};
 ghost use Rattle.std.specs.List.{sum_by};
 ghost use Rattle.fab_net.specs.ByNumber.{net_entry, drives_its, driver_entry, span_at};
 ghost use Rattle.fab_net.specs.Names.{AllDistinct};
@@ -66,6 +66,18 @@ fn marks_of(alloc: Global, names: &NetNames, globals: &[&[u8]]) -> Result<Vec<bo
     Ok(marks)
 }
 
+fn are_few_terminals(count: usize) -> bool
+    ensures { result ≡ nat_le count 1048576 }
+{
+    count <= 1048576
+}
+
+fn are_few_nets(count: usize) -> bool
+    ensures { result ≡ nat_le count 65535 }
+{
+    count <= 65535
+}
+
 /// Connected pins, whose nets are numbered by first appearance.
 pub struct Pins<'a> {
     names: NetNames<'a>,
@@ -121,11 +133,11 @@ impl<'a> Pins<'a> {
         ensures { (more : List PinOf) → map net_of_pin more ≡ connected (map (λ w. w.now) words.now) → result ≡ are_few (self.now ++ more) }
     {
         let added = connected_count(words);
-        if self.len() + added > 1048576 {
+        if !are_few_terminals(self.len() + added) {
             return false;
         }
         let nets = self.net_count();
-        nets + added <= 65535 || nets + self.names.count_new(words) <= 65535
+        are_few_nets(nets + added) || are_few_nets(nets + self.names.count_new(words))
     }
 
     /// With one more pin.
