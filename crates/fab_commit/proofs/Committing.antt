@@ -94,7 +94,7 @@ sound_after r s t j sound e c legal =
       stage = c.advanced.stands;
     }
 
-moved_legal : (r : Run) (s : State) (j : Judged) → IsSound r s → ((x : Swap) → j.swap ≡ Some x → IsSwapOf s.placement.grid s.placement.sites x) → ((x : Swap) → j.swap ≡ Some x → MayMove r.problem.fixed x) → (b : Bool) (o : Option Swap) → j.accepted ≡ b → j.swap ≡ o → IsLegal r.problem.design r.problem.grid r.problem.fixed (moved s.placement.sites j)
+moved_legal : (r : Run) (s : State) (j : Judged) → IsSound r s → ((x : Swap) → j.swap ≡ Some x → IsSwapOf r.problem.grid s.placement.sites x) → ((x : Swap) → j.swap ≡ Some x → MayMove r.problem.fixed x) → (b : Bool) (o : Option Swap) → j.accepted ≡ b → j.swap ≡ o → IsLegal r.problem.design r.problem.grid r.problem.fixed (moved s.placement.sites j)
 moved_legal r s j sound lawful may false o eb eo = subst (IsLegal r.problem.design r.problem.grid r.problem.fixed) (sym (moved_not s.placement.sites j eb)) sound.legal
   where
     moved_not : (sites : List Site) (j : Judged) → j.accepted ≡ false → moved sites j ≡ sites
@@ -105,7 +105,7 @@ moved_legal r s j sound lawful may true None eb eo = subst (IsLegal r.problem.de
     moved_none sites j e q = rw (e, q) refl
 moved_legal r s j sound lawful may true (Some x) eb eo =
     subst (IsLegal r.problem.design r.problem.grid r.problem.fixed) (sym (moved_some s.placement.sites j x eb eo))
-    (legal_swapped r.problem.design r.problem.grid r.problem.fixed s.placement.sites x sound.legal (subst (λ g. IsSwapOf g s.placement.sites x) sound.array (lawful x eo)) (may x eo))
+    (legal_swapped r.problem.design r.problem.grid r.problem.fixed s.placement.sites x sound.legal (lawful x eo) (may x eo))
   where
     moved_some : (sites : List Site) (j : Judged) (x : Swap) → j.accepted ≡ true → j.swap ≡ Some x → moved sites j ≡ swapped sites x
     moved_some sites j x e q = rw (e, q) refl
@@ -115,7 +115,7 @@ pub decided_lawful : (g : GridShape) (sites : List Site) (d : Decision) (j : Jud
 decided_lawful g sites d j is lawful x e = lawful x (is.swap ∙ e)
 
 -- a judged move leaves a legal placement
-pub judged_legal : (r : Run) (s : State) (j : Judged) (k : ℕ) → IsSound r s → j ≡ judged_here r (standing_of s) k → ((x : Swap) → j.swap ≡ Some x → IsSwapOf s.placement.grid s.placement.sites x) → IsLegal r.problem.design r.problem.grid r.problem.fixed (moved s.placement.sites j)
+pub judged_legal : (r : Run) (s : State) (j : Judged) (k : ℕ) → IsSound r s → j ≡ judged_here r (standing_of s) k → ((x : Swap) → j.swap ≡ Some x → IsSwapOf r.problem.grid s.placement.sites x) → IsLegal r.problem.design r.problem.grid r.problem.fixed (moved s.placement.sites j)
 judged_legal r s j k sound says lawful =
     moved_legal r s j sound lawful (λ x e. judged_may_move r.problem s.placement.sites k _ s.stage.range x (ap (λ q. q.swap) (sym says) ∙ e)) j.accepted j.swap refl refl
 

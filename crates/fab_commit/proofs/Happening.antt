@@ -1,7 +1,7 @@
 -- Where lists of events lead, and what may be done there.
 use Rattle.std.proofs.Common.{◌≡◌, ℕ, zero, suc, ◌+◌, ◌*◌, ◌/◌, ◌%◌, ◌<◌, ◌≤◌, ◌^◌, Bool, true, false, not, cond, ◌==◌, List, [], ◌∷◌, ◌++◌, length, Option, Some, None, slice_get, refl, sym, ap, subst, ◌∙◌, arith, append_assoc}
 use Rattle.std.specs.List.{All, AllByRecursion}
-use Rattle.std.specs.Prelude.{slice_index, Result, Ok, Err, OnOk, OnErr}
+use Rattle.std.specs.Prelude.{is_some, slice_index, Result, Ok, Err, OnOk, OnErr}
 use Rattle.std.proofs.lemmas.Bool.{false≢true}
 use Rattle.std.proofs.lemmas.List.{append-nil}
 use Rattle.std.proofs.lemmas.List.Elements.{All-filter, All-push, recursion_from_All}
@@ -169,6 +169,7 @@ proposed_lawful d g fixed sites range ws s legal kind e =
         lawful_to g fixed sites (record { 0 = b }) (site_of sites b) there s
         (stands_at sites b (omega (arith, all, low)))
         (ap (kind_at g) (sym goes.1) ∙ kind ∙ ap (kind_at g) goes.0)
+        (ap is_some (legal.fit b (omega (arith, all, low))))
         k
 
 -- the swap of a judgement is the proposed one
@@ -186,10 +187,9 @@ judged_lawful p sites k t range s legal kind e = by_proposal (proposal p.design 
 
 -- what is said to be the next move has a swap of the live placement
 pub taken_lawful : (r : Run) (s : State) (j : Judged) (k : ℕ) → IsSound r s → j ≡ judged_here r (standing_of s) k → ((x : Swap) → j.swap ≡ Some x → kind_at r.problem.grid x.to ≡ kind_at r.problem.grid x.from)
-    → (x : Swap) → j.swap ≡ Some x → IsSwapOf s.placement.grid s.placement.sites x
+    → (x : Swap) → j.swap ≡ Some x → IsSwapOf r.problem.grid s.placement.sites x
 taken_lawful r s j k sound says kinds x e =
-    subst (λ g. IsSwapOf g s.placement.sites x) (sym sound.array)
-    (judged_lawful r.problem s.placement.sites k (or_zero (standing_of s).heat) s.stage.range x sound.legal (kinds x e) (ap (λ q. q.swap) (sym says) ∙ e))
+    judged_lawful r.problem s.placement.sites k (or_zero (standing_of s).heat) s.stage.range x sound.legal (kinds x e) (ap (λ q. q.swap) (sym says) ∙ e)
 
 -- accepted swaps
 
@@ -259,7 +259,7 @@ taken_says r s v whole reached is =
     let pos : 0 < r.plan.moves = omega (arith, moves) in
     reached_takes r (world_of s) s.ways.items pos reached v (usable_is r (world_of s) v is.found is.free)
 
-pub taken_swaps : (r : Run) (s : WorldState) (v : Verdict) → IsWhole r s → IsReached r (world_of s) s.ways.items → IsTaken r s v → (x : Swap) → v.judged.swap ≡ Some x → IsSwapOf s.live.placement.grid s.live.placement.sites x
+pub taken_swaps : (r : Run) (s : WorldState) (v : Verdict) → IsWhole r s → IsReached r (world_of s) s.ways.items → IsTaken r s v → (x : Swap) → v.judged.swap ≡ Some x → IsSwapOf r.problem.grid s.live.placement.sites x
 taken_swaps r s v whole reached is =
     taken_lawful r s.live v.judged s.live.done whole.live (taken_says r s v whole reached is)
     (found_in (KeepsKind r.problem.grid) s.live.done s.verdicts.items v (recursion_from_All (KeepsKind r.problem.grid) s.verdicts.items whole.kinds) is.found)

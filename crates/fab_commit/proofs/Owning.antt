@@ -185,7 +185,7 @@ pub record IsNext (r : Run) (o : Owner) (j : Judged) (now : Owner) : Type 0 wher
   pub stamps : (log : List Accepted) → AreBefore o.state.done log → AreStamps r.problem.design r.problem.grid o.stamps log → AreStamps r.problem.design r.problem.grid now.stamps (log ++ accepted_now o.state.done j)
 
 pub one_made : (r : Run) (o now : Owner) (j : Judged) → IsOwned r o → o.state.ended ≡ false → j ≡ judged_here r (standing_of o.state) o.state.done
-    → ((s : Swap) → j.swap ≡ Some s → IsSwapOf o.state.placement.grid o.state.placement.sites s) → IsNext r o j now → HasMade r o 1 now
+    → ((s : Swap) → j.swap ≡ Some s → IsSwapOf r.problem.grid o.state.placement.sites s) → IsNext r o j now → HasMade r o 1 now
 one_made r o now j owned going says lawful next =
     let x = standing_of o.state in
     let hot = hot_at o.state.ended o.state.stage.t going in
@@ -203,7 +203,7 @@ one_made r o now j owned going says lawful next =
       swaps = next.swaps ∙ ap (λ l. o.swaps.items ++ l) (sym (append-nil (accepted_now o.state.done j)) ∙ swap_is);
       stamps = λ log before are. subst (AreStamps r.problem.design r.problem.grid now.stamps) (ap (λ l. log ++ l) (sym (append-nil (accepted_now o.state.done j)) ∙ swap_is)) (next.stamps log before are);
       leads = λ sites h.
-          let on = leads_now r.problem.grid sites o.state.placement.sites o.swaps.items o.state.done j j.accepted j.swap refl refl (λ s e. subst (λ g. IsSwapOf g o.state.placement.sites s) owned.sound.array (lawful s e)) h in
+          let on = leads_now r.problem.grid sites o.state.placement.sites o.swaps.items o.state.done j j.accepted j.swap refl refl lawful h in
           subst (λ l. Leads r.problem.grid sites l now.state.placement.sites) (sym next.swaps) (subst (Leads r.problem.grid sites (o.swaps.items ++ accepted_now o.state.done j)) (sym (ap (λ (y : Standing). y.sites) next.stands)) on);
     }
 

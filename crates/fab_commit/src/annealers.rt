@@ -34,6 +34,7 @@ use std::thread::Threads;
 /// Anneals a placement of a design on an array.
 #[derive(Drop)]
 pub struct Anneal<'a, W: Words + Drop> {
+    alloc: Global,
     given: Arc<Given<'a, W>>,
     pipeline: Pipeline,
 }
@@ -75,7 +76,6 @@ impl<'a, W: Words + Drop> Anneal<'a, W> {
         words: W,
     ) -> Result<Anneal<'a, W>, AllocError>
         requires legal { IsLegal design.now grid.now fixed placement.sites }
-        requires array { placement.grid ≡ grid.now }
         ensures { IfOk result (λ a. a ≡ record { design = design.now; grid = grid.now; fixed = fixed; plan = schedule; words = words; standing = at_start (run design.now grid.now fixed (W.moves words) schedule) placement.sites; ahead = []; swaps = []; accepted = []; redone = 0 }) }
     {
         let _moves = schedule.moves();
@@ -89,7 +89,11 @@ impl<'a, W: Words + Drop> Anneal<'a, W> {
         };
         let pipeline = first_pipeline(alloc, &given, live)?;
         match Arc::new(alloc, given) {
-            Ok(given) => Ok(Anneal { given, pipeline }),
+            Ok(given) => Ok(Anneal {
+                alloc,
+                given,
+                pipeline,
+            }),
             Err(_) => Err(AllocError),
         }
     }
@@ -171,7 +175,6 @@ impl<'a, W: Words + Sync + Drop> Anneal<'a, W> {
     pub fn turn_by<'g, G: Gate, J: Naming, R: Threads + Wait + Sync>(
         &mut self,
         rt: &R,
-        alloc: Global,
         batch: u64,
         workers: &mut Workers<'a, 'g, W, G, J>,
     ) -> Result<Turn, AllocError>
@@ -196,6 +199,7 @@ impl<'a, W: Words + Sync + Drop> Anneal<'a, W> {
         // Whatever standing turns of this batch led on from, this is one more of them.
         ensures turns { OnOk result (LeadsByTurns (run_of W.moves self.old) batch self.old self.new) }
     {
+        let alloc = self.alloc;
         turn(rt, alloc, &self.given, &mut self.pipeline, batch, workers)?;
         Ok(if self.pipeline.owner.state.ended {
             Turn::Finished
@@ -218,7 +222,6 @@ impl<'a, W: Words + Sync + Drop> Anneal<'a, W> {
     pub fn turn<G: Gate, R: Threads + Wait + Sync>(
         &mut self,
         rt: &R,
-        alloc: Global,
         batch: u64,
         workers: u64,
         gate: &G,
@@ -246,6 +249,6 @@ impl<'a, W: Words + Sync + Drop> Anneal<'a, W> {
         ensures turns { OnOk result (LeadsByTurns (run_of W.moves self.old) batch self.old self.new) }
     {
         let mut workers = Workers::<'_, '_, W, G, Brand>::started(workers, gate);
-        self.turn_by(rt, alloc, batch, &mut workers)
+        self.turn_by(rt, batch, &mut workers)
     }
 }

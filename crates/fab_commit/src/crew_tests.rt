@@ -28,7 +28,7 @@ impl Task<u64> for Sums<'_> {
         self.count
     }
 
-    fn judge(&self, _alloc: Global, number: u64) -> Result<u64, AllocError> {
+    fn judge(&self, number: u64) -> Result<u64, AllocError> {
         if self.judged.fetch_add(1, Ordering::SeqCst) < self.refusals {
             return Err(AllocError);
         }
@@ -59,7 +59,7 @@ fn owned_as<'a, J: Naming + Send + Sync, O: Owner, R: Threads + Wait + Sync>(
 {
     let (crew, lead) = found::<Sums<'a>, u64, J>(alloc, opened, workers)?;
     thread::scope(thread::scope_env(), rt, move |scope| {
-        let _ = scope.spawn(move || work_all(rt, alloc, &crew, workers));
+        let _ = scope.spawn(move || work_all(rt, &crew, workers));
         owner.turns(rt, alloc, judged, lead)
     })
 }
@@ -95,8 +95,8 @@ impl Owner for Three {
                 refusals: 0,
                 judged,
             };
-            lead.post(rt, alloc, job)?;
-            turns.push(lead.collect(rt, alloc)?)?;
+            lead.post(rt, job)?;
+            turns.push(lead.collect(rt)?)?;
         }
         Ok(turns)
     }
@@ -136,11 +136,11 @@ impl Owner for Hasty {
                 refusals: 0,
                 judged,
             };
-            lead.post(rt, alloc, job)?;
+            lead.post(rt, job)?;
         }
         let mut turns = Vec::new(alloc);
-        turns.push(lead.collect(rt, alloc)?)?;
-        turns.push(lead.collect(rt, alloc)?)?;
+        turns.push(lead.collect(rt)?)?;
+        turns.push(lead.collect(rt)?)?;
         Ok(turns)
     }
 }
@@ -174,11 +174,11 @@ impl Owner for Waits<'_> {
             refusals: 0,
             judged,
         };
-        lead.post(rt, alloc, job)?;
+        lead.post(rt, job)?;
         let mut turns = Vec::new(alloc);
         for _turn in 0..10000u64 {
             if judged.load(Ordering::SeqCst) > 0 {
-                turns.push(lead.collect(rt, alloc)?)?;
+                turns.push(lead.collect(rt)?)?;
                 break;
             }
             thread::sleep(self.clock, Duration::from_millis(1));
@@ -217,8 +217,8 @@ impl Owner for Refused {
                 refusals,
                 judged,
             };
-            lead.post(rt, alloc, job)?;
-            turns.push(lead.collect(rt, alloc).unwrap_or(Vec::new(alloc)))?;
+            lead.post(rt, job)?;
+            turns.push(lead.collect(rt).unwrap_or(Vec::new(alloc)))?;
         }
         Ok(turns)
     }

@@ -22,7 +22,6 @@ use fab_move::{Decision, Verdict};
 use fab_site::{Swap, Words};
 
 /// What the owner of the live placement keeps.
-#[derive(Drop)]
 pub(crate) struct Owner {
     pub(crate) state: State,
     /// The swaps that the running turn accepted, or the last one.
@@ -32,13 +31,25 @@ pub(crate) struct Owner {
     pub(crate) redone: u64,
 }
 
+impl Drop for Owner {
+    // A `drop` that is called is one step wherever a value goes out of scope; a derived one is proved anew there.
+    fn drop(self) {
+        let Owner {
+            state: _,
+            swaps: _,
+            stamps: _,
+            redone: _,
+        } = self;
+    }
+}
+
 /// Makes the next move as it was decided.
 fn make<W: Words>(given: &Given<'_, W>, owner: &mut Owner, decision: &Decision)
     requires plan { IsLawful given.now.schedule }
     requires owned { IsOwned (run_for W.moves given.now) owner.old }
     requires going { owner.old.state.ended ≡ false }
     requires room { HasRoom owner.old 1 }
-    requires lawful { (s : Swap) → decision.now.swap ≡ Some s → IsSwapOf owner.old.state.placement.grid owner.old.state.placement.sites s }
+    requires lawful { (s : Swap) → decision.now.swap ≡ Some s → IsSwapOf given.now.grid.now owner.old.state.placement.sites s }
     requires decides { IsDecision decision.now (judged_here (run_for W.moves given.now) (standing_of owner.old.state) owner.old.state.done) }
     ensures made { HasMade (run_for W.moves given.now) owner.old 1 owner.new }
     ensures redone { owner.new.redone ≡ owner.old.redone }

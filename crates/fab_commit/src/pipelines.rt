@@ -27,13 +27,24 @@ use std::thread::Threads;
 
 /// What an annealer keeps: the live placement with its owner, an older copy for the workers, which is the same between
 /// turns, and what was judged ahead on the older one before it caught up.
-#[derive(Drop)]
 pub(crate) struct Pipeline {
     pub(crate) owner: Owner,
     pub(crate) older: Arc<State>,
     pub(crate) ahead: Vec<Verdict>,
     /// The moves that were made in the placement that these were judged on.
     pub(crate) base: u64,
+}
+
+impl Drop for Pipeline {
+    // A `drop` that is called is one step wherever a value goes out of scope; a derived one is proved anew there.
+    fn drop(self) {
+        let Pipeline {
+            owner: _,
+            older: _,
+            ahead: _,
+            base: _,
+        } = self;
+    }
 }
 
 /// A copy that workers may share.

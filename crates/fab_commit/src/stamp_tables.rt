@@ -18,11 +18,21 @@ use fab_site::index::{index_of, site_count};
 use std::alloc::{AllocError, Global};
 
 /// Of each block, site and net one more than the number of the last accepted move that touched it; 0 where none did.
-#[derive(Drop)]
 pub(crate) struct Stamps {
     blocks: Vec<u64>,
     places: Vec<u64>,
     nets: Vec<u64>,
+}
+
+impl Drop for Stamps {
+    // A `drop` that is called is one step wherever a value goes out of scope; a derived one is proved anew there.
+    fn drop(self) {
+        let Stamps {
+            blocks: _,
+            places: _,
+            nets: _,
+        } = self;
+    }
 }
 
 impl Stamps {

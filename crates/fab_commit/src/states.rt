@@ -17,7 +17,6 @@ use fab_site::{Fixed, Placement, Swap, Words};
 use std::alloc::{AllocError, Global};
 
 /// What a run is given.
-#[derive(Drop)]
 pub(crate) struct Given<'a, W> {
     pub(crate) design: &'a Design,
     pub(crate) grid: &'a Grid,
@@ -26,8 +25,20 @@ pub(crate) struct Given<'a, W> {
     pub(crate) words: W,
 }
 
+impl<'a, W: Drop> Drop for Given<'a, W> {
+    // A `drop` that is called is one step wherever a value goes out of scope; a derived one is proved anew there.
+    fn drop(self) {
+        let Given {
+            design: _,
+            grid: _,
+            fixed: _,
+            schedule: _,
+            words: _,
+        } = self;
+    }
+}
+
 /// Where a run stands, and what is kept for that.
-#[derive(Drop)]
 pub(crate) struct State {
     pub(crate) placement: Placement,
     pub(crate) cost: EdgeBoxes,
@@ -38,6 +49,21 @@ pub(crate) struct State {
     pub(crate) total: u64,
     /// The numbers of the moves that were accepted.
     pub(crate) accepted: Vec<u64>,
+}
+
+impl Drop for State {
+    // A `drop` that is called is one step wherever a value goes out of scope; a derived one is proved anew there.
+    fn drop(self) {
+        let State {
+            placement: _,
+            cost: _,
+            stage: _,
+            ended: _,
+            done: _,
+            total: _,
+            accepted: _,
+        } = self;
+    }
 }
 
 /// The longer side of an array.
@@ -97,7 +123,8 @@ fn swap_if_accepted(
 )
     requires whole { length design.now.kinds ≡ length placement.old.sites }
     requires cost { CountedStandsFor cost.old design.now grid.now placement.old.sites }
-    requires lawful { (s : Swap) → decision.now.swap ≡ Some s → IsSwapOf placement.old.grid placement.old.sites s }
+    requires array { placement.old.grid ≡ grid.now }
+    requires lawful { (s : Swap) → decision.now.swap ≡ Some s → IsSwapOf grid.now placement.old.sites s }
     ensures placement { (j : Judged) → IsDecision decision.now j → placement.new ≡ record placement.old { sites = moved placement.old.sites j } }
     ensures cost { (j : Judged) → IsDecision decision.now j → CountedStandsFor cost.new design.now grid.now (moved placement.old.sites j) }
 {
@@ -129,7 +156,7 @@ pub(crate) fn commit<W: Words>(given: &Given<'_, W>, state: &mut State, decision
     requires sound { IsSound (run_for W.moves given.now) state.old }
     requires going { state.old.ended ≡ false }
     requires room { vec_len state.old.accepted < vec_capacity state.old.accepted }
-    requires lawful { (s : Swap) → decision.now.swap ≡ Some s → IsSwapOf state.old.placement.grid state.old.placement.sites s }
+    requires lawful { (s : Swap) → decision.now.swap ≡ Some s → IsSwapOf given.now.grid.now state.old.placement.sites s }
     requires decides { IsDecision decision.now (judged_here (run_for W.moves given.now) (standing_of state.old) state.old.done) }
     ensures stands { standing_of state.new ≡ after_move (run_for W.moves given.now) (standing_of state.old) (judged_here (run_for W.moves given.now) (standing_of state.old) state.old.done) }
     ensures accepted { state.new.accepted.items ≡ state.old.accepted.items ++ numbers_if state.old.done (judged_here (run_for W.moves given.now) (standing_of state.old) state.old.done).accepted }
@@ -202,7 +229,7 @@ pub(crate) fn judge_on<W: Words>(
     requires sound { IsSound (run_for W.moves given.now) state.now }
     requires going { state.now.ended ≡ false }
     ensures number { IfOk result (λ v. v.k ≡ number) }
-    ensures lawful { IfOk result (λ v. (s : Swap) → v.swap ≡ Some s → IsSwapOf state.now.placement.grid state.now.placement.sites s) }
+    ensures lawful { IfOk result (λ v. (s : Swap) → v.swap ≡ Some s → IsSwapOf given.now.grid.now state.now.placement.sites s) }
     ensures says { IfOk result (λ v. says v ≡ judged_here (run_for W.moves given.now) (standing_of state.now) number) }
 {
     judge(alloc, &view_of(given, state), number)
@@ -213,7 +240,7 @@ pub(crate) fn judge_on<W: Words>(
 pub(crate) fn decide_on<W: Words>(given: &Given<'_, W>, state: &State, number: u64) -> Decision
     requires sound { IsSound (run_for W.moves given.now) state.now }
     requires going { state.now.ended ≡ false }
-    ensures lawful { (s : Swap) → result.swap ≡ Some s → IsSwapOf state.now.placement.grid state.now.placement.sites s }
+    ensures lawful { (s : Swap) → result.swap ≡ Some s → IsSwapOf given.now.grid.now state.now.placement.sites s }
     ensures decides { IsDecision result (judged_here (run_for W.moves given.now) (standing_of state.now) number) }
 {
     decide(&view_of(given, state), number)
@@ -241,7 +268,7 @@ pub(crate) fn moves_left(schedule: &Schedule, state: &State) -> u64
     }
 }
 
-/// What is kept before the first move.
+/// What is kept before the first move: the placement is put on the array first.
 pub(crate) fn first_state(
     alloc: Global,
     design: &Design,
@@ -251,15 +278,15 @@ pub(crate) fn first_state(
     placement: Placement,
 ) -> Result<State, AllocError>
     requires legal { IsLegal design.now grid.now fixed.now placement.sites }
-    requires array { placement.grid ≡ grid.now }
     ensures sound { IfOk result (λ s. (words : ℕ → List ℕ) → IsSound (run design.now grid.now fixed.now words schedule.now) s) }
     ensures stands { IfOk result (λ s. (words : ℕ → List ℕ) → standing_of s ≡ at_start (run design.now grid.now fixed.now words schedule.now) placement.sites) }
     ensures accepted { IfOk result (λ s. s.accepted.items ≡ []) }
 {
     let _moves = schedule.moves();
-    let cost = EdgeBoxes::new(alloc, design, grid, &placement)?;
+    let live = placement.on_array(design, grid)?;
+    let cost = EdgeBoxes::new(alloc, design, grid, &live)?;
     Ok(State {
-        placement,
+        placement: live,
         cost,
         stage: schedule.first(side_of(grid)),
         ended: false,

@@ -150,7 +150,6 @@ pub(crate) struct Pace {
 /// A turn at this pace, which has to be one that turns take.
 pub(crate) fn turned<W: Words + Sync + Drop, G: Gate, R: Threads + Wait + Sync>(
     rt: &R,
-    alloc: Global,
     anneal: &mut Anneal<'_, W>,
     pace: Pace,
     gate: &G,
@@ -158,7 +157,7 @@ pub(crate) fn turned<W: Words + Sync + Drop, G: Gate, R: Threads + Wait + Sync>(
     if pace.batch < 1 || 4096 < pace.batch || pace.workers < 1 || 64 < pace.workers {
         return Err(Fail::from("no pace of turns"));
     }
-    Ok(anneal.turn(rt, alloc, pace.batch, pace.workers, gate)?)
+    Ok(anneal.turn(rt, pace.batch, pace.workers, gate)?)
 }
 
 /// Turns at this pace: the cost before, a line for each stage that ends, and what comes of them.
@@ -173,7 +172,7 @@ fn told<W: Words + Sync + Drop, R: Threads + Wait + Sync>(
     let mut turn = Turn::More;
     for _turn in 0..turns {
         let (stage, total) = (anneal.stage(), anneal.total());
-        turn = turned(rt, alloc, anneal, pace, &NoGate)?;
+        turn = turned(rt, anneal, pace, &NoGate)?;
         if let Some(stage) = stage {
             if let Some(line) = told_stage(alloc, anneal, stage, total)? {
                 text.push_str(line.as_str())?;

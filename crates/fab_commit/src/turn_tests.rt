@@ -45,7 +45,7 @@ fn finish<W: Words + Sync + Drop, G: Gate, R: Threads + Wait + Sync>(
                 batch: *batch,
                 workers,
             };
-            if turned(rt, alloc, anneal, pace, gate)? == Turn::Finished {
+            if turned(rt, anneal, pace, gate)? == Turn::Finished {
                 return Ok(());
             }
         }
@@ -172,7 +172,7 @@ fn told_ahead_of_a_move<W: Words + Sync + Drop, R: Threads + Wait + Sync>(
     alloc: Global,
     anneal: &mut Anneal<'_, W>,
 ) -> Result<String, Fail> {
-    let _turn = turned(rt, alloc, anneal, ALONE, &NoGate)?;
+    let _turn = turned(rt, anneal, ALONE, &NoGate)?;
     Ok(told_ahead(alloc, anneal)?)
 }
 
@@ -238,7 +238,7 @@ fn ended_in_a_circle<W: Words + Sync + Drop, R: Threads + Wait + Sync>(
 ) -> Result<String, Fail> {
     finish(rt, alloc, anneal, &[4, 1, 3, 2], 2, &NoGate)?;
     for _turn in 0..beyond {
-        if turned(rt, alloc, anneal, ALONE, &NoGate)? != Turn::Finished {
+        if turned(rt, anneal, ALONE, &NoGate)? != Turn::Finished {
             return Err(Fail::from("a run that is finished goes on"));
         }
     }

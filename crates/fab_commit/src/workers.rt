@@ -33,7 +33,8 @@ impl<'a, 'g, W: Words + Drop, G: Gate> Task<Verdict> for Work<'a, 'g, W, G> {
         self.moves
     }
 
-    fn judge(&self, alloc: Global, number: u64) -> Result<Verdict, AllocError> {
+    fn judge(&self, number: u64) -> Result<Verdict, AllocError> {
+        let alloc = self.alloc;
         self.gate.before_judge(self.first + number);
         let judged = answer(alloc, &self.given, &self.older, self.first + number);
         self.gate.after_judge(self.first + number);
@@ -194,19 +195,19 @@ fn post<'a, 'g, W: Words + Drop, G: Gate, J: Naming, R: Wait>(
     ensures { OnOk result (crew.new ≡ Some (record { given = arc_value given.now; older = arc_value older.now; first = first; moves = moves })) }
 {
     let work = Work {
+        alloc,
         given: Arc::try_clone(given)?,
         older: Arc::try_clone(older)?,
         first,
         moves,
         gate,
     };
-    crew.post(rt, alloc, work)
+    crew.post(rt, work)
 }
 
 /// What a crew judged of a job that is out.
 fn collected<'a, 'g, W: Words + Drop, G: Gate, J: Naming, R: Wait>(
     rt: &R,
-    alloc: Global,
     crew: &mut Lead<Work<'a, 'g, W, G>, Verdict, J>,
     _given: &Arc<Given<'a, W>>,
     _older: &Arc<State>,
@@ -217,7 +218,7 @@ fn collected<'a, 'g, W: Words + Drop, G: Gate, J: Naming, R: Wait>(
     ensures many { IfOk result (λ v. length v.items ≡ _moves) }
     ensures answers { IfOk result (λ v. AreAnswers (run_for W.moves (arc_value _given.now)) (standing_of (arc_value _older.now)) _first v.items) }
 {
-    let verdicts = crew.collect(rt, alloc)?;
+    let verdicts = crew.collect(rt)?;
     Ok(verdicts)
 }
 
@@ -260,7 +261,7 @@ pub(crate) fn judge_missing<
         );
     };
     post(rt, alloc, crew, given, older, first, moves, workers.gate)?;
-    collected(rt, alloc, crew, given, older, first, moves)
+    collected(rt, crew, given, older, first, moves)
 }
 
 /// The owner commits a batch, while the moves behind it are judged on the older placement.
@@ -318,5 +319,5 @@ pub(crate) fn commit_and_judge<
     let posted = post(rt, alloc, crew, given, older, behind, next, gate);
     commit_all(given, owner, ahead, base, missing, gate);
     posted?;
-    collected(rt, alloc, crew, given, older, behind, next)
+    collected(rt, crew, given, older, behind, next)
 }

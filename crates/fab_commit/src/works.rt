@@ -3,12 +3,14 @@
 use crate::states::{Given, State};
 use fab_board::Gate;
 use fab_site::Words;
+use std::alloc::Global;
 use std::marker::Model;
 use std::sync::Arc;
 
 /// What a crew judges in a turn: moves of the running stage, on the older placement.
 #[derive(Drop)]
 pub struct Work<'a, 'g, W: Words, G: Gate> {
+    pub(crate) alloc: Global,
     pub(crate) given: Arc<Given<'a, W>>,
     pub(crate) older: Arc<State>,
     pub(crate) first: u64,

@@ -24,7 +24,6 @@ use fab_site::{Swap, Words};
 use std::alloc::{AllocError, Global};
 
 /// Where all stands.
-#[derive(Drop)]
 pub(crate) struct WorldState {
     pub(crate) live: State,
     /// What workers judge on.
@@ -34,6 +33,20 @@ pub(crate) struct WorldState {
     pub(crate) accepted: Vec<Accepted>,
     /// Of each move that was committed.
     pub(crate) ways: Vec<Way>,
+}
+
+impl Drop for WorldState {
+    // A `drop` that is called is one step wherever a value goes out of scope; a derived one is proved anew there.
+    fn drop(self) {
+        let WorldState {
+            live: _,
+            older: _,
+            claims: _,
+            verdicts: _,
+            accepted: _,
+            ways: _,
+        } = self;
+    }
 }
 
 /// The number behind the last move of the stage that runs in a state.
@@ -154,7 +167,7 @@ fn make<W: Words>(
     requires blocks { All (HasBlocks given.now.design.now) accepted.old.items }
     requires room { vec_len live.old.accepted < vec_capacity live.old.accepted }
     requires swap_room { vec_len accepted.old < vec_capacity accepted.old }
-    requires lawful { (s : Swap) → decision.now.swap ≡ Some s → IsSwapOf live.old.placement.grid live.old.placement.sites s }
+    requires lawful { (s : Swap) → decision.now.swap ≡ Some s → IsSwapOf given.now.grid.now live.old.placement.sites s }
     requires decides { IsDecision decision.now (judged_here (run_for W.moves given.now) (standing_of live.old) live.old.done) }
     ensures sound { IsSound (run_for W.moves given.now) live.new }
     ensures blocks { All (HasBlocks given.now.design.now) accepted.new.items }

@@ -37,17 +37,13 @@ fn event_of(letter: u8, worker: u64) -> Event {
 
 /// Lets all this happen, a letter and the digit of a worker for a claim, a judgement and a loss, + for a commit, = for a
 /// refresh.
-fn happen<W: Words + Drop>(
-    alloc: Global,
-    world: &mut World<'_, W>,
-    events: &[u8],
-) -> Result<(), AllocError> {
+fn happen<W: Words + Drop>(world: &mut World<'_, W>, events: &[u8]) -> Result<(), AllocError> {
     let mut letter = 0;
     for byte in events {
         match *byte {
-            b'+' => world.step(alloc, Event::Commit)?,
-            b'=' => world.step(alloc, Event::Refresh)?,
-            b'0'..=b'9' => world.step(alloc, event_of(letter, u64::from(*byte - b'0')))?,
+            b'+' => world.step(Event::Commit)?,
+            b'=' => world.step(Event::Refresh)?,
+            b'0'..=b'9' => world.step(event_of(letter, u64::from(*byte - b'0')))?,
             other => letter = other,
         }
     }
@@ -76,7 +72,7 @@ fn told_after<W: Words + Drop>(
     world: &mut World<'_, W>,
     events: &[u8],
 ) -> Result<String, Fail> {
-    happen(alloc, world, events)?;
+    happen(world, events)?;
     Ok(told(alloc, world)?)
 }
 

@@ -21,6 +21,7 @@ use std::marker::Model;
 /// next. Whatever that is, the placement is that of one move at a time.
 #[derive(Drop)]
 pub struct World<'a, W: Words + Drop> {
+    alloc: Global,
     given: Given<'a, W>,
     state: WorldState,
 }
@@ -57,13 +58,13 @@ impl<'a, W: Words + Drop> World<'a, W> {
         words: W,
     ) -> Result<World<'a, W>, AllocError>
         requires legal { IsLegal design.now grid.now fixed placement.sites }
-        requires array { placement.grid ≡ grid.now }
         ensures { IfOk result (λ w. w ≡ record { design = design.now; grid = grid.now; fixed = fixed; plan = schedule; words = words; world = world (at_start (run design.now grid.now fixed (W.moves words) schedule) placement.sites); ways = [] }) }
     {
         let _moves = schedule.moves();
         let live = first_state(alloc, design, grid, &fixed, &schedule, placement)?;
         let state = first_world(alloc, live)?;
         Ok(World {
+            alloc,
             given: Given {
                 design,
                 grid,
@@ -76,13 +77,13 @@ impl<'a, W: Words + Drop> World<'a, W> {
     }
 
     /// Something happens. What does not apply changes nothing. Where memory is short, all stays as it was.
-    pub fn step(&mut self, alloc: Global, event: Event) -> Result<(), AllocError>
+    pub fn step(&mut self, event: Event) -> Result<(), AllocError>
         ensures same { IsSameGiven self.old self.new }
         ensures step { OnOk result (self.new.world ≡ happens (run_in W.moves self.old) self.old.world event) }
         ensures ways { OnOk result (self.new.ways ≡ self.old.ways ++ ways_now (run_in W.moves self.old) self.old.world event) }
         ensures unchanged { OnErr result (self.new ≡ self.old) }
     {
-        step(alloc, &self.given, &mut self.state, event)
+        step(self.alloc, &self.given, &mut self.state, event)
     }
 
     /// How many moves are made.

@@ -9,7 +9,7 @@ use Rattle.fab_commit.proofs.owners.make.Goals as goal
 pub stamp-requires-clause-within : goal.stamp-requires-clause-within
 stamp-requires-clause-within g c s e =
     let sound = c.requires.owned.sound in
-    within_of c.args.given.now.design.now c.args.given.now.grid.now c.args.given.now.fixed c.args.owner.now.state.placement.sites s sound.legal (rw (sym sound.array) (c.requires.lawful s e))
+    within_of c.args.given.now.design.now c.args.given.now.grid.now c.args.given.now.fixed c.args.owner.now.state.placement.sites s sound.legal (c.requires.lawful s e)
 
 pub stamp-requires-clause-number : goal.stamp-requires-clause-number
 stamp-requires-clause-number g c =
@@ -25,7 +25,7 @@ returns-clause-made g c =
     let counted = c.requires.owned.counted in
     let done = ap (λ (y : Standing). y.done) c.commit.ensures.stands in
     let now : Owner = record { state = c.commit.new.state; swaps = c.enter.new.accepted; stamps = c.stamp.new.stamps; redone = o.redone } in
-    one_made r o now j c.requires.owned c.requires.going refl (decided_lawful o.state.placement.grid o.state.placement.sites c.args.decision.now j is c.requires.lawful) (record {
+    one_made r o now j c.requires.owned c.requires.going refl (decided_lawful c.args.given.now.grid.now o.state.placement.sites c.args.decision.now j is c.requires.lawful) (record {
       owned = record { sound = c.commit.ensures.sound; table = c.stamp.ensures.table; counted = omega (arith, counted, done) };
       stands = c.commit.ensures.stands;
       accepted = c.commit.ensures.accepted;

@@ -42,4 +42,4 @@ returns-clause-sound g c =
     let t : State = record { placement = c.swap_if_accepted.new.placement; cost = c.swap_if_accepted.new.cost; stage = c.advanced-ended.result.0; ended = c.advanced-ended.result.1; done = s.done + 1; total = c.count.new.total; accepted = c.count.new.accepted } in
     sound_after r s t j c.requires.sound c.requires.going
     (committed r s t c.args.decision.now j c.side_of-side.result is (c.swap_if_accepted.ensures.placement j is) refl c.count.ensures.total c.side_of-side.ensures.value c.advanced-ended.ensures (c.swap_if_accepted.ensures.cost j is))
-    (judged_legal r s j s.done c.requires.sound refl (decided_lawful s.placement.grid s.placement.sites c.args.decision.now j is c.requires.lawful))
+    (judged_legal r s j s.done c.requires.sound refl (decided_lawful c.args.given.now.grid.now s.placement.sites c.args.decision.now j is c.requires.lawful))

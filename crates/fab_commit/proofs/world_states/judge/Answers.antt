@@ -24,7 +24,7 @@ returns-clause-whole g c =
     let r = run_for g.W.Words.moves c.args.given.now in
     let s = c.args.state.now in
     let v : Verdict = record { worker = c.args.worker; number = c.in-Some.number; base = s.older.done; judged = c.of.result } in
-    let keeps : KeepsKind r.problem.grid v = (λ x e. subst (λ k. kind_at k x.to ≡ kind_at k x.from) c.requires.whole.older.array (c.in_ok-answer.ensures.lawful x (sym (ap (λ q. q.swap) c.of.ensures) ∙ e)).kind) in
+    let keeps : KeepsKind r.problem.grid v = (λ x e. (c.in_ok-answer.ensures.lawful x (sym (ap (λ q. q.swap) c.of.ensures) ∙ e)).kind) in
     let all = All-push (KeepsKind r.problem.grid) s.verdicts.items v c.requires.whole.kinds keeps in
     record {
       plan = c.requires.whole.plan;

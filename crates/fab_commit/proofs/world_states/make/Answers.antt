@@ -14,6 +14,6 @@ returns-clause-blocks g c =
     let s = c.args.live.now in
     let j = judged_here r (standing_of s) s.done in
     let is = c.requires.decides in
-    let lawful = decided_lawful s.placement.grid s.placement.sites c.args.decision.now j is c.requires.lawful in
-    let after = blocks_after d s.placement.grid s.placement.sites c.args.accepted.now.items s.done j c.requires.sound.legal.all lawful c.requires.blocks in
+    let lawful = decided_lawful c.args.given.now.grid.now s.placement.sites c.args.decision.now j is c.requires.lawful in
+    let after = blocks_after d c.args.given.now.grid.now s.placement.sites c.args.accepted.now.items s.done j c.requires.sound.legal.all lawful c.requires.blocks in
     subst (All (HasBlocks d)) (sym (c.enter.ensures.items j is)) after
