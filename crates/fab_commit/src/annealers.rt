@@ -32,7 +32,6 @@ use std::sync::{Arc, Wait};
 use std::thread::Threads;
 
 /// Anneals a placement of a design on an array.
-#[derive(Drop)]
 pub struct Anneal<'a, W: Words + Drop> {
     alloc: Global,
     given: Arc<Given<'a, W>>,
@@ -62,6 +61,17 @@ impl<'a, W: Words + Drop> Model for Anneal<'a, W> {
     } };
 
     ghost invariant = { λ a. HasTurn (run_for W.moves (arc_value a.given)) a.pipeline };
+}
+
+impl<'a, W: Words + Drop> Drop for Anneal<'a, W> {
+    // One call wherever an annealer goes out of scope; a derived `drop` is proved anew there.
+    fn drop(self) {
+        let Anneal {
+            alloc: _,
+            given: _,
+            pipeline: _,
+        } = self;
+    }
 }
 
 impl<'a, W: Words + Drop> Anneal<'a, W> {

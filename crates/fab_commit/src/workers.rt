@@ -43,13 +43,23 @@ impl<'a, 'g, W: Words + Drop, G: Gate> Task<Verdict> for Work<'a, 'g, W, G> {
 }
 
 /// Who judges moves ahead, and the gate of their judgements and of the commits.
-#[derive(Drop)]
 pub struct Workers<'a, 'g, W: Words + Drop, G: Gate, J: Naming> {
     /// The owner's end of a crew that stands. Where there is none, workers start with each batch and end with it.
     crew: Option<Lead<Work<'a, 'g, W, G>, Verdict, J>>,
     workers: u64,
     pub(crate) gate: &'g G,
     ghost few: { (0 < workers) × (workers ≤ 64) },
+}
+
+impl<'a, 'g, W: Words + Drop, G: Gate, J: Naming> Drop for Workers<'a, 'g, W, G, J> {
+    // One call wherever it goes out of scope; a derived `drop` is proved anew there.
+    fn drop(self) {
+        let Workers {
+            crew: _,
+            workers: _,
+            gate: _,
+        } = self;
+    }
 }
 
 impl<'a, 'g, W: Words + Drop, G: Gate, J: Naming> Workers<'a, 'g, W, G, J> {

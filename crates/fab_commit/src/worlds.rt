@@ -19,7 +19,6 @@ use std::marker::Model;
 
 /// Anneals a placement as workers do that judge moves ahead, though it has no worker: whoever holds it says what happens
 /// next. Whatever that is, the placement is that of one move at a time.
-#[derive(Drop)]
 pub struct World<'a, W: Words + Drop> {
     alloc: Global,
     given: Given<'a, W>,
@@ -43,6 +42,17 @@ impl<'a, W: Words + Drop> Model for World<'a, W> {
     } };
 
     ghost invariant = { λ w. IsWhole (run_for W.moves w.given) w.state × IsReached (run_for W.moves w.given) (world_of w.state) w.state.ways.items };
+}
+
+impl<'a, W: Words + Drop> Drop for World<'a, W> {
+    // One call wherever a world goes out of scope; a derived `drop` is proved anew there.
+    fn drop(self) {
+        let World {
+            alloc: _,
+            given: _,
+            state: _,
+        } = self;
+    }
 }
 
 impl<'a, W: Words + Drop> World<'a, W> {
