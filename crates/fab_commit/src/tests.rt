@@ -28,10 +28,16 @@ pub(crate) fn list_words(
 }
 
 /// What is placed, and the least array that holds it.
-#[derive(Drop)]
 pub(crate) struct Setting {
     pub(crate) design: Design,
     pub(crate) grid: Grid,
+}
+
+impl Drop for Setting {
+    // One call at each exit of a test; a derived `drop` is proved anew there.
+    fn drop(self) {
+        let Setting { design: _, grid: _ } = self;
+    }
 }
 
 pub(crate) fn read_setting(alloc: Global, arch: &[u8], net: &[u8]) -> Result<Setting, Fail> {

@@ -32,12 +32,23 @@ fn swap(block: u32, from: Site, to: Site, other: Option<u32>) -> Swap {
 }
 
 // A design on an array, with some of its blocks fixed.
-#[derive(Drop)]
 struct Placed {
     design: Design,
     grid: Grid,
     fixed: Fixed,
     placement: Placement,
+}
+
+impl Drop for Placed {
+    // One call at each exit of a test; a derived `drop` is proved anew there.
+    fn drop(self) {
+        let Placed {
+            design: _,
+            grid: _,
+            fixed: _,
+            placement: _,
+        } = self;
+    }
 }
 
 fn no_pins(alloc: Global) -> Pins
