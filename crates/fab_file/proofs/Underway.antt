@@ -1,10 +1,10 @@
 -- A reader of block lines: the lines that it took, and those that are left.
-use Rattle.std.proofs.Common.{◌≡◌, ℕ, Bool, true, false, cond, eqb, ◌&&◌, List, [], ◌∷◌, ◌++◌, Option, Some, None, IfOk, OnOk, Result, Ok, Err, length, map, set, drop, replicate, refl, sym, ap, ◌∙◌}
+use Rattle.std.proofs.Common.{◌≡◌, ℕ, Bool, true, false, cond, List, [], ◌∷◌, ◌++◌, Option, Some, None, IfOk, OnOk, Result, Ok, Err, length, map, set, drop, replicate, refl, sym, ap, ◌∙◌}
 use Rattle.std.specs.Prelude.{IfErr, MatchResult}
 use Rattle.std.proofs.lemmas.Bool.{eq-eqb}
 use Rattle.std.proofs.lemmas.List.{append-nil, append_assoc}
 use Rattle.fab_text.specs.Lines.{TextLine}
-use Rattle.fab_text.specs.FirstFault.{or_else, unless, fault_behind, fault_of_all}
+use Rattle.fab_text.specs.FirstFault.{or_else, fault_behind, fault_of_all}
 use Rattle.fab_arch.specs.declared.array.Site.{Site}
 use Rattle.fab_arch.specs.Grid.{GridShape}
 use Rattle.fab_net.specs.Netlist.{Netlist, IsLawful}
@@ -36,7 +36,7 @@ header g (files ∷ size ∷ ls) rest nx ny h d x y =
     let parts = sized (is_files_line files) (size_in size) (nx, ny) h in
     record { files = files; size = size; text = ap (λ v. files ∷ size ∷ v) (sym d); files_line = parts.0; size_line = parts.1 ∙ rw (x, y) refl }
 
--- a text whose header is bad, or gives another size
+-- a text whose header is bad
 
 pub bad_header : (d : Netlist) (g : GridShape) (ls : List TextLine) → place_size_of ls ≡ None → first_fault d g ls ≡ Some fault.BadHeader
 bad_header d g ls h = ap (λ o. or_else (size_fault_by g o) (fault_of_all (block_fault d g) (text_fault d) (drop 2 ls))) h
@@ -62,11 +62,6 @@ size_refused d g ls (fault.NotAPad n) h = absurd (let k = (bad_size (place_size_
 size_refused d g ls (fault.BadLine n) h = absurd (let k = (bad_size (place_size_of ls) (fault.BadLine n) h).1 in cc)
 size_refused d g ls fault.BadLabel h = absurd (let k = (bad_size (place_size_of ls) fault.BadLabel h).1 in cc)
 size_refused d g ls fault.Write h = absurd (let k = (bad_size (place_size_of ls) fault.Write h).1 in cc)
-
-pub wrong_size : (d : Netlist) (g : GridShape) (ls : List TextLine) (nx ny : ℕ) → place_size_of ls ≡ Some (nx, ny) → (eqb nx g.nx && eqb ny g.ny) ≡ false → first_fault d g ls ≡ Some fault.WrongSize
-wrong_size d g ls nx ny h k =
-    let rest = fault_of_all (block_fault d g) (text_fault d) (drop 2 ls) in
-    ap (λ o. or_else (size_fault_by g o) rest) h ∙ ap (λ b. or_else (unless b fault.WrongSize) rest) k
 
 -- the lines that were taken have no fault, and gave these sites; the others are left
 pub record Reading (d : Netlist) (g : GridShape) (all left : List TextLine) (p : LinesOf) : Type 0 where
