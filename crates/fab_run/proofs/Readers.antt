@@ -1,5 +1,5 @@
 -- The fault of a placement text is not that of a writer.
-use Rattle.std.proofs.Common.{◌≡◌, ℕ, Bool, true, false, List, [], ◌∷◌, ◌++◌, Option, Some, None, refl, sym, ap, ◌∙◌}
+use Rattle.std.proofs.Common.{◌≡◌, ℕ, Bool, true, false, List, [], ◌∷◌, ◌++◌, Option, Some, None, drop, refl, sym, ap, ◌∙◌}
 use Rattle.std.proofs.lemmas.Bool.{false≢true}
 use Rattle.fab_text.specs.Lines.{TextLine}
 use Rattle.fab_text.specs.FirstFault.{or_else, unless, fault_behind}
@@ -9,8 +9,8 @@ use Rattle.fab_arch.specs.Grid.{GridShape, kind_at}
 use Rattle.fab_net.specs.Netlist.{Netlist}
 use Rattle.fab_file.specs.declared.fault.PlaceFault.{PlaceFault}
 use Rattle.fab_file.specs.declared.fault.PlaceFault.TheVariants as fault
-use Rattle.fab_file.specs.Place.{size_in, site_in, block_in}
-use Rattle.fab_file.specs.PlaceFaults.{size_fault, size_fault_by, kind_fault, block_fault_by, fault_of, missing_fault, text_fault, first_fault, FaultIs}
+use Rattle.fab_file.specs.Place.{place_size_of, site_in, block_in}
+use Rattle.fab_file.specs.PlaceFaults.{size_fault, size_fault_by, place_header_fault, kind_fault, block_fault_by, block_fault, missing_fault, text_fault, first_fault, FaultIs}
 use Rattle.fab_run.specs.RunFaults.{of_place}
 use Rattle.fab_run.specs.Check.{IsTextFault}
 
@@ -39,26 +39,16 @@ block_reads d g before n None named = refl
 block_reads d g before n (Some s) None = refl
 block_reads d g before n (Some s) (Some block) = or_else_reads _ _ (unless_reads _ (fault.Repeated n) refl) (or_else_reads (kind_fault d n block (kind_at g s)) _ (kind_reads d n block (kind_at g s)) (unless_reads _ (fault.Taken n) refl))
 
-line_reads : (d : Netlist) (g : GridShape) (before : List TextLine) (l : TextLine) → is_write (fault_of d g before l) ≡ false
-line_reads d g [] l = unless_reads _ fault.BadHeader refl
-line_reads d g (files ∷ []) l = size_by_reads g (size_in l)
-line_reads d g (files ∷ size ∷ blocks) l = block_reads d g blocks l.number (site_in l) (block_in d l)
-
 missing_reads : (block : Option ℕ) → is_write (missing_fault block) ≡ false
 missing_reads None = refl
 missing_reads (Some block) = refl
 
-whole_reads : (d : Netlist) (ls : List TextLine) → is_write (text_fault d ls) ≡ false
-whole_reads d [] = refl
-whole_reads d (files ∷ []) = refl
-whole_reads d (files ∷ size ∷ blocks) = missing_reads _
-
-behind_reads : (d : Netlist) (g : GridShape) (before ls : List TextLine) → is_write (fault_behind (fault_of d g) (text_fault d) before ls) ≡ false
-behind_reads d g before [] = whole_reads d before
-behind_reads d g before (l ∷ ls) = or_else_reads (fault_of d g before l) _ (line_reads d g before l) (behind_reads d g (before ++ l ∷ []) ls)
+blocks_read : (d : Netlist) (g : GridShape) (before ls : List TextLine) → is_write (fault_behind (block_fault d g) (text_fault d) before ls) ≡ false
+blocks_read d g before [] = missing_reads _
+blocks_read d g before (l ∷ ls) = or_else_reads (block_fault d g before l) _ (block_reads d g before l.number (site_in l) (block_in d l)) (blocks_read d g (before ++ l ∷ []) ls)
 
 pub text_reads : (d : Netlist) (g : GridShape) (ls : List TextLine) → is_write (first_fault d g ls) ≡ false
-text_reads d g ls = behind_reads d g [] ls
+text_reads d g ls = or_else_reads (place_header_fault g ls) _ (size_by_reads g (place_size_of ls)) (blocks_read d g [] (drop 2 ls))
 
 pub size_reads : (size : Option (ℕ × ℕ)) → is_write (size_fault size) ≡ false
 size_reads None = refl
