@@ -100,13 +100,11 @@ pub(crate) fn anneal_beside<J: Naming + Send + Sync, W: Sink, R: Threads + Wait 
     ensures sound { OnOk result (W.failed report.new ≡ W.failed report.old) }
     ensures fault { IfErr result (λ e. ((e ≡ NoMemory) × (W.failed report.new ≡ W.failed report.old)) ⊎ ((e ≡ Report) × (W.failed report.new ≡ grown (W.failed report.old)))) }
 {
-    // Both closures use it, and may not hold one variable.
-    let heap = alloc;
     let (_, told) = join_mut(
         rt,
         &mut || -> ()
             requires { IsSync R.row }
-        { work_all(rt, heap, crew, workers) },
+        { work_all(rt, crew, workers) },
         &mut || -> Result<(), RunFault>
             requires { (moves ≡ course.now.anneal.plan.moves) × (1 ≤ moves) × (IsCooling course.now.anneal.plan.cooling) × ((1 ≤ batch) × (batch ≤ 4096)) }
             ensures same { IsSameRun course.entry.now.anneal course.exit.now.anneal }

@@ -25,7 +25,6 @@ use std::thread::Threads;
 /// Makes the moves that are left in the running stage, by turns of a batch.
 fn make_stage<'a, V: Words + Sync + Drop, J: Naming, R: Threads + Wait + Sync>(
     rt: &R,
-    alloc: Global,
     anneal: &mut Anneal<'a, V>,
     left: u64,
     batch: u64,
@@ -42,7 +41,7 @@ fn make_stage<'a, V: Words + Sync + Drop, J: Naming, R: Threads + Wait + Sync>(
     let mut made = 0;
     while made < left {
         let before = anneal.done();
-        anneal.turn_by(rt, alloc, batch, workers)?;
+        anneal.turn_by(rt, batch, workers)?;
         made += anneal.done() - before;
     }
     Ok(())
@@ -74,7 +73,7 @@ fn end_stage<'a, V: Words + Sync + Drop, J: Naming, R: Threads + Wait + Sync>(
 {
     let before = anneal.total();
     let _begun = anneal.done();
-    make_stage(rt, alloc, anneal, moves - stage.done, batch, workers)?;
+    make_stage(rt, anneal, moves - stage.done, batch, workers)?;
     let _made = anneal.done();
     let cost = anneal.cost();
     let accepted = stage.accepted + (anneal.total() - before);
