@@ -9,7 +9,7 @@ pub returns-clause-sound : goal.returns-clause-sound
 returns-clause-sound c = λ words.
     let r = run c.args.design.now c.args.grid.now c.args.fixed.now words c.args.schedule.now in
     let side = c.side_of.ensures.value in
-    first_sound r c.args.placement.sites _ c.requires.legal
+    first_sound r c.args.placement.sites (record { placement = c.in_ok-live.live; cost = c.in_ok-cost.cost; stage = c.first.result; ended = false; done = 0; total = 0; accepted = c.new-2.result }) c.requires.legal
     (record {
       grid = c.in_ok-live.ensures.grid;
       sites_are = c.in_ok-live.ensures.sites;
