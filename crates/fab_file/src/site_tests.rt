@@ -56,7 +56,10 @@ fn move_to(placement: &mut Placement, grid: &Grid, block: BlockId, to: Site) -> 
     let Some(from) = site_of(placement, block) else {
         return false;
     };
-    if from == to || grid.has_site(from) != grid.has_site(to) {
+    let Some(kind) = grid.has_site(from) else {
+        return false;
+    };
+    if from == to || grid.has_site(to) != Some(kind) {
         return false;
     }
     let other = placement.at(to);
