@@ -164,3 +164,19 @@ fn a_writer_keeps_what_fits(rt: HostRuntime) -> Result<(), Fail> {
     assert_eq!(rt; out.failures(), 1);
     Ok(())
 }
+
+// The count is told by the writes alone: to ask is none.
+#[test]
+fn a_writer_that_cannot_tell_is_ready(rt: HostRuntime) -> Result<(), Fail> {
+    let mut out = Counted::new(Narrow {
+        taken: Vec::new(rt.alloc()),
+        room: 0,
+        step: 1,
+    });
+    assert!(rt; out.is_ready());
+    assert_eq!(rt; out.failures(), 0);
+    assert_eq!(rt; write_whole(&mut out, b"a"), Err(WriteFault));
+    assert!(rt; out.is_ready());
+    assert_eq!(rt; out.failures(), 1);
+    Ok(())
+}

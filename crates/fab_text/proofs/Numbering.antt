@@ -1,15 +1,15 @@
 -- Physical lines end at line feeds, and lines are numbered by them.
-use Rattle.std.proofs.Common.{◌≡◌, ℕ, ◌+◌, ◌-◌, ◌<◌, ◌≤◌, Bool, true, false, cond, List, [], ◌∷◌, ◌++◌, length, map, take, drop, refl, sym, ap, ◌∙◌, arith, inl, inr}
+use Rattle.std.proofs.Common.{◌≡◌, ℕ, ◌+◌, ◌-◌, ◌<◌, true, false, cond, List, [], ◌∷◌, ◌++◌, length, map, take, drop, refl, sym, ap, ◌∙◌, arith, inl, inr}
 use Rattle.std.proofs.Math.Seq.{drop-append_seam}
-use Rattle.std.proofs.lemmas.Bool.{cases_Bool, false≢true}
-use Rattle.std.proofs.lemmas.List.{length-append, length-drop, map-append, take-append-le, drop-append-le}
+use Rattle.std.proofs.lemmas.Bool.{cases_Bool}
+use Rattle.std.proofs.lemmas.List.{length-drop, map-append, take-append-le, drop-append-le}
 use Rattle.std.proofs.lemmas.List.Elements.{filter-append}
 use Rattle.std.proofs.lemmas.List.Sums.{sum_by-cons}
 use Rattle.std.specs.Prelude.{filter, count_by}
 use Rattle.std.specs.List.{AllByRecursion}
 use Rattle.fab_text.specs.declared.pieces.Span.{Span}
-use Rattle.fab_text.specs.Lines.{Physical, Placed, TextLine, is_line_feed, physical, put_first, content, is_continued, words_of, joined, join_first, has_words, bytes_at, line_of, lines, lines_from}
-use Rattle.fab_text.specs.Numbering.{OnOneLine, LineFeedsEndLines, TextsEndLines, ends_with_feed, goes_on, IsWhole, LineFeedsAreCounted, IsFirstNumber, FirstNumbersCount}
+use Rattle.fab_text.specs.Lines.{Physical, Placed, is_line_feed, physical, put_first, content, is_continued, words_of, joined, join_first, has_words, bytes_at, line_of, lines_from}
+use Rattle.fab_text.specs.Numbering.{LineFeedsEndLines, TextsEndLines, ends_with_feed, goes_on, LineFeedsAreCounted, IsFirstNumber, FirstNumbersCount}
 use Rattle.fab_text.proofs.Clean.{IsClean, HasClean, front_clean, all_filter}
 
 -- physical lines

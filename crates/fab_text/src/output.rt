@@ -2,7 +2,7 @@
 
 ghost use Rattle.std.specs.Prelude.{◌≡◌, ℕ, Option, Some, ◌≤◌, ◌<◌, List, length, take, IfOk, OnOk, OnErr};
 ghost use Rattle.std.specs.Io.KnownBytes.{Appends, WriteAppends};
-ghost use Rattle.fab_text.specs.Failures.{grown, failed_after};
+ghost use Rattle.fab_text.specs.Failures.{grown, failed_after, failed_unless};
 ghost use Rattle.fab_text.specs.FaultTexts.{write_fault_text};
 
 use std::fmt;
@@ -40,6 +40,15 @@ pub trait Sink {
     /// empty. At the greatest number it stays.
     fn failures(&self) -> u64
         ensures { result ≡ failed self.now };
+
+    /// Whether it can be written to, as far as can be told before the first byte: asked before long work, so that the work is not
+    /// done in vain. It takes nothing. A writer that is not ready has failed once more. One that cannot tell is ready.
+    fn is_ready(&mut self) -> bool
+        ensures kept { contents self.new ≡ contents self.old }
+        ensures failed { failed self.new ≡ failed_unless result (failed self.old) }
+    {
+        true
+    }
 }
 
 /// Any writer as a `Sink`.
