@@ -14,6 +14,7 @@ pub mod RunLaws
 pub mod TurnExamples
 pub mod Pipelines
 pub mod ByTurns
+pub mod Turned
 pub mod StampTables
 pub mod Owners
 pub mod Workers

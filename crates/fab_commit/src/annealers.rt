@@ -1,19 +1,14 @@
 //! An annealer: moves are judged ahead by workers, and committed in order of number.
 
-ghost use Rattle.std.specs.Prelude.{◌≡◌, ◌+◌, ◌-◌, ◌<◌, ◌≤◌, ◌++◌, [], map, min, take, None, Ok, IfOk, OnOk, OnErr};
+ghost use Rattle.std.specs.Prelude.{◌≡◌, ◌+◌, ◌-◌, ◌<◌, ◌≤◌, [], map, min, None, Ok, IfOk};
 ghost use Rattle.std.specs.Arc.{arc_value};
-ghost use Rattle.std.specs.List.{count_by, range_with_len};
 ghost use Rattle.fab_cost.specs.Cost.{cost_of};
 ghost use Rattle.fab_site.specs.Placement.{IsLegal};
 ghost use Rattle.fab_move.specs.Judge.{says};
 ghost use Rattle.fab_commit.specs.declared.verdicts.Verdict.{Verdict as Judged};
-ghost use Rattle.fab_commit.specs.Serial.{IsStanding, accepted_among, at_start, from, moves_left, stage_of};
-ghost use Rattle.fab_commit.specs.Commits.{IsSameRun, run, run_for, run_of, turn_of, world_of};
-ghost use Rattle.fab_commit.specs.ByTurns.{LeadsByTurns};
-ghost use Rattle.fab_commit.specs.declared.turns.Turn.TheVariants.{Finished};
-ghost use Rattle.fab_commit.specs.RunLaws.{is_redone_way};
-ghost use Rattle.fab_commit.specs.TurnEvents.{turn, turn_events, turn_making, verdict_on};
-ghost use Rattle.fab_commit.specs.World.{ways};
+ghost use Rattle.fab_commit.specs.Serial.{IsStanding, at_start, from, stage_of};
+ghost use Rattle.fab_commit.specs.Commits.{run, run_for, run_of};
+ghost use Rattle.fab_commit.specs.Turned.{IsTurned};
 
 use crate::pipelines::{Pipeline, first_pipeline, turn};
 use crate::states::{Given, first_state, running};
@@ -189,25 +184,7 @@ impl<'a, W: Words + Sync + Drop> Anneal<'a, W> {
         workers: &mut Workers<'a, 'g, W, G, J>,
     ) -> Result<Turn, AllocError>
         requires batch { (1 ≤ batch) × (batch ≤ 4096) }
-        ensures same { IsSameRun self.old self.new }
-        // So many moves are made, one at a time.
-        ensures stands { self.new.standing ≡ from (run_of W.moves self.old) self.old.standing (self.new.standing.done - self.old.standing.done) }
-        ensures accepted { self.new.accepted ≡ self.old.accepted ++ accepted_among (run_of W.moves self.old) self.old.standing (self.new.standing.done - self.old.standing.done) }
-        ensures ok { OnOk result (self.new.standing.done ≡ self.old.standing.done + min batch (moves_left (run_of W.moves self.old) self.old.standing)) }
-        ensures within { (self.old.standing.done ≤ self.new.standing.done) × (self.new.standing.done ≤ self.old.standing.done + min batch (moves_left (run_of W.moves self.old) self.old.standing)) }
-        ensures turn { IfOk result (λ t. t ≡ turn_of self.new.standing.heat) }
-        // Where no move is left, there is no error, and nothing that a call tells changes.
-        ensures finished { self.old.standing.heat ≡ None → (result ≡ Ok Finished) × (self.new.standing ≡ self.old.standing) × (self.new.accepted ≡ self.old.accepted) × (self.new.redone ≡ self.old.redone) × (self.new.ahead ≡ []) }
-        // It is a run of a world over a turn's events; where memory is short, of one that judges nothing ahead.
-        ensures world { OnOk result (world_of self.new ≡ turn (run_of W.moves self.old) batch (world_of self.old)) }
-        ensures cut { OnErr result (world_of self.new ≡ turn_making (run_of W.moves self.old) (self.new.standing.done - self.old.standing.done) 0 (world_of self.old)) }
-        ensures redone { self.new.redone ≡ self.old.redone + count_by is_redone_way (take (self.new.standing.done - self.old.standing.done) (ways (run_of W.moves self.old) (world_of self.old) (turn_events (run_of W.moves self.old) batch (world_of self.old)))) }
-        // What stands then are the verdicts for the next moves of the stage, as many as the batch or all that are left, on the
-        // placement at the turn's start; where memory is short, none.
-        ensures ahead { OnOk result (self.new.ahead ≡ map (verdict_on (run_of W.moves self.old) self.old.standing) (range_with_len self.new.standing.done (min batch (moves_left (run_of W.moves self.old) self.old.standing - min batch (moves_left (run_of W.moves self.old) self.old.standing))))) }
-        ensures lost { OnErr result (self.new.ahead ≡ []) }
-        // Whatever standing turns of this batch led on from, this is one more of them.
-        ensures turns { OnOk result (LeadsByTurns (run_of W.moves self.old) batch self.old self.new) }
+        ensures turned { IsTurned W.moves batch self.old self.new result }
     {
         let alloc = self.alloc;
         turn(rt, alloc, &self.given, &mut self.pipeline, batch, workers)?;
@@ -238,25 +215,7 @@ impl<'a, W: Words + Sync + Drop> Anneal<'a, W> {
     ) -> Result<Turn, AllocError>
         requires batch { (1 ≤ batch) × (batch ≤ 4096) }
         requires workers { (1 ≤ workers) × (workers ≤ 64) }
-        ensures same { IsSameRun self.old self.new }
-        // So many moves are made, one at a time.
-        ensures stands { self.new.standing ≡ from (run_of W.moves self.old) self.old.standing (self.new.standing.done - self.old.standing.done) }
-        ensures accepted { self.new.accepted ≡ self.old.accepted ++ accepted_among (run_of W.moves self.old) self.old.standing (self.new.standing.done - self.old.standing.done) }
-        ensures ok { OnOk result (self.new.standing.done ≡ self.old.standing.done + min batch (moves_left (run_of W.moves self.old) self.old.standing)) }
-        ensures within { (self.old.standing.done ≤ self.new.standing.done) × (self.new.standing.done ≤ self.old.standing.done + min batch (moves_left (run_of W.moves self.old) self.old.standing)) }
-        ensures turn { IfOk result (λ t. t ≡ turn_of self.new.standing.heat) }
-        // Where no move is left, there is no error, and nothing that a call tells changes.
-        ensures finished { self.old.standing.heat ≡ None → (result ≡ Ok Finished) × (self.new.standing ≡ self.old.standing) × (self.new.accepted ≡ self.old.accepted) × (self.new.redone ≡ self.old.redone) × (self.new.ahead ≡ []) }
-        // It is a run of a world over a turn's events; where memory is short, of one that judges nothing ahead.
-        ensures world { OnOk result (world_of self.new ≡ turn (run_of W.moves self.old) batch (world_of self.old)) }
-        ensures cut { OnErr result (world_of self.new ≡ turn_making (run_of W.moves self.old) (self.new.standing.done - self.old.standing.done) 0 (world_of self.old)) }
-        ensures redone { self.new.redone ≡ self.old.redone + count_by is_redone_way (take (self.new.standing.done - self.old.standing.done) (ways (run_of W.moves self.old) (world_of self.old) (turn_events (run_of W.moves self.old) batch (world_of self.old)))) }
-        // What stands then are the verdicts for the next moves of the stage, as many as the batch or all that are left, on the
-        // placement at the turn's start; where memory is short, none.
-        ensures ahead { OnOk result (self.new.ahead ≡ map (verdict_on (run_of W.moves self.old) self.old.standing) (range_with_len self.new.standing.done (min batch (moves_left (run_of W.moves self.old) self.old.standing - min batch (moves_left (run_of W.moves self.old) self.old.standing))))) }
-        ensures lost { OnErr result (self.new.ahead ≡ []) }
-        // Whatever standing turns of this batch led on from, this is one more of them.
-        ensures turns { OnOk result (LeadsByTurns (run_of W.moves self.old) batch self.old self.new) }
+        ensures turned { IsTurned W.moves batch self.old self.new result }
     {
         let mut workers = Workers::<'_, '_, W, G, Brand>::started(workers, gate);
         self.turn_by(rt, batch, &mut workers)

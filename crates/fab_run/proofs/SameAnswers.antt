@@ -1,12 +1,12 @@
 -- The texts and numbers of a run tell what it answers: they mean one setting, but for the lists that fixed and begun blocks are kept
 -- in, and these are read by block alone.
-use Rattle.std.proofs.Common.{◌≡◌, ℕ, zero, suc, ◌<◌, ◌==◌, ◌⊎◌, Bool, List, [], ◌∷◌, ◌++◌, length, filter, map, Option, Some, None, is_some, not, cond, refl, sym, ap, subst, ◌∙◌, inl, inr, arith}
-use Rattle.std.specs.Prelude.{Ok, ◌/◌, ◌+◌, if◌then◌else◌, slice_get, slice_index}
+use Rattle.std.proofs.Common.{◌≡◌, ℕ, zero, suc, ◌==◌, List, [], ◌∷◌, ◌++◌, length, filter, map, Option, Some, None, is_some, not, refl, sym, ap, subst, ◌∙◌, inl, inr}
+use Rattle.std.specs.Prelude.{◌/◌, ◌+◌, if◌then◌else◌, slice_get, slice_index}
 use Rattle.std.specs.List.{range_with_len}
 use Rattle.fab_text.specs.Lines.{TextLine, lines}
 use Rattle.fab_arch.specs.declared.architecture.PinKind.{PinKind}
 use Rattle.fab_arch.specs.declared.array.Site.{Site}
-use Rattle.fab_arch.specs.Arch.{IsArch, is_io_rat, ratio_of}
+use Rattle.fab_arch.specs.Arch.{IsArch}
 use Rattle.fab_arch.specs.Grid.{GridShape, IsLeastSquare}
 use Rattle.fab_net.specs.declared.pieces.BlockId.{BlockId}
 use Rattle.fab_net.specs.Netlist.{Netlist, logic_count, pad_count}
@@ -15,14 +15,13 @@ use Rattle.fab_site.specs.Free.{is_free}
 use Rattle.fab_site.specs.Pins.{either_site, given_at}
 use Rattle.fab_site.specs.Placement.{PlacementOf, at, fixed_at, same_site, site_of}
 use Rattle.fab_site.specs.Words.{pick_of}
-use Rattle.fab_site.specs.Start.{deal, given_sites, logic_sites, pad_sites, sites_left, start_sites}
-use Rattle.fab_file.specs.Pinned.{IsLocated}
+use Rattle.fab_site.specs.Start.{deal, logic_sites, pad_sites, sites_left, start_sites}
 use Rattle.fab_file.specs.Written.{place_text}
 use Rattle.fab_cost.specs.Cost.{cost_of}
 use Rattle.fab_move.specs.declared.proposals.Proposal.{Proposal}
 use Rattle.fab_move.specs.declared.proposals.Proposal.TheVariants.{Nothing, Void, Move}
 use Rattle.fab_move.specs.Judge.{Judged, judged, judged_as, problem}
-use Rattle.fab_move.specs.Propose.{movable, proposal, propose_for, propose_held, propose_to, target}
+use Rattle.fab_move.specs.Propose.{movable, proposal, propose_for, propose_held, target}
 use Rattle.fab_move.specs.Stream.{stream_moves, stream_starts}
 use Rattle.fab_sched.specs.Annealing.{Plan}
 use Rattle.fab_sched.proofs.Cubes.{moves_are}
@@ -32,11 +31,11 @@ use Rattle.fab_run.specs.declared.inputs.Moves.{Moves}
 use Rattle.fab_run.specs.declared.inputs.Moves.TheVariants.{Given, Inner}
 use Rattle.fab_run.specs.declared.inputs.Options.{Options}
 use Rattle.fab_run.specs.Check.{MeanDesign}
-use Rattle.fab_run.specs.Piece.{IsOver, cost_at, cost_here, end_line, head_text, line_here, run_costs, run_report, stage_costs, stage_lines}
+use Rattle.fab_run.specs.Piece.{IsOver, cost_at, cost_here, end_line, head_text, line_here, run_costs, stage_costs, stage_lines}
 use Rattle.fab_run.specs.RunReport.{stage_line}
-use Rattle.fab_run.specs.Placed.{IsPlaced, IsToldRun, report_by, run_by, start_by, text_by}
-use Rattle.fab_run.specs.SameAnswers.{Answer, AnswersAreTold, AsksTheSame}
-use Rattle.fab_run.specs.Setting.{AreStageMoves, ArePinned, HasPins, IsAskedPlan, IsSetting, IsSized, Setting, Texts, setting_of}
+use Rattle.fab_run.specs.Placed.{IsToldRun, report_by, start_by, text_by}
+use Rattle.fab_run.specs.SameAnswers.{AnswersAreTold, AsksTheSame}
+use Rattle.fab_run.specs.Setting.{AreStageMoves, ArePinned, IsAskedPlan, IsSetting, IsSized, Setting, Texts, setting_of}
 use Rattle.fab_run.proofs.Asked.{least_one}
 
 -- what an architecture text means is one thing

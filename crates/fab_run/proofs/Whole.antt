@@ -1,9 +1,10 @@
 -- The report of a whole run, and its beginnings.
-use Rattle.std.proofs.Common.{◌≡◌, ℕ, zero, suc, ◌+◌, ◌-◌, ◌<◌, List, [], ◌∷◌, ◌++◌, length, take, cond, Option, None, is_some, refl, sym, ap, subst, ◌∙◌, arith}
+use Rattle.std.proofs.Common.{◌≡◌, ℕ, zero, suc, ◌+◌, ◌-◌, ◌<◌, List, [], ◌∷◌, ◌++◌, length, take, cond, Option, None, is_some, refl, sym, ap, subst, ◌∙◌, arith, inl, inr}
 use Rattle.std.specs.Io.KnownBytes.{Appends}
 use Rattle.std.specs.Prelude.{Result, Ok, Err, IfOk, IfErr, OnOk, OnErr}
 use Rattle.fab_site.specs.Placement.{IsLegal}
 use Rattle.std.proofs.lemmas.List.{length-append}
+use Rattle.fab_file.specs.declared.fault.PlaceFault.TheVariants.{Write}
 use Rattle.fab_file.specs.Written.{IsCut}
 use Rattle.fab_cost.specs.Cost.{cost_of}
 use Rattle.fab_move.specs.Stream.{stream_moves}
@@ -14,9 +15,9 @@ use Rattle.fab_commit.specs.Turns.{redone_in_run}
 use Rattle.fab_commit.proofs.ByTurns.{by_no_turn, redone_by_turns}
 use Rattle.fab_run.specs.Piece.{IsOver, cost_at, end_line, head_text, last_line, run_costs, stage_costs, stage_lines}
 use Rattle.fab_run.specs.Setting.{Setting}
-use Rattle.fab_run.specs.Placed.{AreRedone, IsBegun, IsToldRun, report_by, run_by, start_by}
+use Rattle.fab_run.specs.Placed.{AreRedone, IsBegun, IsReportFault, IsToldRun, head_by, report_by, run_by, start_by}
 use Rattle.fab_run.specs.declared.fault.RunFault.{RunFault}
-use Rattle.fab_run.specs.declared.fault.RunFault.TheVariants.{Report}
+use Rattle.fab_run.specs.declared.fault.RunFault.TheVariants.{Place, Report, NoMemory}
 use Rattle.fab_run.specs.declared.inputs.Outcome.{Outcome}
 use Rattle.fab_run.proofs.Telling.{appends_none, appends_two, same_run, take_more}
 
@@ -29,10 +30,6 @@ begins_head (x ∷ xs) ys (suc k) = (let r = begins_head xs ys k in let more = r
 
 end_over : (r : Run) (y : Standing) → y.heat ≡ None → end_line r y ≡ last_line r y
 end_over r y e = ap (λ h. cond (is_some h) [] (last_line r y)) e
-
--- its first two lines
-unfoldable pub head_by : Setting → ℕ → List ℕ
-head_by s seed = head_text s.design s.grid (cost_at (run_by s seed) (start_by s seed))
 
 -- what went out is a beginning of the report, and not all of it where the last piece of it that went out was not whole
 abbrev pub IsCutReport : Setting → ℕ → Option (List ℕ) → Option (List ℕ) → Type 0
@@ -241,3 +238,8 @@ redone_run s seed batch a b pos e same turns stands over (Ok out) count =
       over = over_there s seed b.standing here over;
       count = count ∙ redone_by_turns r x batch b pos by ∙ ap (redone_in_run r x batch) n;
     }
+
+-- a fault of the report alone leaves the writer of the place text as it was
+pub no_place : (old new : ℕ) (e : RunFault) → IsReportFault old new e → e ≡ Place Write → ⊥
+no_place old new e (inl h) q = (let k : NoMemory ≡ Place Write = sym h.0 ∙ q in absurd cc)
+no_place old new e (inr h) q = (let k : Report ≡ Place Write = sym h.0 ∙ q in absurd cc)

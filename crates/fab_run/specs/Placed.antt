@@ -9,15 +9,16 @@ use Rattle.fab_arch.specs.declared.array.Site.{Site}
 use Rattle.fab_site.specs.Placement.{IsLegal, PlacementOf}
 use Rattle.fab_site.specs.Start.{start_sites}
 use Rattle.fab_file.specs.Place.{StandsFor}
+use Rattle.fab_file.specs.declared.fault.PlaceFault.TheVariants.{Write}
 use Rattle.fab_file.specs.Written.{IsCut, place_text}
 use Rattle.fab_move.specs.Stream.{stream_moves, stream_starts}
 use Rattle.fab_commit.specs.Serial.{Run, Standing, accepted_among, at_start, from}
 use Rattle.fab_commit.specs.Commits.{run}
 use Rattle.fab_commit.specs.Turns.{redone_in_run}
 use Rattle.fab_run.specs.declared.fault.RunFault.{RunFault}
-use Rattle.fab_run.specs.declared.fault.RunFault.TheVariants.{Report, NoMemory}
+use Rattle.fab_run.specs.declared.fault.RunFault.TheVariants.{Place, Report, NoMemory}
 use Rattle.fab_run.specs.declared.inputs.Options.{Options}
-use Rattle.fab_run.specs.Piece.{IsOver, run_costs, run_report}
+use Rattle.fab_run.specs.Piece.{IsOver, cost_at, head_text, run_costs, run_report}
 use Rattle.fab_run.specs.Setting.{IsSetting, Setting, Texts}
 
 -- the run of a seed
@@ -67,6 +68,10 @@ pub record IsPlaced (t : Texts) (o : Options) (placement : PlacementOf) (accepte
   pub place : Appends place_old place_new (text_by t setting placement.sites)
   pub back : StandsFor setting.design setting.grid (lines (text_by t setting placement.sites)) placement.sites
 
+-- the first two lines of a report
+unfoldable pub head_by : Setting → ℕ → List ℕ
+head_by s seed = head_text s.design s.grid (cost_at (run_by s seed) (start_by s seed))
+
 -- what went out is a beginning of a text
 abbrev pub IsBegun : Option (List ℕ) → Option (List ℕ) → List ℕ → Type 0
 IsBegun old new text = (k : ℕ) × Appends old new (take k text)
@@ -74,6 +79,11 @@ IsBegun old new text = (k : ℕ) × Appends old new (take k text)
 -- memory ran out, or the writer of the report failed once more
 abbrev pub IsReportFault : ℕ → ℕ → RunFault → Type 0
 IsReportFault old new e = ((e ≡ NoMemory) × (new ≡ old)) ⊎ ((e ≡ Report) × (new ≡ grown old))
+
+-- memory ran out, or a writer failed once more: that of the report, or that of the place text
+abbrev pub IsDeviceFault : ℕ → ℕ → ℕ → ℕ → RunFault → Type 0
+IsDeviceFault old new place_old place_new e =
+    (IsReportFault old new e × (place_new ≡ place_old)) ⊎ ((e ≡ Place Write) × (new ≡ old) × (place_new ≡ grown place_old))
 
 -- what went out is a beginning of the run's report
 abbrev pub IsReportBegun : Texts → Options → Option (List ℕ) → Option (List ℕ) → Type 0
@@ -92,3 +102,10 @@ pub record IsPlaceCut (t : Texts) (o : Options) (report_old report_new place_old
   pub given : IsSetting t o setting
   pub told : IsToldRun setting o.seed placement accepted costs report_old report_new
   pub place : IsCut (text_by t setting placement.sites) place_old place_new
+
+-- the writer of the place text was not ready: what went out are the first two lines of the report, and nothing of the place text
+pub record IsUnready (t : Texts) (o : Options) (report_old report_new place_old place_new : Option (List ℕ)) : Type 0 where
+  pub setting : Setting
+  pub given : IsSetting t o setting
+  pub told : Appends report_old report_new (head_by setting o.seed)
+  pub place : place_new ≡ place_old

@@ -12,7 +12,7 @@ ghost use Rattle.fab_run.specs.Piece.{head_text, last_line};
 ghost use Rattle.fab_run.specs.Check.{report_failed_with};
 ghost use Rattle.fab_run.specs.Setting.{IsSetting, Setting, setting_of, texts_of};
 ghost use Rattle.fab_run.specs.RunChecks.{IsRefusal, IsRunFault, place_failed_with};
-ghost use Rattle.fab_run.specs.Placed.{AreRedone, IsBegun, IsPlaceCut, IsPlaced, IsReportBegun, IsReportCut, IsReportFault, IsToldRun, report_by, start_by};
+ghost use Rattle.fab_run.specs.Placed.{AreRedone, IsBegun, IsDeviceFault, IsPlaceCut, IsPlaced, IsReportBegun, IsReportCut, IsReportFault, IsToldRun, IsUnready, head_by, report_by, start_by};
 ghost use Rattle.fab_run.specs.declared.fault.RunFault.TheVariants.{Place, Report};
 ghost use Rattle.fab_file.specs.declared.fault.PlaceFault.TheVariants.{Write};
 ghost use Rattle.fab_file.specs.Written.{IsCut};
@@ -25,7 +25,7 @@ use crate::setting::read_setting;
 use fab_arch::Grid;
 use fab_board::{Naming, NoGate, Opened, found};
 use fab_commit::{Anneal, Workers};
-use fab_file::write_place;
+use fab_file::{PlaceFault, write_place};
 use fab_move::{StreamWords, Verdict};
 use fab_net::Design;
 use fab_sched::Schedule;
@@ -78,25 +78,32 @@ fn outcome(
     })
 }
 
-/// The first two lines of a report go out. The answer is the cost, alone in a list.
-fn tell_start<W: Sink>(
+/// The first two lines of a report go out, and the writer of the place text is asked whether it is ready. The answer is the cost,
+/// alone in a list.
+fn tell_start<W: Sink, P: Sink>(
     alloc: Global,
     design: &Design,
     grid: &Grid,
     cost: u64,
     report: &mut W,
+    place: &mut P,
 ) -> Result<Vec<u64>, RunFault>
     ensures costs { IfOk result (λ v. v.items ≡ cost ∷ []) }
     ensures told { OnOk result (Appends (W.contents report.old) (W.contents report.new) (head_text design.now grid.now cost)) }
     ensures cut { OnErr result (IsBegun (W.contents report.old) (W.contents report.new) (head_text design.now grid.now cost)) }
     ensures short { IfErr result (λ e. e ≡ Report → IsCut (head_text design.now grid.now cost) (W.contents report.old) (W.contents report.new)) }
-    ensures sound { OnOk result (W.failed report.new ≡ W.failed report.old) }
-    ensures fault { IfErr result (IsReportFault (W.failed report.old) (W.failed report.new)) }
+    ensures unready { IfErr result (λ e. e ≡ Place Write → Appends (W.contents report.old) (W.contents report.new) (head_text design.now grid.now cost)) }
+    ensures place { P.contents place.new ≡ P.contents place.old }
+    ensures sound { OnOk result ((W.failed report.new ≡ W.failed report.old) × (P.failed place.new ≡ P.failed place.old)) }
+    ensures fault { IfErr result (IsDeviceFault (W.failed report.old) (W.failed report.new) (P.failed place.old) (P.failed place.new)) }
 {
     let mut costs = Vec::new(alloc);
     costs.push(cost)?;
     let lines = head_lines(alloc, design, grid, cost)?;
     write_whole(report, &lines)?;
+    if !place.is_ready() {
+        return Err(RunFault::Place(PlaceFault::Write));
+    }
     Ok(costs)
 }
 
@@ -126,7 +133,7 @@ fn tell_end<W: Sink>(
 }
 
 /// Anneals from the start placement to the last move, and tells of it.
-fn anneal_told<'a, J: Naming + Send + Sync, W: Sink, R: Threads + Wait + Sync>(
+fn anneal_told<'a, J: Naming + Send + Sync, W: Sink, P: Sink, R: Threads + Wait + Sync>(
     rt: &R,
     alloc: Global,
     opened: Opened<Ahead<'a>>,
@@ -136,6 +143,7 @@ fn anneal_told<'a, J: Naming + Send + Sync, W: Sink, R: Threads + Wait + Sync>(
     schedule: Schedule,
     options: &Options,
     report: &mut W,
+    place: &mut P,
 ) -> Result<Outcome, RunFault>
     requires book { opened ≡ J.book }
     requires room { Holds grid.now (logic_count design.now) (pad_count design.now) }
@@ -145,14 +153,16 @@ fn anneal_told<'a, J: Naming + Send + Sync, W: Sink, R: Threads + Wait + Sync>(
     ensures annealed { IfOk result (λ out. IsToldRun (setting_of design.now grid.now pins.fixed pins.begun schedule) options.now.seed out.placement out.accepted.items out.costs.items (W.contents report.old) (W.contents report.new)) }
     ensures cut { OnErr result ((n : ℕ) × IsBegun (W.contents report.old) (W.contents report.new) (report_by (setting_of design.now grid.now pins.fixed pins.begun schedule) options.now.seed n)) }
     ensures short { IfErr result (λ e. e ≡ Report → (n : ℕ) × IsCut (report_by (setting_of design.now grid.now pins.fixed pins.begun schedule) options.now.seed n) (W.contents report.old) (W.contents report.new)) }
-    ensures sound { OnOk result (W.failed report.new ≡ W.failed report.old) }
-    ensures fault { IfErr result (IsReportFault (W.failed report.old) (W.failed report.new)) }
+    ensures unready { IfErr result (λ e. e ≡ Place Write → Appends (W.contents report.old) (W.contents report.new) (head_by (setting_of design.now grid.now pins.fixed pins.begun schedule) options.now.seed)) }
+    ensures place { P.contents place.new ≡ P.contents place.old }
+    ensures sound { OnOk result ((W.failed report.new ≡ W.failed report.old) × (P.failed place.new ≡ P.failed place.old)) }
+    ensures fault { IfErr result (IsDeviceFault (W.failed report.old) (W.failed report.new) (P.failed place.old) (P.failed place.new)) }
 {
     let moves = schedule.moves();
     let (crew, lead) = found::<Ahead<'a>, Verdict, J>(alloc, opened, options.workers)?;
     let workers = Workers::standing(lead, options.workers, &NoGate);
     let anneal = annealer(alloc, design, grid, pins, schedule, options.seed)?;
-    let costs = tell_start(alloc, design, grid, anneal.cost(), report)?;
+    let costs = tell_start(alloc, design, grid, anneal.cost(), report, place)?;
     let mut course = Course {
         anneal,
         workers,
@@ -178,7 +188,8 @@ fn anneal_told<'a, J: Naming + Send + Sync, W: Sink, R: Threads + Wait + Sync>(
 
 /// Places the design of a run: anneals it from a start placement, by random words of the seed. Workers judge moves ahead, and
 /// moves are committed in order of number, so that the answer is that of one move after another. The report's lines go out as
-/// their stages end, and the place text once the report is whole. What is placed and written does not depend on batch and
+/// their stages end, and the place text once the report is whole. Before the first move, when the first two lines have gone out,
+/// the writer of the place text is asked whether it is ready. What is placed and written does not depend on batch and
 /// workers, where these are in their limits.
 ///
 /// An error is the first check that fails, in the order architecture, netlist, size (range, logic sites, pad sites), location
@@ -203,16 +214,17 @@ pub fn place_run<R: AllocGlobal + Threads + Wait + Sync, W: Sink, P: Sink>(
     ensures silent { IfErr result (λ e. IsRefusal e → W.contents report.new ≡ W.contents report.old) }
     ensures cut { OnErr result ((W.contents report.new ≡ W.contents report.old) ⊎ IsReportBegun (texts_of inputs.now) options.now (W.contents report.old) (W.contents report.new)) }
     ensures report_cut { IfErr result (λ e. e ≡ Report → IsReportCut (texts_of inputs.now) options.now (W.contents report.old) (W.contents report.new)) }
-    // The place text goes out behind the whole report, and only its own writer can cut it off.
+    // The place text goes out behind the whole report, and only its own writer can cut it off. Where that is not ready, no move is
+    // made.
     ensures unplaced { IfErr result (λ e. e ≢ Place Write → P.contents place.new ≡ P.contents place.old) }
-    ensures place_cut { IfErr result (λ e. e ≡ Place Write → IsPlaceCut (texts_of inputs.now) options.now (W.contents report.old) (W.contents report.new) (P.contents place.old) (P.contents place.new)) }
+    ensures place_cut { IfErr result (λ e. e ≡ Place Write → IsUnready (texts_of inputs.now) options.now (W.contents report.old) (W.contents report.new) (P.contents place.old) (P.contents place.new) ⊎ IsPlaceCut (texts_of inputs.now) options.now (W.contents report.old) (W.contents report.new) (P.contents place.old) (P.contents place.new)) }
     // A writer failed only where the answer says so.
     ensures sound { OnOk result ((W.failed report.new ≡ W.failed report.old) × (P.failed place.new ≡ P.failed place.old)) }
     ensures failed { IfErr result (λ e. (W.failed report.new ≡ report_failed_with e (W.failed report.old)) × (P.failed place.new ≡ place_failed_with e (P.failed place.old))) }
 {
     let alloc = rt.alloc();
     let (design, grid, pins, schedule) = read_setting(alloc, inputs, options)?;
-    let outcome = anneal_told::<Brand, W, R>(
+    let outcome = anneal_told::<Brand, W, P, R>(
         rt,
         alloc,
         Opened::new(),
@@ -222,6 +234,7 @@ pub fn place_run<R: AllocGlobal + Threads + Wait + Sync, W: Sink, P: Sink>(
         schedule,
         options,
         report,
+        place,
     )?;
     write_place(
         alloc,

@@ -1,15 +1,13 @@
 //! The stages of a run, one after another, each told as it ends.
 
-ghost use Rattle.std.specs.Prelude.{◌≡◌, ◌≢◌, ℕ, ◌+◌, ◌-◌, ◌⊎◌, ◌≤◌, ◌++◌, Some, OnOk, OnErr, IfOk, IfErr, None, take};
-ghost use Rattle.std.specs.Io.KnownBytes.{Appends};
-ghost use Rattle.fab_text.specs.Failures.{grown};
-ghost use Rattle.fab_file.specs.Written.{IsCut};
+ghost use Rattle.std.specs.Prelude.{◌≡◌, ◌+◌, ◌≤◌, ◌++◌, Some, OnOk, IfOk, IfErr};
 ghost use Rattle.fab_sched.specs.Annealing.{IsCooling};
 ghost use Rattle.fab_commit.specs.Serial.{accepted_among, from, moves_left, stage_of};
 ghost use Rattle.fab_commit.specs.ByTurns.{LeadsByTurns};
 ghost use Rattle.fab_commit.specs.Commits.{IsSameRun, run_of};
 ghost use Rattle.fab_run.specs.Piece.{stage_costs, stage_lines};
-ghost use Rattle.fab_run.specs.declared.fault.RunFault.TheVariants.{Report, NoMemory};
+ghost use Rattle.fab_run.specs.Placed.{IsReportFault};
+ghost use Rattle.fab_run.specs.Stages.{AreCut, AreMade};
 
 use crate::fault::RunFault;
 use crate::report::stage_line;
@@ -105,16 +103,10 @@ pub(crate) fn anneal_all<'a, V: Words + Sync + Drop, W: Sink, J: Naming, R: Thre
     requires cooling { IsCooling anneal.old.plan.cooling }
     requires limits { (1 ≤ batch) × (batch ≤ 4096) }
     ensures same { IsSameRun anneal.old anneal.new }
-    ensures turns { OnOk result (LeadsByTurns (run_of V.moves anneal.old) batch anneal.old anneal.new) }
-    ensures over { OnOk result (anneal.new.standing.heat ≡ None) }
-    ensures stands { OnOk result (anneal.new.standing ≡ from (run_of V.moves anneal.old) anneal.old.standing (anneal.new.standing.done - anneal.old.standing.done)) }
-    ensures accepted { OnOk result (anneal.new.accepted ≡ anneal.old.accepted ++ accepted_among (run_of V.moves anneal.old) anneal.old.standing (anneal.new.standing.done - anneal.old.standing.done)) }
-    ensures costs { OnOk result (costs.new.items ≡ costs.old.items ++ stage_costs (run_of V.moves anneal.old) anneal.old.standing (anneal.new.standing.done - anneal.old.standing.done)) }
-    ensures told { OnOk result (Appends (W.contents report.old) (W.contents report.new) (stage_lines (run_of V.moves anneal.old) anneal.old.standing (anneal.new.standing.done - anneal.old.standing.done))) }
-    ensures cut { OnErr result ((n : ℕ) × (k : ℕ) × Appends (W.contents report.old) (W.contents report.new) (take k (stage_lines (run_of V.moves anneal.old) anneal.old.standing n))) }
-    ensures short { IfErr result (λ e. e ≡ Report → (n : ℕ) × IsCut (stage_lines (run_of V.moves anneal.old) anneal.old.standing n) (W.contents report.old) (W.contents report.new)) }
+    ensures made { OnOk result (AreMade V.moves batch anneal.old anneal.new costs.old.items costs.new.items (W.contents report.old) (W.contents report.new)) }
+    ensures cut { IfErr result (AreCut (run_of V.moves anneal.old) anneal.old.standing (W.contents report.old) (W.contents report.new)) }
     ensures sound { OnOk result (W.failed report.new ≡ W.failed report.old) }
-    ensures fault { IfErr result (λ e. ((e ≡ NoMemory) × (W.failed report.new ≡ W.failed report.old)) ⊎ ((e ≡ Report) × (W.failed report.new ≡ grown (W.failed report.old)))) }
+    ensures fault { IfErr result (IsReportFault (W.failed report.old) (W.failed report.new)) }
 {
     while let Some(stage) = anneal.stage() {
         let line = end_stage(rt, alloc, anneal, stage, moves, batch, workers, costs)?;

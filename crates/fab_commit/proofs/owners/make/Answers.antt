@@ -1,4 +1,4 @@
-use Rattle.std.proofs.Common.{refl, sym, ap, arith}
+use Rattle.std.proofs.Common.{refl, ap, arith}
 use Rattle.fab_commit.specs.Serial.{Standing, judged_here}
 use Rattle.fab_commit.specs.Commits.{run_for, standing_of}
 use Rattle.fab_commit.specs.declared.owners.Owner.{Owner}

@@ -1,7 +1,6 @@
-use Rattle.std.proofs.Common.{◌≡◌, ◌<◌, sym, ap, subst, ◌∙◌, arith}
+use Rattle.std.proofs.Common.{◌<◌, sym, ap, subst, ◌∙◌, arith}
 use Rattle.std.specs.List.{All}
 use Rattle.std.proofs.lemmas.List.Elements.{All-push}
-use Rattle.fab_arch.specs.Grid.{kind_at}
 use Rattle.fab_commit.specs.declared.verdicts.Verdict.{Verdict}
 use Rattle.fab_commit.specs.Commits.{run_for}
 use Rattle.fab_commit.specs.World.{claim_of}
