@@ -1,12 +1,16 @@
 -- What the words of `place` ask for (our own).
-use Rattle.std.specs.Prelude.{ℕ, ◌≡◌, List, Option, Some, None, Ok, codes}
+use Rattle.std.specs.Prelude.{ℕ, ◌≡◌, List, Option, Some, None, Ok, Err, codes}
 use Rattle.fab_text.specs.Decimal.{decimal_of}
+use Rattle.fab_text.specs.declared.numbers.NumFault.{NumFault}
 use Rattle.fab_sched.specs.declared.schedules.Cooling.{Cooling}
 use Rattle.fab_sched.specs.declared.schedules.Cooling.TheVariants.{Factor, Adaptive}
 use Rattle.fab_run.specs.declared.inputs.Moves.{Moves}
 use Rattle.fab_run.specs.declared.inputs.Moves.TheVariants.{Given, Inner}
 use Rattle.fab_run.specs.declared.inputs.Options.{Options}
-use Rattle.vplace.specs.declared.placing.PlaceWords.{PlaceWords}
+use Rattle.vplace.specs.declared.asked.Number.TheVariants.{InitT, ExitT, AlphaT}
+use Rattle.vplace.specs.declared.asked.WordFault.{WordFault}
+use Rattle.vplace.specs.declared.asked.WordFault.TheVariants.{SizeInPart, BadNumber}
+use Rattle.vplace.specs.declared.asked.PlaceWords.{PlaceWords}
 
 -- the size of the array is asked for by both numbers or by none; one alone asks for nothing
 abbrev pub size_asked : Option ℕ → Option ℕ → Option (Option (ℕ × ℕ))
@@ -34,3 +38,19 @@ pub record AreAsked (w : PlaceWords) (o : Options) : Type 0 where
   pub moves : o.moves ≡ moves_asked w.moves w.inner
   pub batch : o.batch ≡ w.batch
   pub workers : o.workers ≡ w.workers
+
+-- the size is asked for in full
+abbrev HasSize : PlaceWords → Type 0
+HasSize w = (size : Option (ℕ × ℕ)) × (size_asked w.nx w.ny ≡ Some size)
+
+-- the text is that of a number with so many places
+abbrev IsNumber : List ℕ → ℕ → Type 0
+IsNumber text places = (n : ℕ) × (decimal_of text places ≡ Ok n)
+
+-- the first that is wrong with the words, in this order: the size, the first temperature, the last, the factor
+abbrev pub IsWordFault : PlaceWords → WordFault → Type 0
+IsWordFault w SizeInPart = size_asked w.nx w.ny ≡ None
+IsWordFault w (BadNumber InitT e) = HasSize w × (decimal_of w.init_t.items 4 ≡ Err e)
+IsWordFault w (BadNumber ExitT e) = HasSize w × IsNumber w.init_t.items 4 × (decimal_of w.exit_t.items 4 ≡ Err e)
+IsWordFault w (BadNumber AlphaT e) =
+    HasSize w × IsNumber w.init_t.items 4 × IsNumber w.exit_t.items 4 × (w.alpha_t.items ≡ codes "adaptive" → ⊥) × (decimal_of w.alpha_t.items 3 ≡ Err e)

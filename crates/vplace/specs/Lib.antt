@@ -1,3 +1,5 @@
 pub mod Status
 pub mod Asked
+pub mod Files
 pub mod Placing
+pub mod Said

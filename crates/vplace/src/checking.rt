@@ -7,6 +7,7 @@ ghost use Rattle.fab_net.specs.Netlist.{Netlist};
 ghost use Rattle.fab_text.specs.Failures.{grown};
 ghost use Rattle.fab_run.specs.Check.{AreChecked, FaultOf, IsReported};
 ghost use Rattle.fab_run.specs.declared.fault.RunFault.{RunFault as RunFaultOf};
+ghost use Rattle.vplace.specs.Placing.{AreGiven};
 ghost use Rattle.vplace.specs.Status.{status_of};
 
 use crate::files::NamedFiles;
@@ -34,8 +35,10 @@ pub fn check_files<F: NamedFiles, O: Sink, E: Sink>(
     out: &mut O,
     err: &mut E,
 ) -> Status
-    // What goes out is the report of some three texts.
-    ensures done { result ≡ Status.Done → (arch net place : List ℕ) × (cost : ℕ) × IsReported arch net place cost (O.contents out.old) (O.contents out.new) }
+    // What goes out is the report of the named files.
+    ensures done { result ≡ Status.Done → (arch net place : List ℕ) × (cost : ℕ) × AreGiven (F.held files.now) names.now arch net place × IsReported arch net place cost (O.contents out.old) (O.contents out.new) }
+    // A refusal is that of the first check of the named files that fails.
+    ensures refused { result ≡ Status.Refused → (arch net place : List ℕ) × (fault : RunFaultOf) × AreGiven (F.held files.now) names.now arch net place × FaultOf arch net place fault × (status_of fault ≡ Status.Refused) }
     ensures silent { result ≡ Status.Refused → O.contents out.new ≡ O.contents out.old }
     ensures written { result ≡ Status.Done → O.failed out.new ≡ O.failed out.old }
     ensures quiet { result ≡ Status.Done → E.contents err.new ≡ E.contents err.old }

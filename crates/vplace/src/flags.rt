@@ -1,8 +1,11 @@
 //! The command line: its subcommands and options, and what the words ask for.
 
+ghost use Rattle.std.specs.Prelude.{◌≡◌, [], Ok};
+ghost use Rattle.vplace.specs.declared.flags.Asked.TheVariants.{Example};
+
+use crate::asked::PlaceWords;
 use crate::checking::CheckNames;
 use crate::place_flags::{place_command, place_words};
-use crate::placing::PlaceWords;
 use crate::words::{as_bytes, as_text};
 use clap::{Arg, ArgAction, ArgMatches, Command, Error};
 use std::alloc::{AllocError, Global};
@@ -19,6 +22,8 @@ pub enum Asked {
 }
 
 const NAME: &str = "vplace";
+
+const VERSION: &str = "0.9.0";
 
 const ABOUT: &str =
     "Place FPGA designs by simulated annealing, after VPR 4.30, and check placements";
@@ -79,6 +84,8 @@ fn check_command<'a>(alloc: Global) -> Result<Command<'a>, AllocError> {
 
 fn vplace_command<'a>(alloc: Global) -> Result<Command<'a>, AllocError> {
     Command::new(alloc, NAME)
+        .version(VERSION)
+        .subcommand_required(true)
         .about(ABOUT)
         .after_help(AFTER)
         .subcommand(place_command(alloc)?)?
@@ -101,8 +108,13 @@ fn check_names(alloc: Global, matches: &ArgMatches<'_>) -> Result<CheckNames, Al
     Ok(CheckNames { arch, net, place })
 }
 
-/// What the words ask for; else what is to be said of them.
-pub fn parse_words(alloc: Global, words: &[Vec<u8>]) -> Result<Asked, Error> {
+/// What the words ask for; else what is to be said of them. No words ask for the check of the built-in example.
+pub fn parse_words(alloc: Global, words: &[Vec<u8>]) -> Result<Asked, Error>
+    ensures example { words.now ≡ [] → result ≡ Ok Example }
+{
+    if words.is_empty() {
+        return Ok(Asked::Example);
+    }
     let mut texts = Vec::new(alloc);
     texts.push(String::from_str(alloc, NAME)?)?;
     for word in words {
@@ -114,6 +126,7 @@ pub fn parse_words(alloc: Global, words: &[Vec<u8>]) -> Result<Asked, Error> {
     }
     match matches.subcommand_matches("check") {
         Some(check) => Ok(Asked::Check(check_names(alloc, check)?)),
+        // The parser asks for a command, so there is one.
         None => Ok(Asked::Example),
     }
 }

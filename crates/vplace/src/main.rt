@@ -1,15 +1,18 @@
 //! `vplace`, the program: its words, the files that they name, and what is said on the two outputs.
 #![tactic(auto)]
 
+mod asked;
 #[cfg(test)]
 mod check_tests;
 mod checking;
 mod example;
 mod files;
 mod flags;
+mod host_files;
 mod messages;
 #[cfg(test)]
 mod narrow;
+mod out_file;
 mod place_flags;
 mod placing;
 #[cfg(test)]
@@ -26,7 +29,7 @@ mod tests;
 mod words;
 
 use fab_text::Counted;
-use files::HostFiles;
+use host_files::HostFiles;
 use std::io;
 use std::process::ExitCode;
 use words::given_words;
@@ -38,7 +41,7 @@ fn main(rt: HostRuntime) -> ExitCode {
         Ok(words) => program::program(
             &rt,
             words.as_slice(),
-            &HostFiles::new(&rt),
+            &mut HostFiles::new(&rt),
             &mut out,
             &mut err,
         ),

@@ -1,18 +1,22 @@
 //! What is said on standard error: one line for each fault, and the status that goes with it.
 
-ghost use Rattle.std.specs.Prelude.{◌≡◌, ◌≢◌, ◌⊎◌};
+ghost use Rattle.std.specs.Prelude.{◌≡◌, ◌≢◌, ◌⊎◌, codes};
 ghost use Rattle.fab_file.specs.declared.fault.PlaceFault.TheVariants.{Write};
 ghost use Rattle.fab_run.specs.declared.fault.RunFault.TheVariants.{Place, Report};
+ghost use Rattle.fab_run.specs.FaultLines.{fault_line as line_of_fault};
+ghost use Rattle.vplace.specs.Said.{IsSaid, no_memory_line, word_fault_line};
 ghost use Rattle.vplace.specs.Status.{status_of};
 
+use crate::asked::{Number, WordFault};
 use crate::status::{Status, status_after};
 use fab_run::{RunFault, fault_line};
-use fab_text::{NumFault, Sink, write_whole};
-use std::alloc::Global;
+use fab_text::{Sink, write_whole};
+use std::alloc::{AllocError, Global};
 
 /// Says that there is no memory. A standard error that fails too has nobody to be told.
 pub fn no_memory<E: Sink>(err: &mut E) -> Status
-    ensures { result ≡ Status.NoMemory }
+    ensures status { result ≡ Status.NoMemory }
+    ensures said { IsSaid no_memory_line (E.contents err.old) (E.contents err.new) (E.failed err.old) (E.failed err.new) }
 {
     let _ = write_whole(err, b"vplace: no memory\n");
     Status::NoMemory
@@ -25,14 +29,6 @@ pub enum Role {
     Net,
     Pads,
     Place,
-}
-
-/// Which of the options whose value is a decimal number.
-#[derive(Clone, Copy, Debug, PartialEq, Eq)]
-pub enum Number {
-    InitT,
-    ExitT,
-    AlphaT,
 }
 
 /// Says that the file of a role cannot be read.
@@ -65,14 +61,6 @@ pub fn unwritable_place<E: Sink>(err: &mut E) -> Status
     Status::Device
 }
 
-/// Says that the columns were given without the rows, or the rows without the columns.
-pub fn size_in_part<E: Sink>(err: &mut E) -> Status
-    ensures { result ≡ Status.CommandLine }
-{
-    let _ = write_whole(err, b"vplace: --nx and --ny go together\n");
-    Status::CommandLine
-}
-
 fn option_name(option: Number) -> &'static str {
     match option {
         Number::InitT => "init-t",
@@ -81,12 +69,21 @@ fn option_name(option: Number) -> &'static str {
     }
 }
 
-/// Says what is wrong with the number of an option.
-pub fn bad_number<E: Sink>(alloc: Global, err: &mut E, option: Number, fault: NumFault) -> Status
+fn word_fault_text(alloc: Global, fault: WordFault) -> Result<String, AllocError> {
+    match fault {
+        WordFault::SizeInPart => String::from_str(alloc, "vplace: --nx and --ny go together\n"),
+        WordFault::BadNumber(option, fault) => {
+            let name = option_name(option);
+            format!(in alloc; "vplace: option {name}: {fault}\n")
+        }
+    }
+}
+
+/// Says what is wrong with the words of `place`.
+pub fn word_fault<E: Sink>(alloc: Global, err: &mut E, fault: WordFault) -> Status
     ensures { (result ≡ Status.CommandLine) ⊎ (result ≡ Status.NoMemory) }
 {
-    let name = option_name(option);
-    match format!(in alloc; "vplace: option {name}: {fault}\n") {
+    match word_fault_text(alloc, fault) {
         Ok(line) => {
             let _ = write_whole(err, line.as_bytes());
             Status::CommandLine

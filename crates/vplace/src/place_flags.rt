@@ -1,7 +1,7 @@
 //! The options of `place`.
 
+use crate::asked::PlaceWords;
 use crate::flags::{file_name, file_option};
-use crate::placing::PlaceWords;
 use clap::{Arg, ArgAction, ArgMatches, Command, value_parser};
 use std::alloc::{AllocError, Global};
 

@@ -1,224 +1,194 @@
 //! The subcommand `place`: the files are read, and only then is the first of their texts looked at; the placement is
 //! written once the run has answered.
 
-ghost use Rattle.std.specs.Prelude.{◌≡◌, ◌≢◌, ◌⊎◌, ℕ, List, OnOk, OnErr, IfOk, IfErr, MatchResult};
-ghost use Rattle.fab_text.specs.Decimal.{decimal_of};
+ghost use Rattle.std.specs.Prelude.{◌≡◌, ◌≢◌, ◌⊎◌, ℕ, List, OnOk, OnErr, IfOk, IfErr, option_map};
 ghost use Rattle.fab_text.specs.Failures.{grown};
-ghost use Rattle.fab_text.specs.declared.numbers.NumFault.{NumFault as NumFaultOf};
 ghost use Rattle.fab_run.specs.Placed.{IsReportBegun};
-ghost use Rattle.fab_run.specs.RunChecks.{IsRunFault};
 ghost use Rattle.fab_run.specs.Setting.{IsSetting, Setting, Texts, texts_of};
+ghost use Rattle.fab_run.specs.RunChecks.{IsRunFault};
 ghost use Rattle.fab_run.specs.declared.inputs.Options.{Options as OptionsOf};
 ghost use Rattle.fab_run.specs.declared.fault.RunFault.{RunFault as RunFaultOf};
 ghost use Rattle.vplace.specs.Status.{IsRefused, status_of};
-ghost use Rattle.vplace.specs.Asked.{AreAsked, IsCoolingAsked, size_asked};
-ghost use Rattle.vplace.specs.Placing.{IsPlacedText};
+ghost use Rattle.vplace.specs.Asked.{AreAsked, IsWordFault};
+ghost use Rattle.vplace.specs.Files.{Puts};
+ghost use Rattle.vplace.specs.Placing.{AreNamed, GivesPads, IsPlacedText, name_of};
+ghost use Rattle.vplace.specs.declared.asked.WordFault.{WordFault as WordFaultOf};
 
+use crate::asked::{PlaceWords, options_of};
 use crate::files::{NamedFiles, WriteFault};
 use crate::messages;
-use crate::messages::{Number, Role};
+use crate::messages::Role;
+use crate::out_file::OutFile;
 use crate::reading::read_role;
 use crate::status::Status;
 use fab_file::{Labels, PlaceFault};
-use fab_run::{Inputs, Moves, Options, RunFault, place_run};
-use fab_sched::Cooling;
-use fab_text::{Counted, Sink, decimal};
+use fab_run::{Inputs, Options, RunFault, place_run};
+use fab_text::Sink;
 use std::alloc::Global;
 use std::sync::Wait;
 use std::thread::Threads;
 
-/// What the words of `place` say. Temperatures and the factor are texts that are not read yet.
+/// The texts of the files that a run reads.
 #[derive(Drop)]
-pub struct PlaceWords {
-    pub arch: Vec<u8>,
-    pub net: Vec<u8>,
-    pub out: Vec<u8>,
-    pub pads: Option<Vec<u8>>,
-    pub nx: Option<u16>,
-    pub ny: Option<u16>,
-    pub seed: u64,
-    pub init_t: Vec<u8>,
-    pub exit_t: Vec<u8>,
-    pub alpha_t: Vec<u8>,
-    pub inner: u64,
-    pub moves: Option<u64>,
-    pub batch: u64,
-    pub workers: u64,
-}
-
-/// The size of the array, where its columns and rows are given; one without the other is refused.
-fn size_of<E: Sink>(words: &PlaceWords, err: &mut E) -> Result<Option<(u16, u16)>, Status>
-    ensures value { MatchResult result (λ size. size_asked words.now.nx words.now.ny ≡ Some size) (λ _. size_asked words.now.nx words.now.ny ≡ None) }
-    ensures quiet { OnOk result (E.contents err.new ≡ E.contents err.old) }
-    ensures open { IfErr result (λ status. (status ≡ Status.CommandLine) ⊎ (status ≡ Status.NoMemory)) }
-{
-    match (words.nx, words.ny) {
-        (Some(nx), Some(ny)) => Ok(Some((nx, ny))),
-        (None, None) => Ok(None),
-        _ => Err(messages::size_in_part(err)),
-    }
-}
-
-/// A number with so many places, in its smallest unit.
-fn scaled<E: Sink>(
-    alloc: Global,
-    option: Number,
-    text: &[u8],
-    places: u32,
-    err: &mut E,
-) -> Result<u64, Status>
-    ensures value { MatchResult result (λ n. decimal_of text.now places ≡ Ok n) (λ _. (fault : NumFaultOf) × (decimal_of text.now places ≡ Err fault)) }
-    ensures quiet { OnOk result (E.contents err.new ≡ E.contents err.old) }
-    ensures open { IfErr result (λ status. (status ≡ Status.CommandLine) ⊎ (status ≡ Status.NoMemory)) }
-{
-    match decimal(text, places) {
-        Ok(number) => Ok(number),
-        Err(fault) => Err(messages::bad_number(alloc, err, option, fault)),
-    }
-}
-
-fn cooling_of<E: Sink>(alloc: Global, text: &[u8], err: &mut E) -> Result<Cooling, Status>
-    ensures value { IfOk result (IsCoolingAsked text.now) }
-    ensures quiet { OnOk result (E.contents err.new ≡ E.contents err.old) }
-    ensures open { IfErr result (λ status. (status ≡ Status.CommandLine) ⊎ (status ≡ Status.NoMemory)) }
-{
-    if text == b"adaptive".as_slice() {
-        return Ok(Cooling::Adaptive);
-    }
-    Ok(Cooling::Factor(scaled(alloc, Number::AlphaT, text, 3, err)?))
-}
-
-/// The options of a run, or what is wrong with the first of the words that is.
-fn options_of<E: Sink>(alloc: Global, words: &PlaceWords, err: &mut E) -> Result<Options, Status>
-    ensures value { IfOk result (AreAsked words.now) }
-    ensures quiet { OnOk result (E.contents err.new ≡ E.contents err.old) }
-    ensures open { IfErr result (λ status. (status ≡ Status.CommandLine) ⊎ (status ≡ Status.NoMemory)) }
-{
-    let size = size_of(words, err)?;
-    let init_t = scaled(alloc, Number::InitT, words.init_t.as_slice(), 4, err)?;
-    let exit_t = scaled(alloc, Number::ExitT, words.exit_t.as_slice(), 4, err)?;
-    let cooling = cooling_of(alloc, words.alpha_t.as_slice(), err)?;
-    let moves = match words.moves {
-        Some(moves) => Moves::Given(moves),
-        None => Moves::Inner(words.inner),
-    };
-    Ok(Options {
-        seed: words.seed,
-        size,
-        init_t,
-        exit_t,
-        cooling,
-        moves,
-        batch: words.batch,
-        workers: words.workers,
-    })
+struct Read {
+    arch: Vec<u8>,
+    net: Vec<u8>,
+    pads: Option<Vec<u8>>,
 }
 
 /// The text of a location file, where one is named.
 fn read_pads<F: NamedFiles, E: Sink>(
     alloc: Global,
     files: &F,
-    name: Option<&[u8]>,
+    words: &PlaceWords,
     err: &mut E,
 ) -> Result<Option<Vec<u8>>, Status>
+    ensures gives { IfOk result (λ text. GivesPads (F.held files.now) (name_of words.now) (option_map (λ bytes. bytes.items) text)) }
     ensures quiet { OnOk result (E.contents err.new ≡ E.contents err.old) }
     ensures open { IfErr result (λ status. (status ≡ Status.Device) ⊎ (status ≡ Status.NoMemory)) }
 {
-    match name {
-        Some(name) => Ok(Some(read_role(alloc, files, Role::Pads, name, err)?)),
+    match &words.pads {
+        Some(name) => Ok(Some(read_role(alloc, files, Role::Pads, name.as_slice(), err)?)),
         None => Ok(None),
     }
 }
 
-/// Places the design of a run, all of whose texts are at hand. The report goes out; the answer is the place text.
-pub fn place_texts<R: AllocGlobal + Threads + Wait + Sync, O: Sink, E: Sink>(
+/// All files of a run, in the order architecture, netlist, location file.
+fn read_texts<F: NamedFiles, E: Sink>(
+    alloc: Global,
+    files: &F,
+    words: &PlaceWords,
+    err: &mut E,
+) -> Result<Read, Status>
+    ensures gives { IfOk result (λ read. AreNamed (F.held files.now) words.now (record { arch = read.arch.items; net = read.net.items; pads = option_map (λ bytes. bytes.items) read.pads; net_label = words.now.net.items; arch_label = words.now.arch.items })) }
+    ensures quiet { OnOk result (E.contents err.new ≡ E.contents err.old) }
+    ensures open { IfErr result (λ status. (status ≡ Status.Device) ⊎ (status ≡ Status.NoMemory)) }
+{
+    let arch = read_role(alloc, files, Role::Arch, words.arch.as_slice(), err)?;
+    let net = read_role(alloc, files, Role::Net, words.net.as_slice(), err)?;
+    let pads = read_pads(alloc, files, words, err)?;
+    Ok(Read { arch, net, pads })
+}
+
+/// Places the design of a run, all of whose texts are at hand. The report goes out; the answer is the place text, and the place
+/// that was taken for it at its name before the first move.
+pub fn place_texts<R: AllocGlobal + Threads + Wait + Sync, F: NamedFiles, O: Sink, E: Sink>(
     rt: &R,
     inputs: &Inputs,
     options: &Options,
+    files: &F,
+    name: &[u8],
     out: &mut O,
     err: &mut E,
-) -> Result<Vec<u8>, Status>
+) -> Result<(Vec<u8>, Option<F::Outlet>), Status>
     // What goes out is the report of annealing one move at a time, and the answer is the text of its placement.
-    ensures placed { IfOk result (λ text. IsPlacedText (texts_of inputs.now) options.now (O.contents out.old) (O.contents out.new) text.items) }
+    ensures placed { IfOk result (λ made. IsPlacedText (texts_of inputs.now) options.now (O.contents out.old) (O.contents out.new) made.0.items) }
     // A refusal is that of the first check that fails.
     ensures refused { IfErr result (λ status. IsRefused status → (fault : RunFaultOf) × IsRunFault (texts_of inputs.now) options.now fault × (status_of fault ≡ status)) }
     // Texts and numbers that mean a run are never refused.
     ensures only { (s : Setting) → IsSetting (texts_of inputs.now) options.now s → IfErr result (λ status. (status ≡ Status.NoMemory) ⊎ (status ≡ Status.Device)) }
     ensures silent { IfErr result (λ status. IsRefused status → O.contents out.new ≡ O.contents out.old) }
-    // Else a beginning of the report may have gone out, and a device failed only where its writer did.
+    // Else a beginning of the report may have gone out.
     ensures cut { OnErr result ((O.contents out.new ≡ O.contents out.old) ⊎ IsReportBegun (texts_of inputs.now) options.now (O.contents out.old) (O.contents out.new)) }
-    ensures device { IfErr result (λ status. status ≡ Status.Device → O.failed out.new ≡ grown (O.failed out.old)) }
+    // A device failed only where the report's writer did, or where the name of the place text was tried: behind all checks.
+    ensures device { IfErr result (λ status. status ≡ Status.Device → (O.failed out.new ≡ grown (O.failed out.old)) ⊎ ((s : Setting) × IsSetting (texts_of inputs.now) options.now s)) }
     ensures written { OnOk result (O.failed out.new ≡ O.failed out.old) }
     ensures quiet { OnOk result (E.contents err.new ≡ E.contents err.old) }
     ensures open { IfErr result (λ status. status ≢ Status.Done) }
 {
-    let mut place = Counted::new(Vec::new(rt.alloc()));
-    match place_run(rt, inputs, options, out, &mut place) {
-        Ok(_) => Ok(place.into_inner()),
-        Err(fault) => {
-            // The place text goes to memory here.
-            if fault == RunFault::Place(PlaceFault::Write) {
-                return Err(messages::no_memory(err));
-            }
-            Err(messages::run_fault(rt.alloc(), err, &fault, inputs.net))
-        }
+    let mut place = OutFile::new(files, rt.alloc(), name);
+    let told = place_run(rt, inputs, options, out, &mut place);
+    let OutFile {
+        text,
+        outlet,
+        fault: refusal,
+        ..
+    } = place;
+    let fault = match told {
+        Ok(_) => return Ok((text, outlet)),
+        Err(fault) => fault,
+    };
+    if let Some(outlet) = outlet {
+        files.release(outlet);
+    }
+    // Where the name was not refused, the place text found no memory.
+    if fault == RunFault::Place(PlaceFault::Write) && refusal != Some(WriteFault::Unwritable) {
+        return Err(messages::no_memory(err));
+    }
+    Err(messages::run_fault(rt.alloc(), err, &fault, inputs.net))
+}
+
+/// The place text goes to the file of its name.
+fn put_text<F: NamedFiles, E: Sink>(
+    alloc: Global,
+    files: &mut F,
+    name: &[u8],
+    outlet: Option<F::Outlet>,
+    text: &[u8],
+    err: &mut E,
+) -> Status
+    ensures put { result ≡ Status.Done → Puts (F.held files.old) (F.held files.new) name.now text.now }
+    ensures kept { result ≢ Status.Done → F.held files.new ≡ F.held files.old }
+    ensures quiet { result ≡ Status.Done → E.contents err.new ≡ E.contents err.old }
+    ensures open { (result ≡ Status.Done) ⊎ ((result ≡ Status.Device) ⊎ (result ≡ Status.NoMemory)) }
+{
+    let outlet = match outlet {
+        Some(outlet) => Ok(outlet),
+        None => files.reserve(alloc, name),
+    };
+    let put = match outlet {
+        Ok(outlet) => files.put(name, outlet, text),
+        Err(fault) => Err(fault),
+    };
+    match put {
+        Ok(()) => Status::Done,
+        Err(WriteFault::Unwritable) => messages::unwritable_place(err),
+        Err(WriteFault::NoMemory) => messages::no_memory(err),
     }
 }
 
-/// Places a design that lies in files.
+/// Places a design that lies in files, by the numbers that the words give.
 pub fn place_files<R: AllocGlobal + Threads + Wait + Sync, F: NamedFiles, O: Sink, E: Sink>(
     rt: &R,
     words: &PlaceWords,
-    files: &F,
+    files: &mut F,
     out: &mut O,
     err: &mut E,
 ) -> Status
-    // What goes out is the report of a run of the numbers asked for.
-    ensures placed { result ≡ Status.Done → (texts : Texts) × (options : OptionsOf) × (text : List ℕ) × AreAsked words.now options × IsPlacedText texts options (O.contents out.old) (O.contents out.new) text }
+    // What goes out is the report of a run of the named files by the numbers asked for, and what is put at the out name is the
+    // text of its placement.
+    ensures placed { result ≡ Status.Done → (t : Texts) × (o : OptionsOf) × (text : List ℕ) × AreNamed (F.held files.old) words.now t × AreAsked words.now o × IsPlacedText t o (O.contents out.old) (O.contents out.new) text × Puts (F.held files.old) (F.held files.new) words.now.out.items text }
+    ensures kept { result ≢ Status.Done → F.held files.new ≡ F.held files.old }
+    // What is wrong with the words comes before the files.
+    ensures first { (fault : WordFaultOf) → IsWordFault words.now fault → (result ≡ Status.CommandLine) ⊎ (result ≡ Status.NoMemory) }
+    // A refusal is that of the words, or of the first check of the named files that fails.
+    ensures refused { IsRefused result → ((fault : WordFaultOf) × IsWordFault words.now fault) ⊎ ((t : Texts) × (o : OptionsOf) × (fault : RunFaultOf) × AreNamed (F.held files.old) words.now t × AreAsked words.now o × IsRunFault t o fault × (status_of fault ≡ result)) }
     ensures silent { IsRefused result → O.contents out.new ≡ O.contents out.old }
     ensures written { result ≡ Status.Done → O.failed out.new ≡ O.failed out.old }
     ensures quiet { result ≡ Status.Done → E.contents err.new ≡ E.contents err.old }
 {
-    match placed(rt, words, files, out, err) {
-        Ok(text) => match files.write(rt.alloc(), words.out.as_slice(), text.as_slice()) {
-            Ok(()) => Status::Done,
-            Err(WriteFault::Unwritable) => messages::unwritable_place(err),
-            Err(WriteFault::NoMemory) => messages::no_memory(err),
-        },
-        Err(status) => status,
-    }
-}
-
-/// The place text of a design that lies in files.
-fn placed<R: AllocGlobal + Threads + Wait + Sync, F: NamedFiles, O: Sink, E: Sink>(
-    rt: &R,
-    words: &PlaceWords,
-    files: &F,
-    out: &mut O,
-    err: &mut E,
-) -> Result<Vec<u8>, Status>
-    // What goes out is the report of a run of the numbers asked for, and the answer is the text of its placement.
-    ensures placed { IfOk result (λ text. (texts : Texts) × (options : OptionsOf) × AreAsked words.now options × IsPlacedText texts options (O.contents out.old) (O.contents out.new) text.items) }
-    ensures silent { IfErr result (λ status. IsRefused status → O.contents out.new ≡ O.contents out.old) }
-    ensures written { OnOk result (O.failed out.new ≡ O.failed out.old) }
-    ensures quiet { OnOk result (E.contents err.new ≡ E.contents err.old) }
-    ensures open { IfErr result (λ status. status ≢ Status.Done) }
-{
     let alloc = rt.alloc();
-    let options = options_of(alloc, words, err)?;
-    let arch = read_role(alloc, files, Role::Arch, words.arch.as_slice(), err)?;
-    let net = read_role(alloc, files, Role::Net, words.net.as_slice(), err)?;
-    let pads = read_pads(alloc, files, words.pads.as_deref(), err)?;
+    let options = match options_of(words) {
+        Ok(options) => options,
+        Err(fault) => return messages::word_fault(alloc, err, fault),
+    };
+    let read = match read_texts(alloc, &*files, words, err) {
+        Ok(read) => read,
+        Err(status) => return status,
+    };
+    let name = words.out.as_slice();
     let labels = Labels {
         net: words.net.as_slice(),
         arch: words.arch.as_slice(),
     };
-    let pads = pads.as_deref();
     let inputs = Inputs {
-        arch: arch.as_slice(),
-        net: net.as_slice(),
-        pads,
+        arch: read.arch.as_slice(),
+        net: read.net.as_slice(),
+        pads: read.pads.as_deref(),
         labels,
     };
-    place_texts(rt, &inputs, &options, out, err)
+    match place_texts(rt, &inputs, &options, &*files, name, out, err) {
+        Ok((text, outlet)) => put_text(alloc, files, name, outlet, text.as_slice(), err),
+        Err(status) => status,
+    }
 }

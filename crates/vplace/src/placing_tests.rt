@@ -1,50 +1,84 @@
 // The subcommand `place` in memory: a design of two pads and one logic block, whose every move finds its block's own site.
 
+ghost use Rattle.std.specs.Prelude.{Some, [], ◌∷◌, option_map, codes};
+ghost use Rattle.vplace.specs.Files.{text_among};
+
 use crate::files::{NamedFiles, ReadFault, WriteFault};
 use crate::program::program;
 use crate::run_tests::{ARCH, NET, PADS, PLACE, REPORT};
 use fab_text::Counted;
 use std::alloc::{AllocError, Global};
-use std::cell::RefCell;
+use std::cell::Cell;
 use std::sync::Wait;
 use std::test::*;
 use std::thread::Threads;
 
-// The files of the design; what is written to `t.place` is kept, any other file is refused, and for `huge` there is no
-// memory.
+// The files of the design. What is put at `t.place` is kept, and so is what is put at `late`, for which the disk is full by then; for
+// `huge` there is no memory by then; no other name is taken.
 #[derive(Drop)]
 struct Desk {
-    placed: RefCell<Option<Vec<u8>>>,
+    arch: &'static [u8],
+    net: &'static [u8],
+    pads: &'static [u8],
+    placed: Option<Vec<u8>>,
+    taken: Cell<u32>,
+    alloc: Global,
 }
 
 impl NamedFiles for Desk {
+    ghost held = { λ desk. Some (text_among ((codes "t.arch", Some desk.arch.now) ∷ (codes "t.net", Some desk.net.now) ∷ (codes "t.pads", Some desk.pads.now) ∷ (codes "t.place", option_map (λ bytes. bytes.items) desk.placed) ∷ [])) };
+
+    // The number of places that were taken.
+    type Outlet = u32;
+
     fn read(&self, alloc: Global, name: &[u8]) -> Result<Vec<u8>, ReadFault> {
         let text = if name == b"t.arch".as_slice() {
-            ARCH
+            self.arch
         } else if name == b"t.net".as_slice() {
-            NET
+            self.net
         } else if name == b"t.pads".as_slice() {
-            PADS
+            self.pads
         } else {
             return Err(ReadFault::Unreadable);
         };
-        Vec::from_slice(alloc, text).map_err(|_| ReadFault::NoMemory)
+        match Vec::from_slice(alloc, text) {
+            Ok(bytes) => Ok(bytes),
+            Err(_) => Err(ReadFault::NoMemory),
+        }
     }
 
-    fn write(&self, alloc: Global, name: &[u8], bytes: &[u8]) -> Result<(), WriteFault> {
+    fn reserve(&self, _alloc: Global, name: &[u8]) -> Result<u32, WriteFault> {
+        if name == b"none".as_slice() {
+            return Err(WriteFault::NoMemory);
+        }
+        let is_known = name == b"t.place".as_slice()
+            || name == b"huge".as_slice()
+            || name == b"late".as_slice();
+        if !is_known {
+            return Err(WriteFault::Unwritable);
+        }
+        self.taken.set(self.taken.get().saturating_add(1));
+        Ok(self.taken.get())
+    }
+
+    fn put(&mut self, name: &[u8], _outlet: u32, bytes: &[u8]) -> Result<(), WriteFault> {
         if name == b"huge".as_slice() {
             return Err(WriteFault::NoMemory);
         }
         if name != b"t.place".as_slice() {
             return Err(WriteFault::Unwritable);
         }
-        match Vec::from_slice(alloc, bytes) {
-            Ok(bytes) => match self.placed.try_replace(Some(bytes)) {
-                Ok(_) => Ok(()),
-                Err(_) => Err(WriteFault::Unwritable),
-            },
+        match Vec::from_slice(self.alloc, bytes) {
+            Ok(bytes) => {
+                self.placed = Some(bytes);
+                Ok(())
+            }
             Err(_) => Err(WriteFault::NoMemory),
         }
+    }
+
+    fn release(&self, _outlet: u32) {
+        self.taken.set(self.taken.get().saturating_sub(1));
     }
 }
 
@@ -54,8 +88,13 @@ fn run(
     words: &[&[u8]],
 ) -> Result<Vec<u8>, AllocError> {
     let alloc = rt.alloc();
-    let desk = Desk {
-        placed: RefCell::new(None),
+    let mut desk = Desk {
+        arch: ARCH,
+        net: NET,
+        pads: PADS,
+        placed: None,
+        taken: Cell::new(0),
+        alloc,
     };
     let mut given = Vec::new(alloc);
     for word in words {
@@ -63,13 +102,13 @@ fn run(
     }
     let mut out = Counted::new(Vec::new(alloc));
     let mut err = Counted::new(Vec::new(alloc));
-    let status = program(rt, given.as_slice(), &desk, &mut out, &mut err);
+    let status = program(rt, given.as_slice(), &mut desk, &mut out, &mut err);
     let mut left = Vec::new(alloc);
     left.push(b'0'.saturating_add(status))?;
     left.push(b'\n')?;
     left.extend_from_slice(&out.into_inner())?;
     left.extend_from_slice(&err.into_inner())?;
-    if let Some(placed) = desk.placed.into_inner() {
+    if let Some(placed) = desk.placed {
         left.extend_from_slice(&placed)?;
     }
     Ok(left)
@@ -120,6 +159,41 @@ fn no_memory_for_the_out_file(rt: HostRuntime) -> Result<(), Fail> {
     words[8] = b"huge";
     let left = run(&rt, words.as_slice())?;
     let wanted = [b"3\n".as_slice(), REPORT, b"vplace: no memory\n"].concat(rt.alloc())?;
+    assert_eq!(rt; left, wanted);
+    Ok(())
+}
+
+// The first two lines of the report have gone out when a name is tried.
+const HEAD: &[u8] = b"blocks 3 logic 1 pads 2 nets 2 array 1 x 1\nstart cost 4.0000\n";
+
+#[test]
+fn a_name_that_cannot_be_written_is_told_before_the_first_move(
+    rt: HostRuntime,
+) -> Result<(), Fail> {
+    let mut words = WORDS;
+    words[8] = b"missing/t.place";
+    let left = run(&rt, words.as_slice())?;
+    let wanted = [b"4\n".as_slice(), HEAD, b"vplace: cannot write place\n"].concat(rt.alloc())?;
+    assert_eq!(rt; left, wanted);
+    Ok(())
+}
+
+#[test]
+fn no_memory_for_the_name_of_the_out_file(rt: HostRuntime) -> Result<(), Fail> {
+    let mut words = WORDS;
+    words[8] = b"none";
+    let left = run(&rt, words.as_slice())?;
+    let wanted = [b"3\n".as_slice(), HEAD, b"vplace: no memory\n"].concat(rt.alloc())?;
+    assert_eq!(rt; left, wanted);
+    Ok(())
+}
+
+#[test]
+fn a_disk_that_is_full_by_then_is_told_at_the_end(rt: HostRuntime) -> Result<(), Fail> {
+    let mut words = WORDS;
+    words[8] = b"late";
+    let left = run(&rt, words.as_slice())?;
+    let wanted = [b"4\n".as_slice(), REPORT, b"vplace: cannot write place\n"].concat(rt.alloc())?;
     assert_eq!(rt; left, wanted);
     Ok(())
 }

@@ -1,15 +1,17 @@
 //! The whole program over its words, its files and its two outputs, so that a test can run it in memory.
 
-ghost use Rattle.std.specs.Prelude.{◌≡◌, ◌⊎◌};
+ghost use Rattle.std.specs.Prelude.{◌≡◌, ◌⊎◌, ℕ, []};
+ghost use Rattle.fab_run.specs.Check.{IsReported};
 ghost use Rattle.vplace.specs.Status.{IsRefused};
 
 use crate::checking::{check_files, check_texts};
+use crate::example::{ARCH, NET, PLACE};
 use crate::files::NamedFiles;
 use crate::flags::{Asked, parse_words};
+use crate::messages;
 use crate::placing::place_files;
 use crate::status::Status;
 use crate::words::as_bytes;
-use crate::{example, messages};
 use clap::Error;
 use clap::error::ErrorKind;
 use fab_text::{Sink, write_whole};
@@ -49,20 +51,19 @@ fn tell<O: Sink, E: Sink>(alloc: Global, error: &Error, out: &mut O, err: &mut E
 fn run<R: AllocGlobal + Threads + Wait + Sync, F: NamedFiles, O: Sink, E: Sink>(
     rt: &R,
     words: &[Vec<u8>],
-    files: &F,
+    files: &mut F,
     out: &mut O,
     err: &mut E,
 ) -> Status
     ensures silent { IsRefused result → O.contents out.new ≡ O.contents out.old }
     ensures written { result ≡ Status.Done → O.failed out.new ≡ O.failed out.old }
     ensures quiet { result ≡ Status.Done → E.contents err.new ≡ E.contents err.old }
+    ensures example { words.now ≡ [] → result ≡ Status.Done → (cost : ℕ) × IsReported ARCH.now NET.now PLACE.now cost (O.contents out.old) (O.contents out.new) }
 {
     let alloc = rt.alloc();
     match parse_words(alloc, words) {
-        Ok(Asked::Example) => {
-            check_texts(alloc, example::ARCH, example::NET, example::PLACE, out, err)
-        }
-        Ok(Asked::Check(names)) => check_files(alloc, &names, files, out, err),
+        Ok(Asked::Example) => { check_texts(alloc, ARCH, NET, PLACE, out, err) }
+        Ok(Asked::Check(names)) => check_files(alloc, &names, &*files, out, err),
         Ok(Asked::Place(words)) => place_files(rt, &words, files, out, err),
         Err(error) => tell(alloc, &error, out, err),
     }
@@ -73,7 +74,7 @@ fn run<R: AllocGlobal + Threads + Wait + Sync, F: NamedFiles, O: Sink, E: Sink>(
 pub fn program<R: AllocGlobal + Threads + Wait + Sync, F: NamedFiles, O: Sink, E: Sink>(
     rt: &R,
     words: &[Vec<u8>],
-    files: &F,
+    files: &mut F,
     out: &mut O,
     err: &mut E,
 ) -> u8
@@ -83,6 +84,9 @@ pub fn program<R: AllocGlobal + Threads + Wait + Sync, F: NamedFiles, O: Sink, E
     // Where the status is 0, no write to the output failed, and nothing was said on the standard error.
     ensures written { result ≡ 0 → O.failed out.new ≡ O.failed out.old }
     ensures quiet { result ≡ 0 → E.contents err.new ≡ E.contents err.old }
+
+    // With no words it is 0 only where the report of the check of the built-in texts went out.
+    ensures example { words.now ≡ [] → result ≡ 0 → (cost : ℕ) × IsReported ARCH.now NET.now PLACE.now cost (O.contents out.old) (O.contents out.new) }
 {
     run(rt, words, files, out, err).code()
 }

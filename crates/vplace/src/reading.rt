@@ -1,6 +1,7 @@
 //! Files of a run, read whole.
 
-ghost use Rattle.std.specs.Prelude.{◌≡◌, ◌⊎◌, OnOk, IfErr};
+ghost use Rattle.std.specs.Prelude.{◌≡◌, ◌⊎◌, OnOk, IfOk, IfErr};
+ghost use Rattle.vplace.specs.Files.{Gives};
 
 use crate::files::{NamedFiles, ReadFault};
 use crate::messages;
@@ -17,6 +18,7 @@ pub fn read_role<F: NamedFiles, E: Sink>(
     name: &[u8],
     err: &mut E,
 ) -> Result<Vec<u8>, Status>
+    ensures gives { IfOk result (λ text. Gives (F.held files.now) name.now text.items) }
     ensures read { OnOk result (E.contents err.new ≡ E.contents err.old) }
     ensures fault { IfErr result (λ status. (status ≡ Status.Device) ⊎ (status ≡ Status.NoMemory)) }
 {

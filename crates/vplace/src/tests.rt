@@ -1,5 +1,7 @@
 // The program in memory: its words, the files that it reads, what it writes, and its status.
 
+ghost use Rattle.std.specs.Prelude.{None};
+
 use crate::files::{NamedFiles, ReadFault, WriteFault};
 use crate::narrow::Narrow;
 use crate::program::program;
@@ -36,6 +38,10 @@ impl Shelf {
 }
 
 impl NamedFiles for Shelf {
+    ghost held = { λ shelf. None };
+
+    type Outlet = ();
+
     fn read(&self, alloc: Global, name: &[u8]) -> Result<Vec<u8>, ReadFault> {
         self.reads.set(self.reads.get().saturating_add(1));
         let text = if name == self.arch {
@@ -56,9 +62,15 @@ impl NamedFiles for Shelf {
     }
 
     // A check writes no file.
-    fn write(&self, _alloc: Global, _name: &[u8], _bytes: &[u8]) -> Result<(), WriteFault> {
+    fn reserve(&self, _alloc: Global, _name: &[u8]) -> Result<(), WriteFault> {
         Err(WriteFault::Unwritable)
     }
+
+    fn put(&mut self, _name: &[u8], _outlet: (), _bytes: &[u8]) -> Result<(), WriteFault> {
+        Err(WriteFault::Unwritable)
+    }
+
+    fn release(&self, _outlet: ()) {}
 }
 
 // What a run of the program left: its status, its two outputs, and how many files it read.
@@ -82,7 +94,7 @@ fn words_of(alloc: Global, words: &[&[u8]]) -> Result<Vec<Vec<u8>>, AllocError> 
 // Runs the program with an output that takes so many bytes.
 fn run_narrow(
     rt: &(impl AllocGlobal + Threads + Wait + Sync),
-    files: &Shelf,
+    files: &mut Shelf,
     words: &[&[u8]],
     room: usize,
 ) -> Result<Ended, AllocError> {
@@ -108,7 +120,7 @@ fn run(
     rt: &(impl AllocGlobal + Threads + Wait + Sync),
     words: &[&[u8]],
 ) -> Result<Ended, AllocError> {
-    run_narrow(rt, &Shelf::new(), words, 100_000)
+    run_narrow(rt, &mut Shelf::new(), words, 100_000)
 }
 
 #[test]
@@ -269,7 +281,7 @@ fn a_refused_file_is_told_after_all_are_read(rt: HostRuntime) -> Result<(), Fail
 #[test]
 fn an_output_that_fails_is_told(rt: HostRuntime) -> Result<(), Fail> {
     for room in [0, 1, LEGAL.len() - 1] {
-        let ended = run_narrow(&rt, &Shelf::new(), &[], room)?;
+        let ended = run_narrow(&rt, &mut Shelf::new(), &[], room)?;
         assert_eq!(rt; ended.status, 4);
         assert_eq!(rt;
             ended.err.as_slice(),
@@ -277,7 +289,7 @@ fn an_output_that_fails_is_told(rt: HostRuntime) -> Result<(), Fail> {
         );
         assert_eq!(rt; ended.out.as_slice(), &LEGAL[..room]);
     }
-    let ended = run_narrow(&rt, &Shelf::new(), &[b"--help"], 10)?;
+    let ended = run_narrow(&rt, &mut Shelf::new(), &[b"--help"], 10)?;
     assert_eq!(rt; ended.status, 4);
     assert_eq!(rt;
         ended.err.as_slice(),
@@ -300,7 +312,7 @@ fn words_of_any_bytes_are_names(rt: HostRuntime) -> Result<(), Fail> {
     files.arch = b"\xff\xfe";
     files.net = b"";
     files.place = "\u{10FFFE}é".as_bytes();
-    let ended = run_narrow(&rt, &files, &words, 100)?;
+    let ended = run_narrow(&rt, &mut files, &words, 100)?;
     assert_eq!(rt; ended.out.as_slice(), LEGAL);
     assert_eq!(rt; ended.status, 0);
     let ended = run(&rt, &[b"ch\xffeck"])?;

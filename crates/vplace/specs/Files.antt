@@ -1,0 +1,29 @@
+-- Files by their names, as far as they are known (our own).
+use Rattle.std.specs.Prelude.{ℕ, ◌≡◌, List, [], ◌∷◌, Option, Some, None, if◌then◌else◌, codes, refl}
+use Rattle.std.specs.Str.{bytes_eq}
+
+-- what names give: the bytes of a file, where there is one
+abbrev pub Held : Type 0
+Held = List ℕ → Option (List ℕ)
+
+-- a name gave these bytes; nothing is said where the files are not known, as those of the system
+abbrev pub Gives : Option Held → List ℕ → List ℕ → Type 0
+Gives None name bytes = Unit {0}
+Gives (Some held) name bytes = held name ≡ Some bytes
+
+-- bytes were put at a name: it gives them now, and each other name gives what it gave
+abbrev pub Puts : Option Held → Option Held → List ℕ → List ℕ → Type 0
+Puts None new name bytes = Unit {0}
+Puts (Some old) None name bytes = ⊥
+Puts (Some old) (Some new) name bytes = (new name ≡ Some bytes) × ((other : List ℕ) → (other ≡ name → ⊥) → new other ≡ old other)
+
+-- files in memory: the text of the first that has the name
+abbrev pub text_among : List (List ℕ × Option (List ℕ)) → Held
+text_among [] name = None
+text_among (file ∷ files) name = if bytes_eq file.0 name then file.1 else text_among files name
+
+pub the_second_of_two : text_among ((codes "a", Some (codes "x")) ∷ (codes "b", Some (codes "y")) ∷ []) (codes "b") ≡ Some (codes "y")
+the_second_of_two = refl
+
+pub of_no_name : text_among ((codes "a", Some (codes "x")) ∷ []) (codes "b") ≡ None
+of_no_name = refl

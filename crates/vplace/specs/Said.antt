@@ -1,0 +1,27 @@
+-- What is said on standard error (our own).
+use Rattle.std.specs.Prelude.{ℕ, ◌≡◌, ◌⊎◌, List, ◌++◌, Option, codes}
+use Rattle.std.specs.Io.KnownBytes.{Appends}
+use Rattle.fab_text.specs.Failures.{grown}
+use Rattle.fab_text.specs.FaultTexts.{num_fault_text}
+use Rattle.fab_run.specs.declared.fault.RunFault.{RunFault}
+use Rattle.fab_run.specs.FaultLines.{fault_line}
+use Rattle.vplace.specs.declared.asked.Number.{Number}
+use Rattle.vplace.specs.declared.asked.Number.TheVariants.{InitT, ExitT, AlphaT}
+use Rattle.vplace.specs.declared.asked.WordFault.{WordFault}
+use Rattle.vplace.specs.declared.asked.WordFault.TheVariants.{SizeInPart, BadNumber}
+
+-- the line went out, with a line feed at its end, unless the writer failed
+abbrev pub IsSaid : List ℕ → Option (List ℕ) → Option (List ℕ) → ℕ → ℕ → Type 0
+IsSaid line old new failed_old failed_new = Appends old new (line ++ codes "\n") ⊎ (failed_new ≡ grown failed_old)
+
+abbrev pub no_memory_line : List ℕ
+no_memory_line = codes "vplace: no memory"
+
+abbrev pub option_name : Number → List ℕ
+option_name InitT = codes "init-t"
+option_name ExitT = codes "exit-t"
+option_name AlphaT = codes "alpha-t"
+
+abbrev pub word_fault_line : WordFault → List ℕ
+word_fault_line SizeInPart = codes "vplace: --nx and --ny go together"
+word_fault_line (BadNumber option fault) = codes "vplace: option " ++ option_name option ++ codes ": " ++ num_fault_text fault

@@ -1,0 +1,77 @@
+//! The place text of a run on its way to a file: it lies in memory until the run has answered, and its name is tried before the
+//! first move.
+
+ghost use Rattle.std.specs.Prelude.{◌≡◌, [], Some};
+
+use crate::files::{NamedFiles, WriteFault};
+use std::alloc::Global;
+use std::io::Write;
+
+/// The bytes of a file that is yet to be written, and the place that was taken for them.
+#[derive(Drop)]
+pub struct OutFile<'a, F: NamedFiles> {
+    pub files: &'a F,
+    pub alloc: Global,
+    pub name: &'a [u8],
+    pub text: Vec<u8>,
+    pub outlet: Option<F::Outlet>,
+    pub fault: Option<WriteFault>,
+    pub failures: u64,
+}
+
+impl<'a, F: NamedFiles> OutFile<'a, F> {
+    /// No bytes yet, and no place.
+    pub fn new(files: &'a F, alloc: Global, name: &'a [u8]) -> Self
+        ensures text { result.text.items ≡ [] }
+        ensures failures { result.failures ≡ 0 }
+    {
+        OutFile {
+            files,
+            alloc,
+            name,
+            text: Vec::new(alloc),
+            outlet: None,
+            fault: None,
+            failures: 0,
+        }
+    }
+}
+
+impl<F: NamedFiles> fab_text::Sink for OutFile<'_, F> {
+    ghost contents = { λ file. Some file.text.items };
+
+    ghost failed = { λ file. file.failures };
+
+    fn write(&mut self, bytes: &[u8]) -> Result<usize, fab_text::WriteFault> {
+        match self.text.write(bytes) {
+            Ok(taken) => {
+                if taken == 0 && !bytes.is_empty() {
+                    self.failures = self.failures.saturating_add(1);
+                }
+                Ok(taken)
+            }
+            Err(_) => {
+                self.failures = self.failures.saturating_add(1);
+                Err(fab_text::WriteFault)
+            }
+        }
+    }
+
+    fn failures(&self) -> u64 {
+        self.failures
+    }
+
+    fn is_ready(&mut self) -> bool {
+        match self.files.reserve(self.alloc, self.name) {
+            Ok(outlet) => {
+                self.outlet = Some(outlet);
+                true
+            }
+            Err(fault) => {
+                self.fault = Some(fault);
+                self.failures = self.failures.saturating_add(1);
+                false
+            }
+        }
+    }
+}
