@@ -1,7 +1,6 @@
 -- What the words of `place` ask for (our own).
 use Rattle.std.specs.Prelude.{ℕ, ◌≡◌, List, Option, Some, None, Ok, Err, codes}
 use Rattle.fab_text.specs.Decimal.{decimal_of}
-use Rattle.fab_text.specs.declared.numbers.NumFault.{NumFault}
 use Rattle.fab_sched.specs.declared.schedules.Cooling.{Cooling}
 use Rattle.fab_sched.specs.declared.schedules.Cooling.TheVariants.{Factor, Adaptive}
 use Rattle.fab_run.specs.declared.inputs.Moves.{Moves}

@@ -3,8 +3,6 @@ use Rattle.std.specs.Prelude.{ℕ, ◌≡◌, ◌⊎◌, List, ◌++◌, Option,
 use Rattle.std.specs.Io.KnownBytes.{Appends}
 use Rattle.fab_text.specs.Failures.{grown}
 use Rattle.fab_text.specs.FaultTexts.{num_fault_text}
-use Rattle.fab_run.specs.declared.fault.RunFault.{RunFault}
-use Rattle.fab_run.specs.FaultLines.{fault_line}
 use Rattle.vplace.specs.declared.asked.Number.{Number}
 use Rattle.vplace.specs.declared.asked.Number.TheVariants.{InitT, ExitT, AlphaT}
 use Rattle.vplace.specs.declared.asked.WordFault.{WordFault}

@@ -1,6 +1,4 @@
-use Rattle.std.proofs.Common.{◌≡◌, inr, rules}
-use Rattle.fab_run.specs.Setting.{Texts}
-use Rattle.vplace.specs.Placing.{AreNamed}
+use Rattle.std.proofs.Common.{inr, rules}
 use Rattle.vplace.proofs.placing.place_files.Goals as goal
 
 pub returns-clause-refused : goal.returns-clause-refused
