@@ -16,9 +16,8 @@ else_stays false x y z h = refl
 pub put_last : (arch net pads old : Option (List ℕ)) (name bytes items : List ℕ) → name ≡ codes "t.place" → items ≡ bytes
     → Puts (Some (text_among (four arch net pads old))) (Some (text_among (four arch net pads (Some items)))) name bytes
 put_last arch net pads old name bytes items is same =
-    let here : text_among (four arch net pads (Some items)) (codes "t.place") ≡ Some bytes = ap (λ (l : List ℕ). Some l) same in
-    (
+    let here : text_among (four arch net pads (Some items)) (codes "t.place") ≡ Some bytes = ap (λ (l : List ℕ). Some l) same in (
       subst (λ n. text_among (four arch net pads (Some items)) n ≡ Some bytes) (sym is) here,
       λ other h. ap (λ t. if bytes_eq (codes "t.arch") other then arch else if bytes_eq (codes "t.net") other then net else if bytes_eq (codes "t.pads") other then pads else t)
-      (else_stays (bytes_eq (codes "t.place") other) old (Some items) None (λ q. h (sym (same_name (codes "t.place") other q) ∙ sym is)))
+          (else_stays (bytes_eq (codes "t.place") other) old (Some items) None (λ q. h (sym (same_name (codes "t.place") other q) ∙ sym is))),
     )

@@ -3,6 +3,8 @@ use Rattle.std.specs.Prelude.{ℕ, ◌≡◌, ◌⊎◌, List, ◌++◌, Option,
 use Rattle.std.specs.Io.KnownBytes.{Appends}
 use Rattle.fab_text.specs.Failures.{grown}
 use Rattle.fab_text.specs.FaultTexts.{num_fault_text}
+use Rattle.vplace.specs.declared.messages.Role.{Role}
+use Rattle.vplace.specs.declared.messages.Role.TheVariants.{Arch, Net, Pads, Place}
 use Rattle.vplace.specs.declared.asked.Number.{Number}
 use Rattle.vplace.specs.declared.asked.Number.TheVariants.{InitT, ExitT, AlphaT}
 use Rattle.vplace.specs.declared.asked.WordFault.{WordFault}
@@ -14,6 +16,12 @@ IsSaid line old new failed_old failed_new = Appends old new (line ++ codes "\n")
 
 abbrev pub no_memory_line : List ℕ
 no_memory_line = codes "vplace: no memory"
+
+abbrev pub unreadable_line : Role → List ℕ
+unreadable_line Arch = codes "vplace: cannot read arch"
+unreadable_line Net = codes "vplace: cannot read net"
+unreadable_line Pads = codes "vplace: cannot read pads"
+unreadable_line Place = codes "vplace: cannot read place"
 
 abbrev pub option_name : Number → List ℕ
 option_name InitT = codes "init-t"

@@ -1,10 +1,11 @@
 //! What is said on standard error: one line for each fault, and the status that goes with it.
 
-ghost use Rattle.std.specs.Prelude.{◌≡◌, ◌≢◌, ◌⊎◌, codes};
+ghost use Rattle.std.specs.Prelude.{◌≡◌, ◌≢◌, ◌⊎◌, ◌++◌, IfOk, codes};
+ghost use Rattle.std.specs.String.{string_bytes};
 ghost use Rattle.fab_file.specs.declared.fault.PlaceFault.TheVariants.{Write};
 ghost use Rattle.fab_run.specs.declared.fault.RunFault.TheVariants.{Place, Report};
 ghost use Rattle.fab_run.specs.FaultLines.{fault_line as line_of_fault};
-ghost use Rattle.vplace.specs.Said.{IsSaid, no_memory_line, word_fault_line};
+ghost use Rattle.vplace.specs.Said.{IsSaid, no_memory_line, option_name as name_of_option, unreadable_line, word_fault_line};
 ghost use Rattle.vplace.specs.Status.{status_of};
 
 use crate::asked::{Number, WordFault};
@@ -33,7 +34,8 @@ pub enum Role {
 
 /// Says that the file of a role cannot be read.
 pub fn unreadable<E: Sink>(err: &mut E, role: Role) -> Status
-    ensures { result ≡ Status.Device }
+    ensures status { result ≡ Status.Device }
+    ensures said { IsSaid (unreadable_line role) (E.contents err.old) (E.contents err.new) (E.failed err.old) (E.failed err.new) }
 {
     let line: &[u8] = match role {
         Role::Arch => b"vplace: cannot read arch\n",
@@ -47,7 +49,8 @@ pub fn unreadable<E: Sink>(err: &mut E, role: Role) -> Status
 
 /// Says that the report cannot be written.
 pub fn unwritable_report<E: Sink>(err: &mut E) -> Status
-    ensures { result ≡ Status.Device }
+    ensures status { result ≡ Status.Device }
+    ensures said { IsSaid (codes "vplace: cannot write report") (E.contents err.old) (E.contents err.new) (E.failed err.old) (E.failed err.new) }
 {
     let _ = write_whole(err, b"vplace: cannot write report\n");
     Status::Device
@@ -55,13 +58,16 @@ pub fn unwritable_report<E: Sink>(err: &mut E) -> Status
 
 /// Says that the placement cannot be written.
 pub fn unwritable_place<E: Sink>(err: &mut E) -> Status
-    ensures { result ≡ Status.Device }
+    ensures status { result ≡ Status.Device }
+    ensures said { IsSaid (codes "vplace: cannot write place") (E.contents err.old) (E.contents err.new) (E.failed err.old) (E.failed err.new) }
 {
     let _ = write_whole(err, b"vplace: cannot write place\n");
     Status::Device
 }
 
-fn option_name(option: Number) -> &'static str {
+fn option_name(option: Number) -> &'static str
+    ensures { result.now ≡ name_of_option option }
+{
     match option {
         Number::InitT => "init-t",
         Number::ExitT => "exit-t",
@@ -69,7 +75,9 @@ fn option_name(option: Number) -> &'static str {
     }
 }
 
-fn word_fault_text(alloc: Global, fault: WordFault) -> Result<String, AllocError> {
+fn word_fault_text(alloc: Global, fault: WordFault) -> Result<String, AllocError>
+    ensures { IfOk result (λ text. string_bytes text ≡ word_fault_line fault ++ codes "\n") }
+{
     match fault {
         WordFault::SizeInPart => String::from_str(alloc, "vplace: --nx and --ny go together\n"),
         WordFault::BadNumber(option, fault) => {
@@ -81,7 +89,8 @@ fn word_fault_text(alloc: Global, fault: WordFault) -> Result<String, AllocError
 
 /// Says what is wrong with the words of `place`.
 pub fn word_fault<E: Sink>(alloc: Global, err: &mut E, fault: WordFault) -> Status
-    ensures { (result ≡ Status.CommandLine) ⊎ (result ≡ Status.NoMemory) }
+    ensures status { (result ≡ Status.CommandLine) ⊎ (result ≡ Status.NoMemory) }
+    ensures said { ((result ≡ Status.CommandLine) × IsSaid (word_fault_line fault) (E.contents err.old) (E.contents err.new) (E.failed err.old) (E.failed err.new)) ⊎ ((result ≡ Status.NoMemory) × IsSaid no_memory_line (E.contents err.old) (E.contents err.new) (E.failed err.old) (E.failed err.new)) }
 {
     match word_fault_text(alloc, fault) {
         Ok(line) => {
@@ -95,6 +104,8 @@ pub fn word_fault<E: Sink>(alloc: Global, err: &mut E, fault: WordFault) -> Stat
 /// Says why a run gave no answer. `net` is the netlist text in which the span of a fault lies.
 pub fn run_fault<E: Sink>(alloc: Global, err: &mut E, fault: &RunFault, net: &[u8]) -> Status
     ensures status { (result ≡ status_of fault.now) ⊎ (result ≡ Status.NoMemory) }
+    // The line of the fault went out, or that there was no memory for it.
+    ensures said { ((result ≡ status_of fault.now) × IsSaid (line_of_fault fault.now net.now) (E.contents err.old) (E.contents err.new) (E.failed err.old) (E.failed err.new)) ⊎ ((result ≡ Status.NoMemory) × IsSaid no_memory_line (E.contents err.old) (E.contents err.new) (E.failed err.old) (E.failed err.new)) }
     ensures open { result ≢ Status.Done }
     ensures device { result ≡ Status.Device → (fault.now ≡ Report) ⊎ (fault.now ≡ Place Write) }
 {

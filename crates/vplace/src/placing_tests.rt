@@ -6,7 +6,7 @@ ghost use Rattle.vplace.specs.Files.{text_among};
 use crate::files::{NamedFiles, ReadFault, WriteFault};
 use crate::program::program;
 use crate::run_tests::{ARCH, NET, PADS, PLACE, REPORT};
-use fab_text::Counted;
+use fab_text::{Counted, Sink, write_whole};
 use std::alloc::{AllocError, Global};
 use std::cell::Cell;
 use std::sync::Wait;
@@ -195,5 +195,16 @@ fn a_disk_that_is_full_by_then_is_told_at_the_end(rt: HostRuntime) -> Result<(),
     let left = run(&rt, words.as_slice())?;
     let wanted = [b"4\n".as_slice(), REPORT, b"vplace: cannot write place\n"].concat(rt.alloc())?;
     assert_eq!(rt; left, wanted);
+    Ok(())
+}
+
+// More than a pipe or a page cache takes at once.
+#[test]
+fn a_long_text_is_written_whole(rt: HostRuntime) -> Result<(), Fail> {
+    let text = vec![in rt.alloc(); b'x'; 200_000]?;
+    let mut out = Counted::new(Vec::new(rt.alloc()));
+    write_whole(&mut out, text.as_slice())?;
+    assert_eq!(rt; out.failures(), 0);
+    assert_eq!(rt; out.into_inner(), text);
     Ok(())
 }
