@@ -85,7 +85,9 @@ fn check_command<'a>(alloc: Global) -> Result<Command<'a>, AllocError> {
 fn vplace_command<'a>(alloc: Global) -> Result<Command<'a>, AllocError> {
     Command::new(alloc, NAME)
         .version(VERSION)
+        // Words without a command are wrong; no words at all are not.
         .subcommand_required(true)
+        .override_usage("vplace [COMMAND]")
         .about(ABOUT)
         .after_help(AFTER)
         .subcommand(place_command(alloc)?)?
