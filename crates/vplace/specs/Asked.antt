@@ -1,5 +1,5 @@
 -- What the words of `place` ask for (our own).
-use Rattle.std.specs.Prelude.{ℕ, ◌≡◌, List, Option, Some, None, Ok, Err, codes}
+use Rattle.std.specs.Prelude.{ℕ, ◌≡◌, List, Option, Some, None, Ok, Err, codes, refl}
 use Rattle.fab_text.specs.Decimal.{decimal_of}
 use Rattle.fab_sched.specs.declared.schedules.Cooling.{Cooling}
 use Rattle.fab_sched.specs.declared.schedules.Cooling.TheVariants.{Factor, Adaptive}
@@ -16,6 +16,12 @@ abbrev pub size_asked : Option ℕ → Option ℕ → Option (Option (ℕ × ℕ
 size_asked (Some nx) (Some ny) = Some (Some (nx, ny))
 size_asked None None = Some None
 size_asked nx ny = None
+
+pub columns_alone : size_asked (Some 3) None ≡ None
+columns_alone = refl
+
+pub no_size : size_asked None None ≡ Some None
+no_size = refl
 
 -- the text asks for this cooling: by the word `adaptive`, else by a factor with at most three places
 abbrev pub IsCoolingAsked : List ℕ → Cooling → Type 0

@@ -3,3 +3,4 @@ pub mod Asked
 pub mod Files
 pub mod Placing
 pub mod Said
+pub mod Given

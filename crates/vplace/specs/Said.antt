@@ -1,8 +1,9 @@
 -- What is said on standard error (our own).
-use Rattle.std.specs.Prelude.{ℕ, ◌≡◌, ◌⊎◌, List, ◌++◌, Option, codes}
+use Rattle.std.specs.Prelude.{ℕ, ◌≡◌, ◌⊎◌, List, ◌++◌, Option, codes, refl}
 use Rattle.std.specs.Io.KnownBytes.{Appends}
 use Rattle.fab_text.specs.Failures.{grown}
 use Rattle.fab_text.specs.FaultTexts.{num_fault_text}
+use Rattle.fab_text.specs.declared.numbers.NumFault.TheVariants.{BadDigit}
 use Rattle.vplace.specs.declared.messages.Role.{Role}
 use Rattle.vplace.specs.declared.messages.Role.TheVariants.{Arch, Net, Pads, Place}
 use Rattle.vplace.specs.declared.asked.Number.{Number}
@@ -31,3 +32,6 @@ option_name AlphaT = codes "alpha-t"
 abbrev pub word_fault_line : WordFault → List ℕ
 word_fault_line SizeInPart = codes "vplace: --nx and --ny go together"
 word_fault_line (BadNumber option fault) = codes "vplace: option " ++ option_name option ++ codes ": " ++ num_fault_text fault
+
+pub a_factor_with_letters : word_fault_line (BadNumber AlphaT BadDigit) ≡ codes "vplace: option alpha-t: U1 BadDigit"
+a_factor_with_letters = refl

@@ -1,5 +1,9 @@
 //! The options of `place`.
 
+ghost use Rattle.std.specs.Prelude.{◌≡◌, IfOk};
+ghost use Rattle.clap.specs.Words.{found_of};
+ghost use Rattle.vplace.specs.Given.{AreGivenBy, GivesDefault, GivesNumber, GivesText};
+
 use crate::asked::PlaceWords;
 use crate::flags::{file_name, file_option};
 use clap::{Arg, ArgAction, ArgMatches, Command, value_parser};
@@ -138,25 +142,51 @@ fn optional_name(
     Ok(Some(file_name(alloc, matches, option)?))
 }
 
-// The number of an option that has a default.
-fn number(matches: &ArgMatches<'_>, option: &str) -> u64 {
-    matches.get_one::<u64>(option).unwrap_or(0)
+// The number of an option.
+fn whole(matches: &ArgMatches<'_>, option: &str) -> Option<u64>
+    ensures { GivesNumber 64 (found_of matches.now) option.now result }
+{
+    matches.get_one::<u64>(option)
 }
 
-pub fn place_words(alloc: Global, matches: &ArgMatches<'_>) -> Result<PlaceWords, AllocError> {
+// The number of an option that counts columns or rows.
+fn side(matches: &ArgMatches<'_>, option: &str) -> Option<u16>
+    ensures { GivesNumber 16 (found_of matches.now) option.now result }
+{
+    matches.get_one::<u16>(option)
+}
+
+// The number of an option that has a default.
+fn number(matches: &ArgMatches<'_>, option: &str) -> u64
+    ensures { GivesDefault (found_of matches.now) option.now result }
+{
+    whole(matches, option).unwrap_or(0)
+}
+
+// The text of an option that has a default.
+fn text(alloc: Global, matches: &ArgMatches<'_>, option: &str) -> Result<Vec<u8>, AllocError>
+    ensures { IfOk result (λ text. GivesText (found_of matches.now) option.now text.items) }
+{
+    Vec::from_slice(alloc, matches.get_str(option).unwrap_or("").as_bytes())
+}
+
+/// What the options say.
+pub fn place_words(alloc: Global, matches: &ArgMatches<'_>) -> Result<PlaceWords, AllocError>
+    ensures { IfOk result (AreGivenBy (found_of matches.now)) }
+{
     Ok(PlaceWords {
         arch: file_name(alloc, matches, "arch")?,
         net: file_name(alloc, matches, "net")?,
         out: file_name(alloc, matches, "out")?,
         pads: optional_name(alloc, matches, "pads")?,
-        nx: matches.get_one::<u16>("nx"),
-        ny: matches.get_one::<u16>("ny"),
+        nx: side(matches, "nx"),
+        ny: side(matches, "ny"),
         seed: number(matches, "seed"),
-        init_t: file_name(alloc, matches, "init-t")?,
-        exit_t: file_name(alloc, matches, "exit-t")?,
-        alpha_t: file_name(alloc, matches, "alpha-t")?,
+        init_t: text(alloc, matches, "init-t")?,
+        exit_t: text(alloc, matches, "exit-t")?,
+        alpha_t: text(alloc, matches, "alpha-t")?,
         inner: number(matches, "inner"),
-        moves: matches.get_one::<u64>("moves"),
+        moves: whole(matches, "moves"),
         batch: number(matches, "batch"),
         workers: number(matches, "workers"),
     })
