@@ -15,7 +15,7 @@ pub enum ReadFault {
     NoMemory,
 }
 
-/// Why a file was not written. Where it is a plain file, what lay there before still does.
+/// Why a file was not written.
 #[derive(Clone, Copy, Debug, PartialEq, Eq)]
 pub enum WriteFault {
     /// The system makes no such file, or does not take its bytes.
@@ -49,7 +49,7 @@ pub trait NamedFiles {
     /// Finds out whether bytes can be put at a name, and takes a place for them. At the name itself nothing is made.
     fn reserve(&self, alloc: Global, name: &[u8]) -> Result<Self::Outlet, WriteFault>;
 
-    /// Puts bytes at the name that the place was taken for, instead of all that it gave. A fault leaves what is there.
+    /// Puts bytes at the name that the place was taken for, instead of all that it gave.
     fn put(&mut self, name: &[u8], outlet: Self::Outlet, bytes: &[u8]) -> Result<(), WriteFault>
         ensures put { OnOk result (Puts (held self.old) (held self.new) name.now bytes.now) }
         ensures kept { OnErr result (held self.new ≡ held self.old) };

@@ -7,7 +7,7 @@ ghost use Rattle.std.specs.Io.KnownBytes.{Appends};
 use crate::files::{NamedFiles, ReadFault, WriteFault};
 use fab_text::{Counted, Sink, write_whole};
 use std::alloc::Global;
-use std::fs::{File, Metadata, OpenOptions, TryLockError};
+use std::fs::{File, Metadata, OpenOptions, Permissions, TryLockError};
 use std::io::{Error, ErrorKind};
 use std::os::unix::fs::{FileTypeExt, MetadataExt};
 use std::{fs, str};
@@ -73,11 +73,11 @@ impl NamedFiles for HostFiles<'_> {
         };
         let (target, found) = self.end_of_links(alloc, name)?;
         let Some(found) = found else {
-            return self.place_beside(alloc, target, false);
+            return self.place_beside(alloc, target, None);
         };
         if found.is_file() && !is_open_file(target.as_str()) {
             self.stop_unless_writable(target.as_str())?;
-            return self.place_beside(alloc, target, true);
+            return self.place_beside(alloc, target, Some(found.permissions()));
         }
         // A pipe is not opened before there are bytes for it: it would wait for a reader.
         if !found.file_type().is_fifo() {
@@ -95,7 +95,9 @@ impl NamedFiles for HostFiles<'_> {
 
     fn release(&self, outlet: Outlet) {
         if let Outlet::Beside(beside) = outlet {
-            let _ = fs::remove_file(self.rt, beside.name.as_str());
+            if self.is_at(&beside.file, beside.name.as_str()) {
+                let _ = fs::remove_file(self.rt, beside.name.as_str());
+            }
         }
     }
 }
@@ -112,7 +114,7 @@ fn written<W: Sink + Drop>(mut out: W, bytes: &[u8]) -> Result<W, WriteFault>
 
 // Whether the name is that of an open file of a process, as /dev/stdout leads to. Its writer may have put bytes there already.
 fn is_open_file(name: &str) -> bool {
-    name.starts_with("/proc/") || name.starts_with("/dev/fd/")
+    name.starts_with("/dev/fd/") || name.starts_with("/proc/") && name.contains("/fd/")
 }
 
 // The folder of a name, with its slash; nothing for one in the working folder.
@@ -166,53 +168,83 @@ impl HostFiles<'_> {
         }
     }
 
-    // A new file beside the target. Where the folder takes none, or none with so long a name, the target is written itself.
+    // A new file beside the target, with its mode before it has a byte. Where the folder takes none, or none with so long a name, the
+    // target is written itself.
     fn place_beside(
         &self,
         alloc: Global,
         target: String,
-        is_there: bool,
+        mode: Option<Permissions>,
     ) -> Result<Outlet, WriteFault> {
         for number in 0..MOST_BESIDE {
             let name = beside_name(alloc, target.as_str(), number)?;
-            match self.locked(name.as_str()) {
-                Ok(Some(file)) => return Ok(Outlet::Beside(Beside { file, name, target })),
+            match self.fresh(name.as_str()) {
+                Ok(Some(file)) => return self.with_mode(Beside { file, name, target }, mode),
                 Ok(None) => {}
-                Err(error) => {
-                    let is_closed = matches!(
-                        error.kind(),
-                        ErrorKind::PermissionDenied | ErrorKind::ReadOnlyFilesystem
-                    );
-                    let is_long = error.kind() == ErrorKind::InvalidFilename;
-                    if is_long || is_there && is_closed {
-                        return Ok(Outlet::InPlace(target));
-                    }
-                    return Err(WriteFault::of(&error));
+                Err(error) if must_be_in_place(error.kind(), mode.is_some()) => {
+                    return Ok(Outlet::InPlace(target));
                 }
+                Err(error) => return Err(WriteFault::of(&error)),
             }
         }
         Err(WriteFault::Unwritable)
     }
 
-    // An empty file of this name under a lock; none where another run holds it, or where something else has the name. One that a
-    // killed run left is taken over.
-    fn locked(&self, name: &str) -> Result<Option<File>, Error> {
-        if let Ok(found) = fs::symlink_metadata(self.rt, name) {
-            if !found.is_file() {
-                return Ok(None);
+    fn with_mode(&self, beside: Beside, mode: Option<Permissions>) -> Result<Outlet, WriteFault> {
+        if let Some(mode) = mode {
+            if let Err(error) = beside.file.set_permissions(mode) {
+                let _ = fs::remove_file(self.rt, beside.name.as_str());
+                return Err(WriteFault::of(&error));
             }
         }
-        let file = OpenOptions::new()
-            .write(true)
-            .create(true)
-            .open(self.rt, name)?;
-        // A file system without locks is used without.
-        let is_in_use = matches!(file.try_lock(), Err(TryLockError::WouldBlock));
-        if is_in_use || !self.is_at(&file, name) {
+        Ok(Outlet::Beside(beside))
+    }
+
+    // A new file of this name under a lock; none where another run uses the one that is there, or where something else has the name.
+    // One that a killed run left is removed first, so that the new one belongs to who runs this.
+    fn fresh(&self, name: &str) -> Result<Option<File>, Error> {
+        match self.create(name) {
+            Err(error) if error.kind() == ErrorKind::AlreadyExists => {}
+            made => return self.locked(made?, name),
+        }
+        if !self.remove_left(name) {
             return Ok(None);
         }
-        file.set_len(0)?;
+        match self.create(name) {
+            Err(error) if error.kind() == ErrorKind::AlreadyExists => Ok(None),
+            made => self.locked(made?, name),
+        }
+    }
+
+    fn create(&self, name: &str) -> Result<File, Error> {
+        OpenOptions::new()
+            .write(true)
+            .create_new(true)
+            .open(self.rt, name)
+    }
+
+    // Another run may have taken a new file for one that was left, and removed it.
+    fn locked(&self, file: File, name: &str) -> Result<Option<File>, Error> {
+        if is_in_use(&file) || !self.is_at(&file, name) {
+            return Ok(None);
+        }
         Ok(Some(file))
+    }
+
+    // Removes a plain file that no run uses, and says whether it did.
+    fn remove_left(&self, name: &str) -> bool {
+        match fs::symlink_metadata(self.rt, name) {
+            Ok(found) if found.is_file() => {}
+            _ => return false,
+        }
+        match File::open(self.rt, name) {
+            Ok(file) => {
+                !is_in_use(&file)
+                    && self.is_at(&file, name)
+                    && fs::remove_file(self.rt, name).is_ok()
+            }
+            Err(_) => false,
+        }
     }
 
     // Whether the name still is that of the open file: the run that held the lock before may have renamed it meanwhile.
@@ -223,36 +255,43 @@ impl HostFiles<'_> {
         }
     }
 
+    // Where the file beside cannot take the place (the target is a mount point, or another user's in a sticky folder, or somebody
+    // removed the file), the target itself is written.
     fn replace(&self, beside: Beside, bytes: &[u8]) -> Result<(), WriteFault> {
         let Beside { file, name, target } = beside;
         // The lock is held until what is left of a failed write is gone.
-        let lock = file.try_clone().map_err(|error| WriteFault::of(&error));
-        let made = match &lock {
-            Ok(_) => self.fill_and_rename(file, name.as_str(), target.as_str(), bytes),
-            Err(fault) => Err(*fault),
-        };
-        if made.is_err() {
+        let lock = file.try_clone().map_err(|error| WriteFault::of(&error))?;
+        let filled = self.fill(file, bytes);
+        let is_there = self.is_at(&lock, name.as_str());
+        let is_renamed = filled.is_ok()
+            && is_there
+            && self.is_replaceable(target.as_str())
+            && fs::rename(self.rt, name.as_str(), target.as_str()).is_ok();
+        if is_renamed {
+            self.sync_folder(target.as_str());
+            return Ok(());
+        }
+        if is_there {
             let _ = fs::remove_file(self.rt, name.as_str());
         }
-        made
+        filled?;
+        if !self.is_replaceable(target.as_str()) {
+            return Err(WriteFault::Unwritable);
+        }
+        self.overwrite(target.as_str(), bytes)
     }
 
-    fn fill_and_rename(
-        &self,
-        file: File,
-        name: &str,
-        target: &str,
-        bytes: &[u8],
-    ) -> Result<(), WriteFault> {
+    fn fill(&self, file: File, bytes: &[u8]) -> Result<(), WriteFault> {
         let file = written(Counted::new(file), bytes)?.into_inner();
-        if let Ok(found) = fs::symlink_metadata(self.rt, target) {
-            file.set_permissions(found.permissions())
-                .map_err(|error| WriteFault::of(&error))?;
+        file.sync_all().map_err(|error| WriteFault::of(&error))
+    }
+
+    // Whether the name is that of a plain file or of none: it may have become another's in the hours of a run.
+    fn is_replaceable(&self, target: &str) -> bool {
+        match fs::symlink_metadata(self.rt, target) {
+            Ok(found) => found.is_file(),
+            Err(error) => error.kind() == ErrorKind::NotFound,
         }
-        file.sync_all().map_err(|error| WriteFault::of(&error))?;
-        fs::rename(self.rt, name, target).map_err(|error| WriteFault::of(&error))?;
-        self.sync_folder(target);
-        Ok(())
     }
 
     // The file is whole by now. A system that cannot sync a folder keeps the name in its own time.
@@ -282,6 +321,21 @@ impl HostFiles<'_> {
     }
 }
 
+// Whether the target is written itself where no file beside it can be made: where it is there and its folder is closed, or where the
+// name beside would be too long.
+fn must_be_in_place(kind: ErrorKind, is_there: bool) -> bool {
+    match kind {
+        ErrorKind::InvalidFilename => true,
+        ErrorKind::PermissionDenied | ErrorKind::ReadOnlyFilesystem => is_there,
+        _ => false,
+    }
+}
+
+// Whether another run holds the lock of a file, which this run now has else. A file system without locks is used without.
+fn is_in_use(file: &File) -> bool {
+    matches!(file.try_lock(), Err(TryLockError::WouldBlock))
+}
+
 fn text_of(alloc: Global, text: &str) -> Result<String, WriteFault> {
     String::from_str(alloc, text).map_err(|_| WriteFault::NoMemory)
 }
@@ -289,8 +343,8 @@ fn text_of(alloc: Global, text: &str) -> Result<String, WriteFault> {
 // The name of the file beside, and of those that are tried where other runs use it.
 fn beside_name(alloc: Global, target: &str, number: u32) -> Result<String, WriteFault> {
     let name = match number {
-        0 => format!(in alloc; "{target}.part"),
-        _ => format!(in alloc; "{target}.{number}.part"),
+        0 => format!(in alloc; "{target}.vplace-part"),
+        _ => format!(in alloc; "{target}.vplace-part{number}"),
     };
     name.map_err(|_| WriteFault::NoMemory)
 }

@@ -4,6 +4,7 @@ ghost use Rattle.std.specs.Prelude.{Some, [], ◌∷◌, option_map, codes};
 ghost use Rattle.vplace.specs.Files.{text_among};
 
 use crate::files::{NamedFiles, ReadFault, WriteFault};
+use crate::narrow::Narrow;
 use crate::program::program;
 use crate::run_tests::{ARCH, NET, PADS, PLACE, REPORT};
 use fab_text::{Counted, Sink, write_whole};
@@ -61,7 +62,8 @@ impl NamedFiles for Desk {
         Ok(self.taken.get())
     }
 
-    fn put(&mut self, name: &[u8], _outlet: u32, bytes: &[u8]) -> Result<(), WriteFault> {
+    fn put(&mut self, name: &[u8], outlet: u32, bytes: &[u8]) -> Result<(), WriteFault> {
+        self.release(outlet);
         if name == b"huge".as_slice() {
             return Err(WriteFault::NoMemory);
         }
@@ -87,6 +89,15 @@ fn run(
     rt: &(impl AllocGlobal + Threads + Wait + Sync),
     words: &[&[u8]],
 ) -> Result<Vec<u8>, AllocError> {
+    run_narrow(rt, words, 100_000)
+}
+
+// The same where the output takes so many bytes.
+fn run_narrow(
+    rt: &(impl AllocGlobal + Threads + Wait + Sync),
+    words: &[&[u8]],
+    room: usize,
+) -> Result<Vec<u8>, AllocError> {
     let alloc = rt.alloc();
     let mut desk = Desk {
         arch: ARCH,
@@ -100,14 +111,21 @@ fn run(
     for word in words {
         given.push(Vec::from_slice(alloc, word)?)?;
     }
-    let mut out = Counted::new(Vec::new(alloc));
+    let mut out = Counted::new(Narrow {
+        taken: Vec::new(alloc),
+        room,
+    });
     let mut err = Counted::new(Vec::new(alloc));
     let status = program(rt, given.as_slice(), &mut desk, &mut out, &mut err);
     let mut left = Vec::new(alloc);
     left.push(b'0'.saturating_add(status))?;
     left.push(b'\n')?;
-    left.extend_from_slice(&out.into_inner())?;
+    left.extend_from_slice(&out.into_inner().taken)?;
     left.extend_from_slice(&err.into_inner())?;
+    // Each place that was taken was given up, or written.
+    if desk.taken.get() != 0 {
+        left.extend_from_slice(b"a place is left")?;
+    }
     if let Some(placed) = desk.placed {
         left.extend_from_slice(&placed)?;
     }
@@ -206,5 +224,15 @@ fn a_long_text_is_written_whole(rt: HostRuntime) -> Result<(), Fail> {
     write_whole(&mut out, text.as_slice())?;
     assert_eq!(rt; out.failures(), 0);
     assert_eq!(rt; out.into_inner(), text);
+    Ok(())
+}
+
+#[test]
+fn a_run_that_fails_on_its_way_gives_its_place_up(rt: HostRuntime) -> Result<(), Fail> {
+    let room = HEAD.len() + 5;
+    let left = run_narrow(&rt, WORDS.as_slice(), room)?;
+    let begun = &REPORT[..room];
+    let wanted = [b"4\n".as_slice(), begun, b"vplace: cannot write report\n"].concat(rt.alloc())?;
+    assert_eq!(rt; left, wanted);
     Ok(())
 }
