@@ -4,3 +4,4 @@ pub mod Files
 pub mod Placing
 pub mod Said
 pub mod Given
+pub mod Done

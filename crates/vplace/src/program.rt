@@ -1,7 +1,7 @@
 //! The whole program over its words, its files and its two outputs, so that a test can run it in memory.
 
-ghost use Rattle.std.specs.Prelude.{◌≡◌, ◌⊎◌, ℕ, []};
-ghost use Rattle.fab_run.specs.Check.{IsReported};
+ghost use Rattle.std.specs.Prelude.{◌≡◌, ◌⊎◌, []};
+ghost use Rattle.vplace.specs.Done.{IsChecked, IsExample, IsPlaced, IsTold};
 ghost use Rattle.vplace.specs.Status.{IsRefused};
 
 use crate::checking::{check_files, check_texts};
@@ -30,6 +30,7 @@ fn tell<O: Sink, E: Sink>(alloc: Global, error: &Error, out: &mut O, err: &mut E
     ensures silent { IsRefused result → O.contents out.new ≡ O.contents out.old }
     ensures written { result ≡ Status.Done → O.failed out.new ≡ O.failed out.old }
     ensures quiet { result ≡ Status.Done → E.contents err.new ≡ E.contents err.old }
+    ensures told { result ≡ Status.Done → IsTold (O.contents out.old) (O.contents out.new) }
 {
     if error.kind() == ErrorKind::OutOfMemory {
         return messages::no_memory(err);
@@ -40,6 +41,10 @@ fn tell<O: Sink, E: Sink>(alloc: Global, error: &Error, out: &mut O, err: &mut E
     if error.use_stderr() {
         let _ = write_whole(err, text.as_slice());
         return Status::CommandLine;
+    }
+    // What was asked for is never nothing.
+    if text.is_empty() {
+        return messages::no_memory(err);
     }
     match write_whole(out, text.as_slice()) {
         Ok(()) => Status::Done,
@@ -58,7 +63,8 @@ fn run<R: AllocGlobal + Threads + Wait + Sync, F: NamedFiles, O: Sink, E: Sink>(
     ensures silent { IsRefused result → O.contents out.new ≡ O.contents out.old }
     ensures written { result ≡ Status.Done → O.failed out.new ≡ O.failed out.old }
     ensures quiet { result ≡ Status.Done → E.contents err.new ≡ E.contents err.old }
-    ensures example { words.now ≡ [] → result ≡ Status.Done → (cost : ℕ) × IsReported ARCH.now NET.now PLACE.now cost (O.contents out.old) (O.contents out.new) }
+    ensures example { words.now ≡ [] → result ≡ Status.Done → IsExample ARCH.now NET.now PLACE.now (O.contents out.old) (O.contents out.new) }
+    ensures done { result ≡ Status.Done → IsTold (O.contents out.old) (O.contents out.new) ⊎ (IsExample ARCH.now NET.now PLACE.now (O.contents out.old) (O.contents out.new) ⊎ (IsChecked (F.held files.old) (O.contents out.old) (O.contents out.new) ⊎ IsPlaced (F.held files.old) (F.held files.new) (O.contents out.old) (O.contents out.new))) }
 {
     let alloc = rt.alloc();
     match parse_words(alloc, words) {
@@ -86,7 +92,11 @@ pub fn program<R: AllocGlobal + Threads + Wait + Sync, F: NamedFiles, O: Sink, E
     ensures quiet { result ≡ 0 → E.contents err.new ≡ E.contents err.old }
 
     // With no words it is 0 only where the report of the check of the built-in texts went out.
-    ensures example { words.now ≡ [] → result ≡ 0 → (cost : ℕ) × IsReported ARCH.now NET.now PLACE.now cost (O.contents out.old) (O.contents out.new) }
+    ensures example { words.now ≡ [] → result ≡ 0 → IsExample ARCH.now NET.now PLACE.now (O.contents out.old) (O.contents out.new) }
+
+    // In all, 0 says that what was asked for went out: help or the version, the report of the built-in check or of one of named files,
+    // or the report of a run of named files, whose placement then lies at the out name.
+    ensures done { result ≡ 0 → IsTold (O.contents out.old) (O.contents out.new) ⊎ (IsExample ARCH.now NET.now PLACE.now (O.contents out.old) (O.contents out.new) ⊎ (IsChecked (F.held files.old) (O.contents out.old) (O.contents out.new) ⊎ IsPlaced (F.held files.old) (F.held files.new) (O.contents out.old) (O.contents out.new))) }
 {
     run(rt, words, files, out, err).code()
 }

@@ -1,0 +1,29 @@
+-- What a run of the program that ended with 0 did (our own).
+use Rattle.std.specs.Prelude.{ℕ, ◌<◌, ◌⊎◌, List, Option, length}
+use Rattle.std.specs.Io.KnownBytes.{Appends}
+use Rattle.fab_run.specs.Check.{IsReported}
+use Rattle.fab_run.specs.Setting.{Texts}
+use Rattle.fab_run.specs.declared.inputs.Options.{Options}
+use Rattle.vplace.specs.declared.asked.PlaceWords.{PlaceWords}
+use Rattle.vplace.specs.declared.checking.CheckNames.{CheckNames}
+use Rattle.vplace.specs.Asked.{AreAsked}
+use Rattle.vplace.specs.Files.{Held, Puts}
+use Rattle.vplace.specs.Placing.{AreGiven, AreNamed, IsPlacedText}
+
+-- some text went out: help, or the version
+abbrev pub IsTold : Option (List ℕ) → Option (List ℕ) → Type 0
+IsTold old new = (text : List ℕ) × (0 < length text) × Appends old new text
+
+-- the report of a check of named files went out
+abbrev pub IsChecked : Option Held → Option (List ℕ) → Option (List ℕ) → Type 0
+IsChecked held old new =
+    (names : CheckNames) × (arch : List ℕ) × (net : List ℕ) × (place : List ℕ) × (cost : ℕ) × AreGiven held names arch net place × IsReported arch net place cost old new
+
+-- the report of a run of named files went out, and the text of its placement was put at the out name
+abbrev pub IsPlaced : Option Held → Option Held → Option (List ℕ) → Option (List ℕ) → Type 0
+IsPlaced held held_new old new =
+    (words : PlaceWords) × (t : Texts) × (o : Options) × (text : List ℕ) × AreNamed held words t × AreAsked words o × IsPlacedText t o old new text × Puts held held_new words.out.items text
+
+-- the report of a check of these texts went out
+abbrev pub IsExample : List ℕ → List ℕ → List ℕ → Option (List ℕ) → Option (List ℕ) → Type 0
+IsExample arch net place old new = (cost : ℕ) × IsReported arch net place cost old new
