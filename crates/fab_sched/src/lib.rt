@@ -3,7 +3,11 @@
 
 pub mod fault;
 pub mod move_count;
+#[cfg(test)]
+mod schedule_tests;
 pub mod schedules;
+#[cfg(test)]
+mod tests;
 
 pub use fault::SchedFault;
 pub use move_count::moves_of;

@@ -3,7 +3,7 @@
 ghost use Rattle.std.specs.Prelude.{◌≡◌, ℕ, ◌↔◌, ◌+◌, ◌*◌, ◌<◌, ◌≤◌, ◌^◌, None, Some, IsOk, IsTrue, IfOk, IfErr, IfSome};
 ghost use Rattle.fab_sched.specs.declared.schedules.Cooling.TheVariants.{Factor, Adaptive};
 ghost use Rattle.fab_sched.specs.declared.schedules.Stage.{Stage};
-ghost use Rattle.fab_sched.specs.Annealing.{GoesOnColder, IsCooling, IsLawful, IsLastIndex, IsStage, MayStand, Plan, adaptive_factor, factor_after, fault_of, first_stage, fresh, heat_at, heat_by, hot, is_cooling, is_within, next_range, plan_of, stage_after};
+ghost use Rattle.fab_sched.specs.Annealing.{GoesOnColder, IsCooling, IsLawful, IsLastIndex, IsStage, MayCoolTo, MayStand, Plan, adaptive_factor, factor_after, fault_of, first_stage, fresh, heat_at, heat_by, hot, is_cooling, is_within, next_range, plan_of, stage_after};
 
 use crate::fault::SchedFault;
 use std::marker::Model;
@@ -197,6 +197,30 @@ impl Schedule {
             Cooling::Factor(factor) => self.temperature_by(factor, x),
             Cooling::Adaptive => None,
         }
+    }
+
+    /// Whether stage `x` may be at temperature `t` in ten-thousandths: by a factor exactly where it is, else wherever a
+    /// temperature can be that fell with each stage.
+    pub fn may_stand(&self, x: u64, t: u64) -> bool
+        ensures { IsTrue result ↔ MayStand self.now x t }
+    {
+        match self.cooling {
+            Cooling::Factor(factor) => self.temperature_by(factor, x) == Some(t),
+            Cooling::Adaptive => self.may_cool_to(x, t),
+        }
+    }
+
+    /// Whether `x` stages, each at least one unit colder than the one before, may lead to temperature `t` or to 0.
+    fn may_cool_to(&self, x: u64, t: u64) -> bool
+        ensures { IsTrue result ↔ MayCoolTo self.now x t }
+    {
+        if x == 0 {
+            return t == self.hot(self.init_t);
+        }
+        if self.init_t < self.exit_t || self.init_t - self.exit_t < x - 1 {
+            return false;
+        }
+        t == 0 || (self.exit_t <= t && t <= self.init_t && x <= self.init_t - t)
     }
 
     #[tactic(auto, using(crate::proofs::Falling::last_of, crate::proofs::Falling::greatest, crate::proofs::Falling::greatest_of, crate::proofs::Falling::reached, crate::proofs::Falling::moves_bound))]
