@@ -40,7 +40,7 @@ small_pad : (x y sub nx ny io_rat : ℕ) → nx ≤ 1000 → ny ≤ 1000 → io_
     → ((((nat_le 1 y && nat_le y ny) && (x == 0 || x == nx + 1)) || ((nat_le 1 x && nat_le x nx) && (y == 0 || y == ny + 1))) && nat_lt sub io_rat) ≡ true → (x ≤ 65535) × (y ≤ 65535) × (sub ≤ 65535)
 small_pad x y sub nx ny io_rat a b c h = grind (arith, nat_tests)
 
-small_site : (g : GridShape) (s : Site) (k : SiteKind) → AreLimits g.nx g.ny g.io_rat → kind_at g s ≡ Some k → Small s
+pub small_site : (g : GridShape) (s : Site) (k : SiteKind) → AreLimits g.nx g.ny g.io_rat → kind_at g s ≡ Some k → Small s
 small_site g s k limits h = elim (cases_Bool (is_logic_site g s)) [
   | inl y ↦ let p = small_logic s.x s.y s.sub g.nx g.ny limits.columns.1 limits.rows.1 y in record { x = p.0; y = p.1; sub = p.2 }
   | inr n ↦
@@ -58,25 +58,25 @@ small_site g s k limits h = elim (cases_Bool (is_logic_site g s)) [
 at_most : (n : ℕ) → n ≤ 65535 → leb n 65535 ≡ true
 at_most n h = grind (arith, nat_tests)
 
-wide : (n : ℕ) → n ≤ 65535 → n < 2 ^ 64
+pub wide : (n : ℕ) → n ≤ 65535 → n < 2 ^ 64
 wide n h = omega arith
 
-small_back : (n : ℕ) → n ≤ 65535 → small_number (decimal n) ≡ Some n
+pub small_back : (n : ℕ) → n ≤ 65535 → small_number (decimal n) ≡ Some n
 small_back n h = rw (decimal_back n (wide n h), at_most n h) refl
 
 -- the lines of all blocks
 
-abbrev name_at : Netlist → ℕ → List ℕ
+abbrev pub name_at : Netlist → ℕ → List ℕ
 name_at d b = get_or d.names b []
 
-abbrev words_at_block : Netlist → List Site → ℕ → List (List ℕ)
+abbrev pub words_at_block : Netlist → List Site → ℕ → List (List ℕ)
 words_at_block d sites b = block_words (name_at d b) (site_of sites b)
 
-in_range : (P : ℕ → Type 0) (a n : ℕ) → ((b : ℕ) → a ≤ b → b < a + n → P b) → AllByRecursion P (range_with_len a n)
+pub in_range : (P : ℕ → Type 0) (a n : ℕ) → ((b : ℕ) → a ≤ b → b < a + n → P b) → AllByRecursion P (range_with_len a n)
 in_range P a zero f = tt
 in_range P a (suc n) f = (f a (omega arith) (omega arith), in_range P (a + 1) n (λ b ge lt. f b (omega arith) (omega arith)))
 
-name_word : (names : List (List ℕ)) (b : ℕ) → b < length names → AreWords names → IsWord (get_or names b [])
+pub name_word : (names : List (List ℕ)) (b : ℕ) → b < length names → AreWords names → IsWord (get_or names b [])
 name_word [] b lt h = absurd (omega arith)
 name_word (n ∷ ns) zero lt h = word_of n h.0
 name_word (n ∷ ns) (suc b) lt h = name_word ns b (omega arith) h.1
@@ -89,7 +89,7 @@ all_have_words : (d : Netlist) (sites : List Site) (bs : List ℕ) → filter ha
 all_have_words d sites [] = refl
 all_have_words d sites (b ∷ bs) = ap (λ ws. words_at_block d sites b ∷ ws) (all_have_words d sites bs)
 
-site_small : (d : Netlist) (g : GridShape) (sites : List Site) (b : ℕ) → AreLimits g.nx g.ny g.io_rat → IsLegal d g [] sites → b < length d.kinds → Small (site_of sites b)
+pub site_small : (d : Netlist) (g : GridShape) (sites : List Site) (b : ℕ) → AreLimits g.nx g.ny g.io_rat → IsLegal d g [] sites → b < length d.kinds → Small (site_of sites b)
 site_small d g sites b limits legal lt = small_site g (site_of sites b) (kind_wanted d b) limits (legal.fit b (omega (arith, legal.all)))
 
 told : (net arch : List ℕ) (d : Netlist) (g : GridShape) (sites : List Site) → are_labels net arch ≡ true → IsLawful d → AreLimits g.nx g.ny g.io_rat → IsLegal d g [] sites
@@ -117,16 +117,16 @@ told net arch d g sites labels law limits legal =
 
 -- lines with these words stand for the placement
 
-nil_cons : {X : Type 0} (x : X) (xs : List X) → [] ≡ x ∷ xs → ⊥
+pub nil_cons : {X : Type 0} (x : X) (xs : List X) → [] ≡ x ∷ xs → ⊥
 nil_cons x xs h = cc
 
-cons_nil : {X : Type 0} (x : X) (xs : List X) → x ∷ xs ≡ [] → ⊥
+pub cons_nil : {X : Type 0} (x : X) (xs : List X) → x ∷ xs ≡ [] → ⊥
 cons_nil x xs h = cc
 
-heads : {X : Type 0} (x y : X) (xs ys : List X) → x ∷ xs ≡ y ∷ ys → x ≡ y
+pub heads : {X : Type 0} (x y : X) (xs ys : List X) → x ∷ xs ≡ y ∷ ys → x ≡ y
 heads x y xs ys h = cc
 
-tails : {X : Type 0} (x y : X) (xs ys : List X) → x ∷ xs ≡ y ∷ ys → xs ≡ ys
+pub tails : {X : Type 0} (x y : X) (xs ys : List X) → x ∷ xs ≡ y ∷ ys → xs ≡ ys
 tails x y xs ys h = cc
 
 record Begun (ls : List TextLine) (f s : List (List ℕ)) (ws : List (List (List ℕ))) : Type 0 where
@@ -154,7 +154,7 @@ begun (a ∷ b ∷ rest) f s ws h =
     }
 
 -- a line with these words
-abbrev saying : List (List ℕ) → TextLine
+abbrev pub saying : List (List ℕ) → TextLine
 saying ws = record { number = 0; words = ws; spans = [] }
 
 site_back : (name : List ℕ) (s : Site) → Small s → site_in (saying (block_words name s)) ≡ Some s
@@ -163,11 +163,11 @@ site_back name s small = rw (small_back s.x small.x, small_back s.y small.y, sma
 size_back : (g : GridShape) → g.nx ≤ 65535 → g.ny ≤ 65535 → size_in (saying (size_words g)) ≡ Some (g.nx, g.ny)
 size_back g x y = rw (small_back g.nx x, small_back g.ny y) refl
 
-record IsPlaced (d : Netlist) (sites : List Site) (b : ℕ) : Type 0 where
+pub record IsPlaced (d : Netlist) (sites : List Site) (b : ℕ) : Type 0 where
   pub named : number_of (name_at d b) d.names ≡ Some b
   pub small : Small (site_of sites b)
 
-places : (d : Netlist) (sites : List Site) (rest : List TextLine) (bs : List ℕ) → AllByRecursion (IsPlaced d sites) bs → map words_in rest ≡ map (words_at_block d sites) bs → AllByRecursion (Places d sites) rest
+pub places : (d : Netlist) (sites : List Site) (rest : List TextLine) (bs : List ℕ) → AllByRecursion (IsPlaced d sites) bs → map words_in rest ≡ map (words_at_block d sites) bs → AllByRecursion (Places d sites) rest
 places d sites [] bs h e = tt
 places d sites (l ∷ ls) [] h e = absurd (cons_nil l.words (map words_in ls) e)
 places d sites (l ∷ ls) (b ∷ bs) h e =
@@ -177,7 +177,7 @@ places d sites (l ∷ ls) (b ∷ bs) h e =
     let stands = ap (λ ws. site_in (saying ws)) here ∙ site_back (name_at d b) (site_of sites b) h.0.small in
     (record { block = b; named = named; stands = stands }, places d sites ls bs h.1 more)
 
-first_words : (d : Netlist) (sites : List Site) (rest : List TextLine) (bs : List ℕ) → map words_in rest ≡ map (words_at_block d sites) bs → map first_word rest ≡ map (name_at d) bs
+pub first_words : (d : Netlist) (sites : List Site) (rest : List TextLine) (bs : List ℕ) → map words_in rest ≡ map (words_at_block d sites) bs → map first_word rest ≡ map (name_at d) bs
 first_words d sites [] [] e = refl
 first_words d sites [] (b ∷ bs) e = absurd (nil_cons (words_at_block d sites b) (map (words_at_block d sites) bs) e)
 first_words d sites (l ∷ ls) [] e = absurd (cons_nil l.words (map words_in ls) e)
@@ -186,11 +186,11 @@ first_words d sites (l ∷ ls) (b ∷ bs) e =
     let more = tails l.words (words_at_block d sites b) (map words_in ls) (map (words_at_block d sites) bs) e in
     ap (λ ws. word_at (saying ws) 0 ∷ map first_word ls) here ∙ ap (λ xs. name_at d b ∷ xs) (first_words d sites ls bs more)
 
-any_first : (name : List ℕ) (rest : List TextLine) → list_any (names_block name) rest ≡ list_any (bytes_eq name) (map first_word rest)
+pub any_first : (name : List ℕ) (rest : List TextLine) → list_any (names_block name) rest ≡ list_any (bytes_eq name) (map first_word rest)
 any_first name [] = refl
 any_first name (l ∷ ls) = ap (λ b. bytes_eq name (first_word l) || b) (any_first name ls)
 
-all_by_place : (P : List ℕ → Type 0) (xs : List (List ℕ)) → ((i : ℕ) → i < length xs → P (get_or xs i [])) → AllByRecursion P xs
+pub all_by_place : (P : List ℕ → Type 0) (xs : List (List ℕ)) → ((i : ℕ) → i < length xs → P (get_or xs i [])) → AllByRecursion P xs
 all_by_place P [] f = tt
 all_by_place P (x ∷ xs) f = (f 0 (omega arith), all_by_place P xs (λ i lt. f (suc i) (omega arith)))
 

@@ -64,17 +64,17 @@ says_nothing l feed none =
     }
 
 -- a word, and a separator behind it
-word_then : (c : ℕ) (w rest : List ℕ) (ws : List (List ℕ)) → is_separator c ≡ true → IsWord w → Reads rest ws → Reads (w ++ c ∷ rest) (w ∷ ws)
+pub word_then : (c : ℕ) (w rest : List ℕ) (ws : List (List ℕ)) → is_separator c ≡ true → IsWord w → Reads rest ws → Reads (w ++ c ∷ rest) (w ∷ ws)
 word_then c w rest ws h k r = word_first w (c ∷ rest) ws k.some (inside w k.clean) h (behind_separator c rest ws h r)
 
-last_word : (w : List ℕ) → IsWord w → Reads w (w ∷ [])
+pub last_word : (w : List ℕ) → IsWord w → Reads w (w ∷ [])
 last_word w k =
     let r = word_first w [] [] k.some (inside w k.clean) tt no_words in
     let nil = append-nil w in
     let P : List ℕ → Type 0 = λ x. Reads x (w ∷ []) in
     subst P nil r
 
-none_in_two : (p : ℕ → Bool) (x y : List ℕ) → list_any p x ≡ false → list_any p y ≡ false → list_any p (x ++ y) ≡ false
+pub none_in_two : (p : ℕ → Bool) (x y : List ℕ) → list_any p x ≡ false → list_any p y ≡ false → list_any p (x ++ y) ≡ false
 none_in_two p x y h k = list_any-append p x y ∙ rw (h, k) refl
 
 -- the header

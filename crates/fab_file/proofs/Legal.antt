@@ -34,7 +34,7 @@ missing_at [] b = refl
 missing_at (o ∷ os) zero = refl
 missing_at (o ∷ os) (suc b) = missing_at os b
 
-named_lines : (d : Netlist) (sites : List (Option Site)) (b : ℕ) (bs : List TextLine) → AllDistinct d.names → b < length d.names → AllByRecursion (IsSeated d sites) bs → is_repeated d bs b ≡ list_any (names_block (get_or d.names b [])) bs
+pub named_lines : (d : Netlist) (sites : List (Option Site)) (b : ℕ) (bs : List TextLine) → AllDistinct d.names → b < length d.names → AllByRecursion (IsSeated d sites) bs → is_repeated d bs b ≡ list_any (names_block (get_or d.names b [])) bs
 named_lines d sites b [] distinct lt h = refl
 named_lines d sites b (l ∷ bs) distinct lt h =
     let at = name_at_number (first_word l) d.names h.0.block h.0.named in
@@ -71,7 +71,7 @@ got [] a lt = absurd (omega arith)
 got (x ∷ xs) zero lt = refl
 got (x ∷ xs) (suc a) lt = got xs a (omega arith)
 
-got_back : (xs : List Site) (a : ℕ) (s : Site) → slice_get (map Some xs) a ≡ Some (Some s) → s ≡ site_of xs a
+pub got_back : (xs : List Site) (a : ℕ) (s : Site) → slice_get (map Some xs) a ≡ Some (Some s) → s ≡ site_of xs a
 got_back [] a s h = absurd (none_some (Some s) h)
 got_back (x ∷ xs) zero s h = inner s x (inner (Some s) (Some x) (sym h))
 got_back (x ∷ xs) (suc a) s h = got_back xs a s h
@@ -124,14 +124,14 @@ stands d g ls files size bs sites final law u' text files_line size_line all non
 
 -- a text that stands for a placement has no fault
 
-before_distinct : (xs : List (List ℕ)) (y : List ℕ) (ys : List (List ℕ)) → AllDistinct (xs ++ y ∷ ys) → list_any (bytes_eq y) xs ≡ false
+pub before_distinct : (xs : List (List ℕ)) (y : List ℕ) (ys : List (List ℕ)) → AllDistinct (xs ++ y ∷ ys) → list_any (bytes_eq y) xs ≡ false
 before_distinct [] y ys h = refl
 before_distinct (x ∷ xs) y ys h =
     let parts = or_neither (list_any (bytes_eq x) xs) (bytes_eq x y || list_any (bytes_eq x) ys) (sym (list_any-append (bytes_eq x) xs (y ∷ ys)) ∙ h.0) in
     let head = or_neither (bytes_eq x y) (list_any (bytes_eq x) ys) parts.1 in
     rw (other_way x y head.0) (before_distinct xs y ys h.1)
 
-not_repeated : (d : Netlist) (sites : List Site) (l : TextLine) (b : ℕ) (before : List TextLine) → block_in d l ≡ Some b → AllByRecursion (Places d sites) before → list_any (bytes_eq (first_word l)) (map first_word before) ≡ false → is_repeated d before b ≡ false
+pub not_repeated : (d : Netlist) (sites : List Site) (l : TextLine) (b : ℕ) (before : List TextLine) → block_in d l ≡ Some b → AllByRecursion (Places d sites) before → list_any (bytes_eq (first_word l)) (map first_word before) ≡ false → is_repeated d before b ≡ false
 not_repeated d sites l b [] named h none = refl
 not_repeated d sites l b (k ∷ before) named h none =
     let parts = or_neither (bytes_eq (first_word l) (first_word k)) (list_any (bytes_eq (first_word l)) (map first_word before)) none in
@@ -161,7 +161,7 @@ kind_is : (a b : SiteKind) → a ≡ b → same_kind a b ≡ true
 kind_is site_kind.Logic b h = rw (sym h) refl
 kind_is site_kind.Pad b h = rw (sym h) refl
 
-no_block_fault : (d : Netlist) (g : GridShape) (sites : List Site) (before : List TextLine) (l : TextLine) (after : List TextLine) → IsLawful d → IsLegal d g [] sites → AllByRecursion (Places d sites) before → Places d sites l → AllDistinct (map first_word (before ++ l ∷ after)) → block_fault d g before l ≡ None
+pub no_block_fault : (d : Netlist) (g : GridShape) (sites : List Site) (before : List TextLine) (l : TextLine) (after : List TextLine) → IsLawful d → IsLegal d g [] sites → AllByRecursion (Places d sites) before → Places d sites l → AllDistinct (map first_word (before ++ l ∷ after)) → block_fault d g before l ≡ None
 no_block_fault d g sites before l after law legal h p distinct =
     let at = name_at_number (first_word l) d.names p.block p.named in
     let below : p.block < length sites = omega (arith, at.0, law.named, legal.all) in
@@ -218,7 +218,7 @@ number_at names b distinct lt = by_option (number_of (get_or names b []) names) 
         let same : eqb c b ≡ true = sym (by_number names b c distinct lt at.0) ∙ ap (bytes_eq (get_or names b [])) at.1 ∙ itself (get_or names b []) in
         e ∙ ap (λ x. Some x) (eqb-true c b same)
 
-agree : (d : Netlist) (one two : List Site) (name : List ℕ) (b : ℕ) (ls : List TextLine) → number_of name d.names ≡ Some b → AllByRecursion (Places d one) ls → AllByRecursion (Places d two) ls → list_any (names_block name) ls ≡ true → site_of one b ≡ site_of two b
+pub agree : (d : Netlist) (one two : List Site) (name : List ℕ) (b : ℕ) (ls : List TextLine) → number_of name d.names ≡ Some b → AllByRecursion (Places d one) ls → AllByRecursion (Places d two) ls → list_any (names_block name) ls ≡ true → site_of one b ≡ site_of two b
 agree d one two name b [] named h k some = absurd (false≢true some)
 agree d one two name b (l ∷ ls) named h k some = elim (cases_Bool (names_block name l)) [
   | inl y ↦
@@ -229,7 +229,7 @@ agree d one two name b (l ∷ ls) named h k some = elim (cases_Bool (names_block
   | inr n ↦ let rest : list_any (names_block name) ls ≡ true = rw n at some in agree d one two name b ls named h.1 k.1 rest
 ]
 
-all_at : {X : Type 0} (P : X → Type 0) (xs : List X) (i : ℕ) (d : X) → i < length xs → AllByRecursion P xs → P (get_or xs i d)
+pub all_at : {X : Type 0} (P : X → Type 0) (xs : List X) (i : ℕ) (d : X) → i < length xs → AllByRecursion P xs → P (get_or xs i d)
 all_at P [] i d lt h = absurd (omega arith)
 all_at P (x ∷ xs) zero d lt h = h.0
 all_at P (x ∷ xs) (suc i) d lt h = all_at P xs i d (omega arith) h.1

@@ -40,16 +40,16 @@ taken_all d g before (l ∷ left) sites law u none =
     let more = taken_all d g (before ++ l ∷ []) left (set sites t.block (Some t.site)) law (on d g before l sites law u t) parts.1 in
     subst (AreTaken d g) (append_assoc before (l ∷ []) left) more
 
-abbrev site_or : Option Site → Site
+abbrev pub site_or : Option Site → Site
 site_or None = nowhere
 site_or (Some s) = s
 
 -- the sites, where each is there
-abbrev there : List (Option Site) → List Site
+abbrev pub there : List (Option Site) → List Site
 there [] = []
 there (o ∷ os) = site_or o ∷ there os
 
-each_there : (os : List (Option Site)) → list_all is_some os ≡ true → map Some (there os) ≡ os
+pub each_there : (os : List (Option Site)) → list_all is_some os ≡ true → map Some (there os) ≡ os
 each_there [] h = refl
 each_there (None ∷ os) h = absurd (false≢true h)
 each_there (Some s ∷ os) h = ap (λ xs. Some s ∷ xs) (each_there os h)

@@ -160,7 +160,7 @@ takable d g sites l h = takable_by d g sites l (site_in l) (block_in d l) refl r
 
 -- one more line
 
-not_there : (os : List (Option Site)) (b : ℕ) → b < length os → has_site os b ≡ false → slice_get os b ≡ Some None
+pub not_there : (os : List (Option Site)) (b : ℕ) → b < length os → has_site os b ≡ false → slice_get os b ≡ Some None
 not_there [] b lt h = absurd (omega arith)
 not_there (None ∷ os) zero lt h = refl
 not_there (Some s ∷ os) zero lt h = absurd (false≢true (sym h))
@@ -200,7 +200,7 @@ eqb_other a b = elim (cases_Bool (eqb a b)) [
 same_other : (s x : Site) → same_site s x ≡ same_site x s
 same_other s x = rw (eqb_other s.x x.x, eqb_other s.y x.y, eqb_other s.sub x.sub) refl
 
-unnamed : (names : List (List ℕ)) (w : List ℕ) (b : ℕ) (bs : List TextLine) → number_of w names ≡ Some b → list_any (λ l. is_block b (number_of (first_word l) names)) bs ≡ false → list_any (bytes_eq w) (map first_word bs) ≡ false
+pub unnamed : (names : List (List ℕ)) (w : List ℕ) (b : ℕ) (bs : List TextLine) → number_of w names ≡ Some b → list_any (λ l. is_block b (number_of (first_word l) names)) bs ≡ false → list_any (bytes_eq w) (map first_word bs) ≡ false
 unnamed names w b [] k h = refl
 unnamed names w b (l ∷ bs) k h =
     let parts = or_neither (is_block b (number_of (first_word l) names)) (list_any (λ l. is_block b (number_of (first_word l) names)) bs) h in

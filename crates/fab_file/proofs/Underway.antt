@@ -91,7 +91,7 @@ begin d g all left p h e =
       clean = rw (h.text, h.files_line, h.size_line, eq-eqb g.nx g.nx refl, eq-eqb g.ny g.ny refl) refl;
     }
 
-with_line_is : (d : Netlist) (g : GridShape) (sites : List (Option Site)) (l : TextLine) (b : ℕ) (s : Site) → block_in d l ≡ Some b → site_in l ≡ Some s → with_line (record { netlist = d; grid = g; sites = sites }) l ≡ record { netlist = d; grid = g; sites = set sites b (Some s) }
+pub with_line_is : (d : Netlist) (g : GridShape) (sites : List (Option Site)) (l : TextLine) (b : ℕ) (s : Site) → block_in d l ≡ Some b → site_in l ≡ Some s → with_line (record { netlist = d; grid = g; sites = sites }) l ≡ record { netlist = d; grid = g; sites = set sites b (Some s) }
 with_line_is d g sites l b s h k = rw (h, k) refl
 
 pub step : (d : Netlist) (g : GridShape) (all left : List TextLine) (l : TextLine) (p q : LinesOf) → IsLawful d → Reading d g all (l ∷ left) p → take_fault p l ≡ None → q ≡ with_line p l → Reading d g all left q

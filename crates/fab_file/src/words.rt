@@ -8,7 +8,7 @@ use fab_arch::Site;
 use fab_text::{Line, decimal};
 
 /// The word at a place of a line, or an empty one.
-pub(crate) fn word_at<'a>(line: &Line<'a>, i: usize) -> &'a [u8]
+pub fn word_at<'a>(line: &Line<'a>, i: usize) -> &'a [u8]
     ensures { result.now ≡ word_at (shown line.now) i }
 {
     match line.words.get(i) {
@@ -17,7 +17,8 @@ pub(crate) fn word_at<'a>(line: &Line<'a>, i: usize) -> &'a [u8]
     }
 }
 
-pub(crate) fn is_word(line: &Line, i: usize, name: &[u8]) -> bool
+/// Whether the word at a place of a line is this one.
+pub fn is_word(line: &Line, i: usize, name: &[u8]) -> bool
     ensures { result ≡ is_word (shown line.now) i name.now }
 {
     word_at(line, i) == name
