@@ -1,12 +1,9 @@
 -- What is kept before the first move, and what is told of it.
-use Rattle.std.proofs.Common.{◌≡◌, ℕ, ◌+◌, ◌-◌, ◌*◌, ◌/◌, ◌%◌, ◌<◌, ◌≤◌, Bool, true, false, List, Some, None, sym, ap, subst, ◌∙◌, arith}
+use Rattle.std.proofs.Common.{◌≡◌, ℕ, ◌+◌, ◌-◌, ◌*◌, ◌/◌, ◌%◌, ◌<◌, Bool, true, false, Some, None, sym, ap, subst, ◌∙◌, arith}
 use Rattle.std.proofs.lemmas.Nat.{mod-mul-add, div-mul-add}
-use Rattle.fab_arch.specs.declared.array.Site.{Site}
-use Rattle.fab_cost.specs.Swapping.{CountedStandsFor}
-use Rattle.fab_site.specs.Placement.{IsLegal}
-use Rattle.fab_sched.specs.Annealing.{IsStage, MayStand, first_stage}
+use Rattle.fab_sched.specs.Annealing.{MayStand}
 use Rattle.fab_commit.specs.declared.states.State.{State}
-use Rattle.fab_commit.specs.Serial.{Run, HeatStands, IsStanding, side, at_start, left_at, stage_at, stage_of}
+use Rattle.fab_commit.specs.Serial.{Run, HeatStands, IsStanding, side, left_at, stage_at, stage_of}
 use Rattle.fab_commit.specs.Commits.{IsSound, heat_of, standing_of, StageStands}
 use Rattle.fab_commit.proofs.Committing.{going}
 
@@ -16,48 +13,6 @@ left_is b i d m n t e place below = sym (ap (λ c. left_at m n (heat_of c t)) e 
 
 pub none_left : (b : Bool) (m n t : ℕ) → b ≡ true → 0 ≡ left_at m n (heat_of b t)
 none_left b m n t e = sym (ap (λ c. left_at m n (heat_of c t)) e)
-
--- what is kept before the first move
-pub record IsFirst (r : Run) (sites : List Site) (s : State) : Type 0 where
-  pub grid : s.placement.grid ≡ r.problem.grid
-  pub sites_are : s.placement.sites ≡ sites
-  pub cost : CountedStandsFor s.cost r.problem.design r.problem.grid sites
-  pub stage : s.stage ≡ first_stage r.plan (side r)
-  pub lawful : IsStage r.plan (side r) s.stage
-  pub moves : 1 ≤ r.plan.moves
-  pub ended : s.ended ≡ false
-  pub done : s.done ≡ 0
-  pub total : s.total ≡ 0
-
-pub first_sound : (r : Run) (sites : List Site) (s : State) → IsLegal r.problem.design r.problem.grid r.problem.fixed sites → IsFirst r sites s → IsSound r s
-first_sound r sites s legal f =
-    let index : s.stage.index ≡ 0 = ap (λ x. x.index) f.stage in
-    let done : s.stage.done ≡ 0 = ap (λ x. x.done) f.stage in
-    let accepted : s.stage.accepted ≡ 0 = ap (λ x. x.accepted) f.stage in
-    let moves = f.moves in
-    let total = f.total in
-    record {
-      legal = subst (IsLegal r.problem.design r.problem.grid r.problem.fixed) (sym f.sites_are) legal;
-      array = f.grid;
-      cost = subst (CountedStandsFor s.cost r.problem.design r.problem.grid) (sym f.sites_are) f.cost;
-      place = f.done ∙ sym (place_is s.stage.index s.stage.done r.plan.moves index done);
-      counted = (omega (arith, accepted), omega (arith, total));
-      stage = subst (λ b. StageStands r.plan (side r) b s.stage) (sym f.ended) (f.lawful, omega (arith, done, moves));
-    }
-  where
-    place_is : (i d m : ℕ) → i ≡ 0 → d ≡ 0 → i * m + d ≡ 0
-    place_is i d m e q = grind (arith, e, q)
-
-pub first_stands : (r : Run) (sites : List Site) (s : State) → IsFirst r sites s → standing_of s ≡ at_start r sites
-first_stands r sites s f =
-    (λ i. record {
-      done = f.done i;
-      sites = f.sites_are i;
-      accepted = (f.stage i).accepted;
-      range = (f.stage i).range;
-      heat = heat_of (f.ended i) (f.stage i).t;
-      total = f.total i;
-    })
 
 -- the running stage, as it is told
 pub stage_told : (r : Run) (s : State) → IsSound r s → s.ended ≡ false → Some s.stage ≡ stage_of r (standing_of s)

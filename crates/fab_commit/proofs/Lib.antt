@@ -23,3 +23,4 @@ pub mod Annealing
 pub mod ByTurns
 pub mod RunBases
 pub mod RunLaws
+pub mod Standings

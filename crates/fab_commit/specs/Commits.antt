@@ -73,6 +73,18 @@ standing_of s =
       total = s.total;
     }
 
+-- where a run stands in a stage, with so many moves accepted in all
+abbrev pub standing_in : Plan → Stage → List Site → ℕ → Standing
+standing_in p stage sites total =
+    record {
+      done = stage.index * p.moves + stage.done;
+      sites = sites;
+      accepted = stage.accepted;
+      range = stage.range;
+      heat = Some stage.t;
+      total = total;
+    }
+
 -- the stage can be one of the run's, with moves left; after the last move it is an empty one behind the frozen stage, whose
 -- temperature nobody reads
 abbrev pub StageStands : Plan → ℕ → Bool → Stage → Type 0

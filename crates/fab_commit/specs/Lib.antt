@@ -18,3 +18,4 @@ pub mod Turned
 pub mod StampTables
 pub mod Owners
 pub mod Workers
+pub mod Points

@@ -1,17 +1,20 @@
 //! An annealer: moves are judged ahead by workers, and committed in order of number.
 
-ghost use Rattle.std.specs.Prelude.{◌≡◌, ◌+◌, ◌-◌, ◌<◌, ◌≤◌, [], map, min, None, Ok, IfOk};
+ghost use Rattle.std.specs.Prelude.{◌≡◌, ◌↔◌, ◌+◌, ◌-◌, ◌<◌, ◌≤◌, [], map, min, None, Ok, IfOk, IfSome};
 ghost use Rattle.std.specs.Arc.{arc_value};
 ghost use Rattle.fab_cost.specs.Cost.{cost_of};
+ghost use Rattle.fab_sched.specs.Annealing.{IsLawful};
 ghost use Rattle.fab_site.specs.Placement.{IsLegal};
 ghost use Rattle.fab_move.specs.Judge.{says};
 ghost use Rattle.fab_commit.specs.declared.verdicts.Verdict.{Verdict as Judged};
 ghost use Rattle.fab_commit.specs.Serial.{IsStanding, at_start, from, stage_of};
-ghost use Rattle.fab_commit.specs.Commits.{run, run_for, run_of};
+ghost use Rattle.fab_commit.specs.Commits.{IsSound, run, run_for, run_of, standing_of};
+ghost use Rattle.fab_commit.specs.Points.{IsPoint, TellsPoint, going_on, standing_at};
 ghost use Rattle.fab_commit.specs.Turned.{IsTurned};
 
 use crate::pipelines::{Pipeline, first_pipeline, turn};
-use crate::states::{Given, first_state, running};
+use crate::points::{Point, point_of};
+use crate::states::{Given, State, first_state, running, state_at};
 use crate::turns::Turn;
 use crate::workers::Workers;
 use fab_arch::Grid;
@@ -92,6 +95,49 @@ impl<'a, W: Words + Drop> Anneal<'a, W> {
             schedule,
             words,
         };
+        Anneal::at(alloc, given, live)
+    }
+
+    /// Stands at a point of the run, which is a lawful one of this design and array by condition: nothing is accepted, judged
+    /// ahead or judged again yet.
+    pub fn from_point(
+        alloc: Global,
+        design: &'a Design,
+        grid: &'a Grid,
+        point: Point,
+        words: W,
+    ) -> Result<Anneal<'a, W>, AllocError>
+        requires point { IsPoint design.now grid.now point }
+        ensures { IfOk result (λ a. a ≡ going_on design.now grid.now point words) }
+    {
+        let Point {
+            schedule,
+            stage,
+            total,
+            fixed,
+            placement,
+        } = point;
+        let _moves = schedule.moves();
+        let live = state_at(
+            alloc, design, grid, &fixed, &schedule, placement, stage, total,
+        )?;
+        let given = Given {
+            design,
+            grid,
+            fixed,
+            schedule,
+            words,
+        };
+        Anneal::at(alloc, given, live)
+    }
+
+    /// Stands where this state does, with nothing judged.
+    fn at(alloc: Global, given: Given<'a, W>, live: State) -> Result<Anneal<'a, W>, AllocError>
+        requires plan { IsLawful given.schedule }
+        requires sound { IsSound (run_for W.moves given) live }
+        requires none { live.accepted.items ≡ [] }
+        ensures { IfOk result (λ a. a ≡ record { design = given.entry.design.now; grid = given.entry.grid.now; fixed = given.entry.fixed; plan = given.entry.schedule; words = given.entry.words; standing = standing_of live; ahead = []; swaps = []; accepted = []; redone = 0 }) }
+    {
         let pipeline = first_pipeline(alloc, &given, live)?;
         match Arc::new(alloc, given) {
             Ok(given) => Ok(Anneal {
@@ -101,6 +147,21 @@ impl<'a, W: Words + Drop> Anneal<'a, W> {
             }),
             Err(_) => Err(AllocError),
         }
+    }
+
+    /// Where the run stands, for a later one to go on from: `None` after the last move.
+    pub fn point(&self) -> Result<Option<Point>, AllocError>
+        ensures none { (result ≡ Ok None) ↔ (self.now.standing.heat ≡ None) }
+        ensures tells { IfOk result (λ p. IfSome p (TellsPoint self.now)) }
+        ensures stands { IfOk result (λ p. IfSome p (λ p. standing_at p ≡ self.now.standing)) }
+        // A run can go on from it.
+        ensures lawful { IfOk result (λ p. IfSome p (IsPoint self.now.design self.now.grid)) }
+    {
+        if self.pipeline.owner.state.ended {
+            return Ok(None);
+        }
+        let point = point_of(self.alloc, &self.given, &self.pipeline.owner.state)?;
+        Ok(Some(point))
     }
 
     /// How many moves are made.

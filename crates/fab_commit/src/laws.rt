@@ -2,8 +2,11 @@
 //! contract is a law has nothing to do.
 
 ghost use Rattle.fab_commit.specs.Laws.{AcceptedSwapsAreSerial, MovesCompose, PlacementsStayLegal, RedoneIsSerial, StampsTell, VerdictsAreOfTheirBase};
+ghost use Rattle.fab_commit.specs.Points.{PointsAreToldAgain};
 ghost use Rattle.fab_commit.specs.RunLaws.{RedoneInRuns, WaysOfABeginning, WaysOfATurn, WaysOfRuns};
 ghost use Rattle.fab_commit.specs.TurnLaws.{CutTurnsLeadOn, EveryBatchIsSerial, RedoneByStamps, TurnsAreReached, TurnsLeadOn, WaysOfTurns};
+
+use fab_site::Words;
 
 /// The law that so many moves and then more are all of them together.
 pub fn moves_compose()
@@ -57,4 +60,9 @@ pub fn redone_is_told()
     ensures turn { WaysOfATurn }
     ensures ways { WaysOfRuns }
     ensures runs { RedoneInRuns }
+{}
+
+/// The law that what goes on from a point, with whatever words, stands where its run can stand, and tells the same point.
+pub fn points_are_told_again<W: Words>()
+    ensures { PointsAreToldAgain W.moves }
 {}

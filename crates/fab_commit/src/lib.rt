@@ -12,6 +12,9 @@ pub mod events;
 pub mod laws;
 mod owners;
 mod pipelines;
+#[cfg(test)]
+mod point_tests;
+pub mod points;
 mod stamp_tables;
 mod states;
 #[cfg(test)]
@@ -34,9 +37,10 @@ pub mod worlds;
 pub use annealers::Anneal;
 pub use events::{Event, Way, every_schedule_is_serial};
 pub use laws::{
-    moves_compose, placements_stay_legal, redone_is_told, spoiled_verdicts_are_serial, stamps_tell,
-    turns_are_serial, verdicts_are_of_their_base,
+    moves_compose, placements_stay_legal, points_are_told_again, redone_is_told,
+    spoiled_verdicts_are_serial, stamps_tell, turns_are_serial, verdicts_are_of_their_base,
 };
+pub use points::Point;
 pub use turns::Turn;
 pub use workers::Workers;
 pub use works::Work;

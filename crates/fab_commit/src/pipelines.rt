@@ -59,7 +59,7 @@ fn shared_copy(alloc: Global, live: &State) -> Result<Arc<State>, AllocError>
     }
 }
 
-/// Nothing was judged ahead of the first move.
+/// Nothing was judged ahead where a run begins or goes on.
 pub(crate) fn first_pipeline<W: Words>(
     alloc: Global,
     given: &Given<'_, W>,
@@ -67,11 +67,11 @@ pub(crate) fn first_pipeline<W: Words>(
 ) -> Result<Pipeline, AllocError>
     requires plan { IsLawful given.now.schedule }
     requires sound { IsSound (run_for W.moves given.now) live }
-    requires first { live.done ≡ 0 }
     requires none { live.accepted.items ≡ [] }
     ensures behind { IfOk result (λ s. IsBehind (run_for W.moves given.now) (no_turn (standing_of live)) s) }
     ensures told { IfOk result (λ s. (s.ahead.items ≡ []) × (s.owner.swaps.items ≡ []) × (s.owner.state.accepted.items ≡ []) × (s.owner.redone ≡ 0)) }
 {
+    let base = live.done;
     let older = shared_copy(alloc, &live)?;
     let stamps = Stamps::new(alloc, given.design, given.grid)?;
     let owner = Owner {
@@ -84,7 +84,7 @@ pub(crate) fn first_pipeline<W: Words>(
         owner,
         older,
         ahead: Vec::new(alloc),
-        base: 0,
+        base,
     })
 }
 

@@ -6,7 +6,7 @@ ghost use Rattle.fab_site.specs.Placement.{IsLegal, IsSwapOf};
 ghost use Rattle.fab_cost.specs.Swapping.{CountedStandsFor};
 ghost use Rattle.fab_move.specs.Judge.{IsDecision, Judged, moved, says};
 ghost use Rattle.fab_commit.specs.Serial.{Run, after_move, at_start, judged_here, left_at, numbers_if, one_if, side, stage_of};
-ghost use Rattle.fab_commit.specs.Commits.{IsAdvanced, IsSound, heat_of, run, run_for, standing_of};
+ghost use Rattle.fab_commit.specs.Commits.{IsAdvanced, IsSound, heat_of, run, run_for, standing_in, standing_of};
 
 use fab_arch::Grid;
 use fab_cost::{EdgeBoxes, WireCost};
@@ -268,7 +268,40 @@ pub(crate) fn moves_left(schedule: &Schedule, state: &State) -> u64
     }
 }
 
-/// What is kept before the first move: the placement is put on the array first.
+/// What is kept where a run stands in a stage, with so many moves accepted in all: the placement is put on the array first.
+pub(crate) fn state_at(
+    alloc: Global,
+    design: &Design,
+    grid: &Grid,
+    fixed: &Fixed,
+    schedule: &Schedule,
+    placement: Placement,
+    stage: Stage,
+    total: u64,
+) -> Result<State, AllocError>
+    requires legal { IsLegal design.now grid.now fixed.now placement.sites }
+    requires stage { IsStage schedule.now (max grid.now.nx grid.now.ny) stage }
+    requires left { stage.done < schedule.now.moves }
+    requires counted { (stage.accepted ≤ total) × (total ≤ stage.index * schedule.now.moves + stage.done) }
+    ensures sound { IfOk result (λ s. (words : ℕ → List ℕ) → IsSound (run design.now grid.now fixed.now words schedule.now) s) }
+    ensures stands { IfOk result (λ s. standing_of s ≡ standing_in schedule.now stage placement.sites total) }
+    ensures accepted { IfOk result (λ s. s.accepted.items ≡ []) }
+{
+    let moves = schedule.moves();
+    let live = placement.on_array(design, grid)?;
+    let cost = EdgeBoxes::new(alloc, design, grid, &live)?;
+    Ok(State {
+        placement: live,
+        cost,
+        stage,
+        ended: false,
+        done: stage.index * moves + stage.done,
+        total,
+        accepted: Vec::new(alloc),
+    })
+}
+
+/// What is kept before the first move.
 pub(crate) fn first_state(
     alloc: Global,
     design: &Design,
@@ -283,17 +316,8 @@ pub(crate) fn first_state(
     ensures accepted { IfOk result (λ s. s.accepted.items ≡ []) }
 {
     let _moves = schedule.moves();
-    let live = placement.on_array(design, grid)?;
-    let cost = EdgeBoxes::new(alloc, design, grid, &live)?;
-    Ok(State {
-        placement: live,
-        cost,
-        stage: schedule.first(side_of(grid)),
-        ended: false,
-        done: 0,
-        total: 0,
-        accepted: Vec::new(alloc),
-    })
+    let first = schedule.first(side_of(grid));
+    state_at(alloc, design, grid, fixed, schedule, placement, first, 0)
 }
 
 /// A second value that stands at the same place. What the first one accepted is not told again.

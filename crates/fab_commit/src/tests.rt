@@ -167,7 +167,7 @@ pub(crate) fn turned<W: Words + Sync + Drop, G: Gate, R: Threads + Wait + Sync>(
 }
 
 /// Turns at this pace: the cost before, a line for each stage that ends, and what comes of them.
-fn told<W: Words + Sync + Drop, R: Threads + Wait + Sync>(
+pub(crate) fn told<W: Words + Sync + Drop, R: Threads + Wait + Sync>(
     rt: &R,
     alloc: Global,
     anneal: &mut Anneal<'_, W>,
@@ -349,7 +349,7 @@ fn a_displaced_block_takes_its_nets_along(rt: HostRuntime) -> Result<(), Fail> {
     Ok(())
 }
 
-const BETWEEN_PADS: &[u8] =
+pub(crate) const BETWEEN_PADS: &[u8] =
     b".input a\npinlist: n1\n.output z\npinlist: n2\n.clb b\npinlist: n1 n2\n";
 
 /// A block on an array of one site, which the words choose each time, between two pads of which one is fixed.
@@ -491,10 +491,10 @@ fn a_fixed_block_is_not_displaced(rt: HostRuntime) -> Result<(), Fail> {
 
 // Twenty blocks, of which one is a clock pad. What is wanted of their runs was printed by a slow placer in Python that
 // shares no code with this one: it adds up every net for each move.
-const TWENTY_ARCH: &[u8] =
+pub(crate) const TWENTY_ARCH: &[u8] =
     b"io_rat 2\ninpin class: 0 left\ninpin class: 0 top\ninpin class: 0 left\noutpin class: 1 right\n";
 
-const TWENTY: &[u8] = b".global ck\n\
+pub(crate) const TWENTY: &[u8] = b".global ck\n\
     .input i0\npinlist: i0\n\
     .input i1\npinlist: i1\n\
     .input i2\npinlist: i2\n\
@@ -623,11 +623,11 @@ fn twenty<R: Threads + Wait + Sync>(
     told(rt, alloc, &mut anneal, pace, 200)
 }
 
-fn by_a_factor() -> Result<Schedule, SchedFault> {
+pub(crate) fn by_a_factor() -> Result<Schedule, SchedFault> {
     Schedule::new(30_000, 3_000, 400, 40)
 }
 
-fn by_acceptance() -> Result<Schedule, SchedFault> {
+pub(crate) fn by_acceptance() -> Result<Schedule, SchedFault> {
     Schedule::adaptive(4_000, 2_500, 20)
 }
 

@@ -1,4 +1,4 @@
-use Rattle.std.proofs.Common.{[], length, refl, sym, ap, arith}
+use Rattle.std.proofs.Common.{[], length, refl, ap, arith}
 use Rattle.fab_commit.specs.Commits.{run_for, standing_of}
 use Rattle.fab_commit.proofs.Pipelining.{no_answers}
 use Rattle.fab_commit.proofs.pipelines.first_pipeline.Goals as goal
@@ -14,7 +14,7 @@ returns-clause-behind g c =
       same = c.in_ok-older.ensures.stands;
       here = refl;
       done_is = omega arith;
-      base_is = sym c.requires.first;
+      base_is = refl;
       many = ap length c.new-3.ensures.items;
       answers_are = no_answers r (standing_of c.args.live) c.args.live.done c.new-3.result.items c.new-3.ensures.items;
       swaps = c.new-2.ensures.items;

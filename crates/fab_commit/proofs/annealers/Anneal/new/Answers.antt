@@ -1,25 +1,11 @@
-use Rattle.std.proofs.Common.{map, ap, ◌∙◌}
+use Rattle.std.proofs.Common.{◌≡◌, [], IfOk, subst}
 use Rattle.fab_commit.specs.Serial.{Standing}
-use Rattle.fab_commit.specs.Commits.{standing_of}
-use Rattle.fab_commit.specs.Owners.{verdict_of}
-use Rattle.fab_commit.specs.TurnEvents.{no_turn}
 use Rattle.fab_commit.proofs.annealers.Anneal.new.Goals as goal
 
-pub invariant_of-result : goal.invariant_of-result
-invariant_of-result g c =
-    let given = c.in-Ok.ensures.ok in
-    rw given (no_turn (standing_of c.in_ok-live.live), c.in_ok-pipeline.ensures.behind)
+pub at-requires-clause-sound : goal.at-requires-clause-sound
+at-requires-clause-sound g c = c.in_ok-live.ensures.sound (g.W.Words.moves c.args.words)
 
-pub returns-in-Ok : goal.returns-in-Ok
-returns-in-Ok g c =
-    let stands = c.in_ok-pipeline.ensures.behind.here ∙ c.in_ok-live.ensures.stands (g.W.Words.moves c.args.words) in
-    let told = c.in_ok-pipeline.ensures.told in
-    let ahead = ap (map (verdict_of c.in_ok-pipeline.pipeline.base)) told.0 in
-    let given = c.in-Ok.ensures.ok in
-    (λ i. record { design = (given i).design.now; grid = (given i).grid.now; fixed = (given i).fixed; plan = (given i).schedule; words = (given i).words; standing = stands i; ahead = ahead i; swaps = told.1 i; accepted = told.2 i; redone = told.3 i })
-
-pub first_pipeline-requires-clause-sound : goal.first_pipeline-requires-clause-sound
-first_pipeline-requires-clause-sound g c = c.in_ok-live.ensures.sound (g.W.Words.moves c.args.words)
-
-pub first_pipeline-requires-clause-first : goal.first_pipeline-requires-clause-first
-first_pipeline-requires-clause-first g c = ap (λ (x : Standing). x.done) (c.in_ok-live.ensures.stands (g.W.Words.moves c.args.words))
+pub returns : goal.returns
+returns g c =
+    subst (λ (x : Standing). IfOk c.at.result (λ a. a ≡ record { design = c.args.design.now; grid = c.args.grid.now; fixed = c.args.fixed; plan = c.args.schedule; words = c.args.words; standing = x; ahead = []; swaps = []; accepted = []; redone = 0 }))
+    (c.in_ok-live.ensures.stands (g.W.Words.moves c.args.words)) c.at.ensures
