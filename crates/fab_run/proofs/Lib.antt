@@ -7,3 +7,15 @@ pub mod Asked
 pub mod Whole
 pub mod Written
 pub mod SameAnswers
+pub mod PointBack
+pub mod PointEither
+pub mod PointFirst
+pub mod PointFound
+pub mod PointLists
+pub mod PointOne
+pub mod PointParts
+pub mod PointPushed
+pub mod PointSpoken
+pub mod PointStages
+pub mod PointWhole
+pub mod Chaining

@@ -18,8 +18,9 @@ use Rattle.fab_file.specs.declared.fault.PlaceFault.TheVariants.{Write as PlaceW
 use Rattle.fab_file.specs.Place.{place_size_of, StandsFor}
 use Rattle.fab_file.specs.PlaceFaults.{size_fault, first_fault as first_place_fault}
 use Rattle.fab_cost.specs.Cost.{cost_of}
+use Rattle.fab_run.specs.declared.point_fault.PointFault.TheVariants.{Write as PointWrite}
 use Rattle.fab_run.specs.declared.fault.RunFault.{RunFault}
-use Rattle.fab_run.specs.declared.fault.RunFault.TheVariants.{Arch, Net, Place, Size, Report, NoMemory}
+use Rattle.fab_run.specs.declared.fault.RunFault.TheVariants.{Arch, Net, Place, Point, Size, Report, NoMemory}
 use Rattle.fab_run.specs.CheckReport.{check_report}
 
 -- the two texts mean this design, and that a position of the array takes so many pads (the io_rat)
@@ -95,6 +96,7 @@ IsCut arch net place old new = (cost : ℕ) × (report : List ℕ) × IsReport a
 -- the fault is not that of a writer
 abbrev pub IsTextFault : RunFault → Type 0
 IsTextFault (Place PlaceWrite) = ⊥
+IsTextFault (Point PointWrite) = ⊥
 IsTextFault Report = ⊥
 IsTextFault e = Unit {0}
 

@@ -1,5 +1,5 @@
--- The line that tells of a fault (our own): `vplace: `, the role of what is at fault, the fault's code and name, and its detail: a line, a block or a
--- name. Want of memory, and a writer that failed, are told in words.
+-- The line that tells of a fault (our own): `vplace: `, the role of what is at fault, the fault's code and name, and its detail: a line, a block, a
+-- field or a name. Want of memory, and a writer that failed, are told in words.
 use Rattle.std.specs.Prelude.{ℕ, ◌≡◌, nat_le, List, [], ◌++◌, Option, Some, None, if◌then◌else◌, length, codes, refl}
 use Rattle.std.specs.Fmt.{digits}
 use Rattle.fab_text.specs.declared.pieces.Span.{Span}
@@ -11,8 +11,11 @@ use Rattle.fab_net.specs.FaultTexts.{net_fault_text}
 use Rattle.fab_file.specs.declared.fault.PlaceFault.TheVariants.{Missing, Write as PlaceWrite, NoMemory as PlaceNoMemory}
 use Rattle.fab_file.specs.FaultTexts.{place_fault_text}
 use Rattle.fab_sched.specs.FaultTexts.{sched_fault_text}
+use Rattle.fab_run.specs.declared.point_fault.PointFault.TheVariants.{OutOfRange, Write as PointWrite, NoMemory as PointNoMemory}
+use Rattle.fab_run.specs.declared.point_fault.PointField.TheVariants.{Stage}
+use Rattle.fab_run.specs.PointFaultTexts.{point_fault_text}
 use Rattle.fab_run.specs.declared.fault.RunFault.{RunFault}
-use Rattle.fab_run.specs.declared.fault.RunFault.TheVariants.{Arch, Net, Pads, Place, Size, Schedule, BatchOutOfRange, WorkersOutOfRange, Report, NoMemory}
+use Rattle.fab_run.specs.declared.fault.RunFault.TheVariants.{Arch, Net, Pads, Place, Point, Size, Schedule, BatchOutOfRange, WorkersOutOfRange, Report, NoMemory}
 
 -- a fault with its role
 abbrev pub run_fault_text : RunFault → List ℕ
@@ -25,6 +28,9 @@ run_fault_text (Pads fault) = codes "pads: " ++ place_fault_text fault
 run_fault_text (Place PlaceNoMemory) = codes "no memory"
 run_fault_text (Place PlaceWrite) = codes "cannot write place"
 run_fault_text (Place fault) = codes "place: " ++ place_fault_text fault
+run_fault_text (Point PointNoMemory) = codes "no memory"
+run_fault_text (Point PointWrite) = codes "cannot write point"
+run_fault_text (Point fault) = codes "point: " ++ point_fault_text fault
 run_fault_text (Size fault) = codes "size: " ++ grid_fault_text fault
 run_fault_text (Schedule fault) = codes "schedule: " ++ sched_fault_text fault
 run_fault_text BatchOutOfRange = codes "option: O1 BatchOutOfRange"
@@ -61,3 +67,6 @@ a_net_without_driver = refl
 pub a_missing_block : fault_line (Place (Missing 2)) [] ≡ codes "vplace: place: P8 Missing block 2"
 unfolding digits
 a_missing_block = refl
+
+pub a_stage_that_the_schedule_lacks : fault_line (Point (OutOfRange Stage)) [] ≡ codes "vplace: point: C3 OutOfRange field stage"
+a_stage_that_the_schedule_lacks = refl

@@ -10,3 +10,11 @@ pub mod Placed
 pub mod SameAnswers
 pub mod PieceExamples
 pub mod Stages
+pub mod PointFields
+pub mod PointMeaning
+pub mod PointFaults
+pub mod PointFaultTexts
+pub mod PointReading
+pub mod PointText
+pub mod PointExamples
+pub mod Chains

@@ -14,8 +14,9 @@ use Rattle.fab_file.specs.Pinned.{pins_fault}
 use Rattle.fab_file.specs.Written.{are_labels}
 use Rattle.fab_sched.specs.Annealing.{IsLawful, Plan, fault_of}
 use Rattle.fab_run.specs.declared.inputs.Options.{Options}
+use Rattle.fab_run.specs.declared.point_fault.PointFault.TheVariants.{Write as PointWrite}
 use Rattle.fab_run.specs.declared.fault.RunFault.{RunFault}
-use Rattle.fab_run.specs.declared.fault.RunFault.TheVariants.{Arch, Net, Pads, Place, Size, Schedule, BatchOutOfRange, WorkersOutOfRange, Report, NoMemory}
+use Rattle.fab_run.specs.declared.fault.RunFault.TheVariants.{Arch, Net, Pads, Place, Point, Size, Schedule, BatchOutOfRange, WorkersOutOfRange, Report, NoMemory}
 use Rattle.fab_run.specs.Check.{IsDesignFault, IsSizeFault, MeanDesign}
 use Rattle.fab_run.specs.Setting.{HasArray, HasPins, IsAskedPlan, IsSetting, Setting, Texts, Within}
 
@@ -72,11 +73,13 @@ IsRunFault t o (Schedule e) = IsFaultBehind t o (Schedule e)
 IsRunFault t o BatchOutOfRange = IsFaultBehind t o BatchOutOfRange
 IsRunFault t o WorkersOutOfRange = IsFaultBehind t o WorkersOutOfRange
 IsRunFault t o Report = (s : Setting) × IsSetting t o s
+IsRunFault t o (Point e) = ⊥
 IsRunFault t o NoMemory = Unit {0}
 
 -- the fault is one of the inputs, not of a writer or of memory
 abbrev pub IsRefusal : RunFault → Type 0
 IsRefusal (Place Write) = ⊥
+IsRefusal (Point PointWrite) = ⊥
 IsRefusal Report = ⊥
 IsRefusal NoMemory = ⊥
 IsRefusal e = Unit {0}

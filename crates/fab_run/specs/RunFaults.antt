@@ -5,8 +5,10 @@ use Rattle.fab_net.specs.declared.fault.NetFault.{NetFault}
 use Rattle.fab_net.specs.declared.fault.NetFault.TheVariants.{NoMemory as NetNoMemory}
 use Rattle.fab_file.specs.declared.fault.PlaceFault.{PlaceFault}
 use Rattle.fab_file.specs.declared.fault.PlaceFault.TheVariants.{NoMemory as PlaceNoMemory}
+use Rattle.fab_run.specs.declared.point_fault.PointFault.{PointFault}
+use Rattle.fab_run.specs.declared.point_fault.PointFault.TheVariants.{NoMemory as PointNoMemory}
 use Rattle.fab_run.specs.declared.fault.RunFault.{RunFault}
-use Rattle.fab_run.specs.declared.fault.RunFault.TheVariants.{Arch, Net, Pads, Place, NoMemory}
+use Rattle.fab_run.specs.declared.fault.RunFault.TheVariants.{Arch, Net, Pads, Place, Point, NoMemory}
 
 abbrev pub of_arch : ArchFault → RunFault
 of_arch ArchNoMemory = NoMemory
@@ -19,6 +21,10 @@ of_net fault = Net fault
 abbrev pub of_place : PlaceFault → RunFault
 of_place PlaceNoMemory = NoMemory
 of_place fault = Place fault
+
+abbrev pub of_point : PointFault → RunFault
+of_point PointNoMemory = NoMemory
+of_point fault = Point fault
 
 -- of a location text
 abbrev pub of_pads : PlaceFault → RunFault

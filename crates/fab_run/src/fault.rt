@@ -2,9 +2,10 @@
 
 ghost use Rattle.std.specs.Prelude.{◌≡◌, ◌++◌, Some, IfOk, OnOk};
 ghost use Rattle.fab_run.specs.FaultLines.{run_fault_text, named_place, named_bytes, name_text, fault_line as line_of_fault};
-ghost use Rattle.fab_run.specs.RunFaults.{of_arch, of_net, of_pads, of_place};
+ghost use Rattle.fab_run.specs.RunFaults.{of_arch, of_net, of_pads, of_place, of_point};
 ghost use Rattle.fab_run.specs.declared.fault.RunFault.TheVariants.{Size, Schedule, Report, NoMemory};
 
+use crate::point_fault::PointFault;
 use fab_arch::{ArchFault, GridFault};
 use fab_file::PlaceFault;
 use fab_net::NetFault;
@@ -25,6 +26,8 @@ pub enum RunFault {
     Pads(PlaceFault),
     /// The placement text is faulty, a label cannot stand in it, or its writer failed.
     Place(PlaceFault),
+    /// The checkpoint text is faulty, or its writer failed.
+    Point(PointFault),
     /// There is no such array, or the design does not fit on it.
     Size(GridFault),
     /// The schedule is not lawful.
@@ -48,13 +51,16 @@ impl fmt::Display for RunFault {
             | RunFault::Arch(ArchFault::NoMemory)
             | RunFault::Net(NetFault::NoMemory)
             | RunFault::Pads(PlaceFault::NoMemory)
-            | RunFault::Place(PlaceFault::NoMemory) => f.write_str("no memory"),
+            | RunFault::Place(PlaceFault::NoMemory)
+            | RunFault::Point(PointFault::NoMemory) => f.write_str("no memory"),
             RunFault::Report => f.write_str("cannot write report"),
             RunFault::Place(PlaceFault::Write) => f.write_str("cannot write place"),
+            RunFault::Point(PointFault::Write) => f.write_str("cannot write point"),
             RunFault::Arch(fault) => write!(f, "arch: {fault}"),
             RunFault::Net(fault) => write!(f, "net: {fault}"),
             RunFault::Pads(fault) => write!(f, "pads: {fault}"),
             RunFault::Place(fault) => write!(f, "place: {fault}"),
+            RunFault::Point(fault) => write!(f, "point: {fault}"),
             RunFault::Size(fault) => write!(f, "size: {fault}"),
             RunFault::Schedule(fault) => write!(f, "schedule: {fault}"),
             RunFault::BatchOutOfRange => f.write_str("option: O1 BatchOutOfRange"),
@@ -108,6 +114,17 @@ impl From<PlaceFault> for RunFault {
         match fault {
             PlaceFault::NoMemory => RunFault::NoMemory,
             _ => RunFault::Place(fault),
+        }
+    }
+}
+
+impl From<PointFault> for RunFault {
+    ghost from_gives = { λ fault e. e ≡ of_point fault };
+
+    fn from(fault: PointFault) -> RunFault {
+        match fault {
+            PointFault::NoMemory => RunFault::NoMemory,
+            _ => RunFault::Point(fault),
         }
     }
 }

@@ -2,18 +2,34 @@
 #![tactic(auto)]
 
 pub mod check;
+#[cfg(test)]
+mod check_tests;
 mod crews;
 mod designs;
 pub mod fault;
 pub mod inputs;
 pub mod laws;
+#[cfg(test)]
+mod narrow;
 pub mod placing;
+pub mod point_fault;
+pub mod point_reading;
+#[cfg(test)]
+mod point_tests;
+mod point_words;
+pub mod point_writing;
 mod report;
+#[cfg(test)]
+mod run_tests;
 mod setting;
 mod stages;
 
 pub use check::check_run;
+pub use fab_commit::Point;
 pub use fault::{RunFault, fault_line};
 pub use inputs::{Ending, Inputs, Moves, Options, Outcome};
-pub use laws::answers_are_told;
+pub use laws::{answers_are_told, chains_are_runs};
 pub use placing::place_run;
+pub use point_fault::{PointFault, PointField};
+pub use point_reading::{point_texts_mean_or_fault, read_point};
+pub use point_writing::{write_point, written_points_read_back};

@@ -1,0 +1,478 @@
+//! A checkpoint text is read: line by line, in the order of its fields.
+
+ghost use Rattle.std.specs.Prelude.{◌≡◌, ◌≢◌, ◌⊎◌, ℕ, ◌*◌, ◌+◌, ◌<◌, ◌≤◌, ◌^◌, [], ◌∷◌, List, Some, None, IfOk, IfErr, OnOk, IfSome, IfNone, IsTrue, ◌↔◌, MatchResult, codes, length, max, slice_index_or, false, if◌then◌else◌, option_map};
+ghost use Rattle.fab_text.specs.Shown.{shown};
+ghost use Rattle.fab_text.specs.Lines.{TextLine, lines};
+ghost use Rattle.fab_arch.specs.Grid.{GridShape};
+ghost use Rattle.fab_net.specs.Netlist.{IsLawful as IsLawfulDesign, Netlist};
+ghost use Rattle.fab_site.specs.Placement.{fixed_at, site_of};
+ghost use Rattle.fab_sched.specs.declared.schedules.Cooling.TheVariants.{Factor};
+ghost use Rattle.fab_sched.specs.Annealing.{IsLawful, MayStand};
+ghost use Rattle.fab_file.specs.Place.{block_in};
+ghost use Rattle.fab_commit.specs.declared.points.Point.{Point as PointOf};
+ghost use Rattle.fab_run.specs.declared.point_fault.PointFault.TheVariants.{BadField, NoMemory, OutOfRange};
+ghost use Rattle.fab_run.specs.declared.point_fault.PointField.TheVariants.{Array, Schedule as ScheduleField, Stage as StageField, Temperature, Range, Total};
+ghost use Rattle.fab_run.specs.PointFields.{is_fixed_line, number_in, array_in, schedule_in, stage_in, version_in};
+ghost use Rattle.fab_run.specs.PointMeaning.{IsArrayFor, IsSamePoint, MayBeFixed, StandsForPoint};
+ghost use Rattle.fab_run.specs.PointFaults.{DueFault, EndFault, FieldFault, HeadFault, HeatFault, IsFirstFault, IsPointFault, IsRangeOn, IsStageOf, IsTotal, ListFault, NamesFault, PointMeansOrFaults, SeatsFault, StageFault, fixed_fault, grid_of, name_fault, schedule_of, seat_fault};
+ghost use Rattle.fab_run.specs.PointReading.{AreNamed, AreSeated, EndRead, HeadRead, HeatRead, IsAny, IsRead, NamesRead, SeatsRead, StageRead};
+
+use crate::point_fault::{PointFault, PointField};
+use crate::point_words::{
+    Version, array_in, is_end, is_fixed_line, number_in, schedule_in, stage_in, version_in,
+};
+use fab_arch::{Arch, Grid};
+use fab_commit::Point;
+use fab_file::words::word_at;
+use fab_file::{PlaceFault, PlaceLines};
+use fab_net::{BlockId, BlockKind, Design};
+use fab_sched::{Cooling, Schedule, Stage};
+use fab_site::{Fixed, Placement};
+use fab_text::{Line, Lines};
+use std::alloc::{AllocError, Global};
+
+/// The line that is due next.
+fn due<'a>(left: &mut Lines<'a>) -> Result<Line<'a>, PointFault>
+    ensures ok { IfOk result (λ line. left.old ≡ shown line ∷ left.new) }
+    ensures missing { IfErr result (λ e. (e ≡ NoMemory) ⊎ ((e ≡ BadField 0) × (left.old ≡ []))) }
+{
+    match left.next()? {
+        Some(line) => Ok(line),
+        None => Err(PointFault::BadField(0)),
+    }
+}
+
+/// The number of the next line, which is `NAME N`.
+fn number_field(left: &mut Lines, name: &[u8]) -> Result<u64, PointFault>
+    ensures read { IfOk result (λ n. IsRead (number_in name.now) IsAny left.old n left.new) }
+    ensures fault { IfErr result (λ e. (e ≡ NoMemory) ⊎ DueFault e (number_in name.now) (λ n ls. ⊥) left.old) }
+{
+    let line = due(left)?;
+    match number_in(&line, name) {
+        Some(n) => Ok(n),
+        None => Err(PointFault::BadField(line.number)),
+    }
+}
+
+/// The array of these numbers, if it has the architecture's pads at a position and holds the design.
+fn grid_from(numbers: (u64, u64, u64), io_rat: u16, design: &Design) -> Option<Grid>
+    ensures grid { IfSome result (λ g. g ≡ grid_of numbers) }
+    ensures lawful { IfSome result (λ g. IsArrayFor io_rat design.now g) }
+    ensures none { result ≡ None → ¬ IsArrayFor io_rat design.now (grid_of numbers) }
+{
+    if numbers.0 > 1_000 || numbers.1 > 1_000 || numbers.2 != u64::from(io_rat) {
+        return None;
+    }
+    let Ok(grid) = Grid::new(numbers.0 as u16, numbers.1 as u16, io_rat) else {
+        return None;
+    };
+    match grid.holds(design.logic_blocks(), design.pads()) {
+        Ok(()) => Some(grid),
+        Err(_) => None,
+    }
+}
+
+/// The array of the next line.
+fn array_field(left: &mut Lines, io_rat: u16, design: &Design) -> Result<Grid, PointFault>
+    ensures read { IfOk result (λ g. IsRead array_in (λ a. IsArrayFor io_rat design.now (grid_of a)) left.old (g.nx, g.ny, g.io_rat) left.new) }
+    ensures fault { IfErr result (λ e. (e ≡ NoMemory) ⊎ FieldFault e array_in (λ a. IsArrayFor io_rat design.now (grid_of a)) Array (λ a ls. ⊥) left.old) }
+{
+    let line = due(left)?;
+    let Some(numbers) = array_in(&line) else {
+        return Err(PointFault::BadField(line.number));
+    };
+    match grid_from(numbers, io_rat, design) {
+        Some(grid) => Ok(grid),
+        None => Err(PointFault::OutOfRange(PointField::Array)),
+    }
+}
+
+/// The schedule of these numbers, if they are in their limits.
+fn schedule_from(numbers: (u64, u64, Cooling, u64)) -> Option<Schedule>
+    ensures schedule { IfSome result (λ s. s ≡ schedule_of numbers) }
+    ensures lawful { IfSome result (λ s. IsLawful s) }
+    ensures none { result ≡ None → ¬ IsLawful (schedule_of numbers) }
+{
+    let (init_t, exit_t, cooling, moves) = numbers;
+    let made = match cooling {
+        Cooling::Factor(factor) => Schedule::new(init_t, exit_t, factor, moves),
+        Cooling::Adaptive => Schedule::adaptive(init_t, exit_t, moves),
+    };
+    match made {
+        Ok(schedule) => Some(schedule),
+        Err(_) => None,
+    }
+}
+
+/// The schedule of the next line.
+fn schedule_field(left: &mut Lines, version: Version) -> Result<Schedule, PointFault>
+    ensures read { IfOk result (λ p. IsRead (schedule_in version) (λ s. IsLawful (schedule_of s)) left.old (p.init, p.exit, p.cooling, p.moves) left.new) }
+    ensures fault { IfErr result (λ e. (e ≡ NoMemory) ⊎ FieldFault e (schedule_in version) (λ s. IsLawful (schedule_of s)) ScheduleField (λ s ls. ⊥) left.old) }
+{
+    let line = due(left)?;
+    let Some(numbers) = schedule_in(version, &line) else {
+        return Err(PointFault::BadField(line.number));
+    };
+    match schedule_from(numbers) {
+        Some(schedule) => Ok(schedule),
+        None => Err(PointFault::OutOfRange(PointField::Schedule)),
+    }
+}
+
+/// The version that the first line gives.
+fn read_version(left: &mut Lines) -> Result<Version, PointFault>
+    ensures read { IfOk result (λ v. IsRead version_in (λ v. Unit {0}) left.old v left.new) }
+    ensures fault { IfErr result (λ e. (e ≡ NoMemory) ⊎ ((io_rat : ℕ) (d : Netlist) → IsFirstFault io_rat d left.old e)) }
+{
+    let line = match left.next()? {
+        Some(line) => line,
+        None => return Err(PointFault::BadVersion),
+    };
+    match version_in(&line) {
+        Some(version) => Ok(version),
+        None => Err(PointFault::BadVersion),
+    }
+}
+
+/// What a text gives before the running stage.
+#[derive(Clone, Copy)]
+struct Head {
+    seed: u64,
+    grid: Grid,
+    schedule: Schedule,
+}
+
+/// The seed, the array and the schedule.
+fn read_head(
+    left: &mut Lines,
+    version: Version,
+    io_rat: u16,
+    design: &Design,
+) -> Result<Head, PointFault>
+    ensures read { IfOk result (λ h. HeadRead version io_rat design.now left.old h.seed h.grid h.schedule left.new) }
+    ensures fault { IfErr result (λ e. (e ≡ NoMemory) ⊎ HeadFault e io_rat design.now version (λ g p ls. ⊥) left.old) }
+{
+    let seed = number_field(left, b"seed")?;
+    let grid = array_field(left, io_rat, design)?;
+    let schedule = schedule_field(left, version)?;
+    Ok(Head {
+        seed,
+        grid,
+        schedule,
+    })
+}
+
+#[tactic(auto, using(crate::proofs::PointStages::earlier))]
+/// The index of the running stage, its moves that are made, and those that were accepted.
+fn stage_field(left: &mut Lines, schedule: &Schedule) -> Result<(u64, u64, u64), PointFault>
+    ensures read { IfOk result (λ x. IsRead stage_in (IsStageOf schedule.now) left.old x left.new) }
+    ensures small { IfOk result (λ x. (x.0 + 1) * schedule.now.moves < 2 ^ 61) }
+    ensures fault { IfErr result (λ e. (e ≡ NoMemory) ⊎ FieldFault e stage_in (IsStageOf schedule.now) StageField (λ x ls. ⊥) left.old) }
+{
+    let line = due(left)?;
+    let Some(stage) = stage_in(&line) else {
+        return Err(PointFault::BadField(line.number));
+    };
+    let last = schedule.last_index();
+    if stage.0 <= last && stage.1 < schedule.moves() && stage.2 <= stage.1 {
+        Ok(stage)
+    } else {
+        Err(PointFault::OutOfRange(PointField::Stage))
+    }
+}
+
+/// The temperature of a stage that the next line gives.
+fn temperature_field(left: &mut Lines, schedule: &Schedule, index: u64) -> Result<u64, PointFault>
+    ensures read { IfOk result (λ t. IsRead (number_in (codes "temperature")) (MayStand schedule.now index) left.old t left.new) }
+    ensures fault { IfErr result (λ e. (e ≡ NoMemory) ⊎ FieldFault e (number_in (codes "temperature")) (MayStand schedule.now index) Temperature (λ t ls. ⊥) left.old) }
+{
+    let t = number_field(left, b"temperature")?;
+    if schedule.may_stand(index, t) {
+        Ok(t)
+    } else {
+        Err(PointFault::OutOfRange(PointField::Temperature))
+    }
+}
+
+/// The temperature of a stage: that of the next line, or in the first version, whose schedules cool by a factor, that of the
+/// schedule.
+fn read_heat(
+    left: &mut Lines,
+    version: Version,
+    schedule: &Schedule,
+    index: u64,
+) -> Result<u64, PointFault>
+    requires one { version ≡ Version.One → (f : ℕ) × (schedule.now.cooling ≡ Factor f) }
+    requires stage { (t : ℕ) × MayStand schedule.now index t }
+    ensures read { IfOk result (λ t. HeatRead version schedule.now index left.old t left.new) }
+    ensures fault { IfErr result (λ e. (e ≡ NoMemory) ⊎ HeatFault e version schedule.now index (λ t ls. ⊥) left.old) }
+{
+    match version {
+        Version::One => Ok(schedule.temperature(index).unwrap_or(0)),
+        Version::Two => temperature_field(left, schedule, index),
+    }
+}
+
+/// The range of the running stage, on an array.
+fn range_field(left: &mut Lines, grid: &Grid) -> Result<u64, PointFault>
+    ensures read { IfOk result (λ r. IsRead (number_in (codes "range")) (IsRangeOn grid.now) left.old r left.new) }
+    ensures fault { IfErr result (λ e. (e ≡ NoMemory) ⊎ FieldFault e (number_in (codes "range")) (IsRangeOn grid.now) Range (λ r ls. ⊥) left.old) }
+{
+    let range = number_field(left, b"range")?;
+    let side = u64::from(grid.nx().max(grid.ny()));
+    if 1_000 <= range && range <= 1_000 * side {
+        Ok(range)
+    } else {
+        Err(PointFault::OutOfRange(PointField::Range))
+    }
+}
+
+/// The moves accepted in all, where so many were made and so many of the running stage accepted.
+fn total_field(
+    left: &mut Lines,
+    schedule: &Schedule,
+    stage: (u64, u64, u64),
+) -> Result<u64, PointFault>
+    requires small { (stage.0 + 1) * schedule.now.moves < 2 ^ 61 }
+    requires made { stage.1 < schedule.now.moves }
+    ensures read { IfOk result (λ n. IsRead (number_in (codes "total")) (IsTotal schedule.now stage) left.old n left.new) }
+    ensures fault { IfErr result (λ e. (e ≡ NoMemory) ⊎ FieldFault e (number_in (codes "total")) (IsTotal schedule.now stage) Total (λ n ls. ⊥) left.old) }
+{
+    let total = number_field(left, b"total")?;
+    let made = stage.0 * schedule.moves() + stage.1;
+    if stage.2 <= total && total <= made {
+        Ok(total)
+    } else {
+        Err(PointFault::OutOfRange(PointField::Total))
+    }
+}
+
+/// The running stage, and the moves accepted in all.
+fn read_stage(
+    left: &mut Lines,
+    version: Version,
+    grid: &Grid,
+    schedule: &Schedule,
+) -> Result<(Stage, u64), PointFault>
+    requires one { version ≡ Version.One → (f : ℕ) × (schedule.now.cooling ≡ Factor f) }
+    ensures read { IfOk result (λ r. StageRead version grid.now schedule.now left.old r.0 r.1 left.new) }
+    ensures fault { IfErr result (λ e. (e ≡ NoMemory) ⊎ StageFault e version grid.now schedule.now (λ ls. ⊥) left.old) }
+{
+    let made = stage_field(left, schedule)?;
+    let t = read_heat(left, version, schedule, made.0)?;
+    let range = range_field(left, grid)?;
+    let total = total_field(left, schedule, made)?;
+    let stage = Stage {
+        index: made.0,
+        t,
+        range,
+        done: made.1,
+        accepted: made.2,
+        frozen: t == 0,
+    };
+    Ok((stage, total))
+}
+
+/// Whether a block may be fixed: the first version fixes pads alone.
+fn may_be_fixed(version: Version, design: &Design, block: BlockId) -> bool
+    requires { block.0 < length design.now.kinds }
+    ensures { IsTrue result ↔ MayBeFixed version design.now block.0 }
+{
+    match version {
+        Version::One => design.kind(block) != BlockKind::Logic,
+        Version::Two => true,
+    }
+}
+
+/// The block that a line names.
+fn block_in(design: &Design, line: &Line) -> Option<BlockId>
+    ensures block { option_map (λ b. b.0) result ≡ block_in design.now (shown line.now) }
+    ensures within { IfSome result (λ b. b.0 < length design.now.kinds) }
+{
+    let _blocks = design.blocks();
+    design.block_named(word_at(line, 0))
+}
+
+/// The block that a line `NAME fixed` names, which is not named yet.
+fn named_block(
+    line: &Line,
+    version: Version,
+    design: &Design,
+    named: &[bool],
+) -> Result<BlockId, PlaceFault>
+    requires { length named.now ≡ length design.now.kinds }
+    ensures ok { IfOk result (λ b. name_fault version design.now (λ b. slice_index_or named.now b false) (shown line.now).number (is_fixed_line (shown line.now)) (block_in design.now (shown line.now)) ≡ None) }
+    ensures named { IfOk result (λ b. block_in design.now (shown line.now) ≡ Some b.0) }
+    ensures within { IfOk result (λ b. b.0 < length named.now) }
+    ensures fault { IfErr result (λ e. name_fault version design.now (λ b. slice_index_or named.now b false) (shown line.now).number (is_fixed_line (shown line.now)) (block_in design.now (shown line.now)) ≡ Some e) }
+{
+    if !is_fixed_line(line) {
+        return Err(PlaceFault::BadLine(line.number));
+    }
+    let Some(block) = block_in(design, line) else {
+        return Err(PlaceFault::UnknownBlock(line.number));
+    };
+    if named[block.0 as usize] {
+        return Err(PlaceFault::Repeated(line.number));
+    }
+    if !may_be_fixed(version, design, block) {
+        return Err(PlaceFault::NotAPad(line.number));
+    }
+    Ok(block)
+}
+
+/// The names of so many fixed blocks: of each block whether it is one.
+fn take_names(
+    alloc: Global,
+    left: &mut Lines,
+    version: Version,
+    design: &Design,
+    count: u64,
+) -> Result<Vec<bool>, PointFault>
+    ensures read { IfOk result (λ named. AreNamed version design.now count left.old named.items left.new) }
+    ensures fault { IfErr result (λ e. (e ≡ NoMemory) ⊎ ListFault e (fixed_fault version design.now) count (λ ls. ⊥) left.old) }
+{
+    let mut named = vec![in alloc; false; design.blocks()]?;
+    'names: for _ in 0..count {
+        let line = due(left)?;
+        let block = named_block(&line, version, design, &named)?;
+        named[block.0 as usize] = true;
+    }
+    Ok(named)
+}
+
+/// The fixed blocks: of each block whether it is one.
+fn read_names(
+    alloc: Global,
+    left: &mut Lines,
+    version: Version,
+    design: &Design,
+) -> Result<Vec<bool>, PointFault>
+    ensures read { IfOk result (λ named. NamesRead version design.now left.old named.items left.new) }
+    ensures fault { IfErr result (λ e. (e ≡ NoMemory) ⊎ NamesFault e version design.now (λ ls. ⊥) left.old) }
+{
+    let count = number_field(left, b"fixed")?;
+    if count > design.blocks() as u64 {
+        return Err(PointFault::OutOfRange(PointField::Fixed));
+    }
+    take_names(alloc, left, version, design, count)
+}
+
+/// The places of all blocks, one line for each.
+fn take_seats(
+    alloc: Global,
+    left: &mut Lines,
+    design: &Design,
+    grid: &Grid,
+) -> Result<Placement, PointFault>
+    ensures read { IfOk result (λ p. AreSeated design.now grid.now left.old p left.new) }
+    ensures fault { IfErr result (λ e. (e ≡ NoMemory) ⊎ ListFault e (seat_fault design.now grid.now) (length design.now.kinds) (λ ls. ⊥) left.old) }
+{
+    let mut placed = PlaceLines::new(alloc, design, grid)?;
+    'places: for _ in 0..design.blocks() {
+        let line = due(left)?;
+        placed.take(&line)?;
+    }
+    Ok(placed.finish()?)
+}
+
+/// The placement.
+fn read_seats(
+    alloc: Global,
+    left: &mut Lines,
+    design: &Design,
+    grid: &Grid,
+) -> Result<Placement, PointFault>
+    ensures read { IfOk result (λ p. SeatsRead design.now grid.now left.old p left.new) }
+    ensures fault { IfErr result (λ e. (e ≡ NoMemory) ⊎ SeatsFault e design.now grid.now (λ ls. ⊥) left.old) }
+{
+    let count = number_field(left, b"places")?;
+    if count != design.blocks() as u64 {
+        return Err(PointFault::OutOfRange(PointField::Places));
+    }
+    take_seats(alloc, left, design, grid)
+}
+
+/// The last line, behind which none is left.
+fn read_end(left: &mut Lines) -> Result<(), PointFault>
+    ensures read { OnOk result (EndRead left.old) }
+    ensures fault { IfErr result (λ e. (e ≡ NoMemory) ⊎ EndFault e left.old) }
+{
+    let line = due(left)?;
+    if !is_end(&line) {
+        return Err(PointFault::BadField(line.number));
+    }
+    match left.next()? {
+        None => Ok(()),
+        Some(more) => Err(PointFault::BadField(more.number)),
+    }
+}
+
+/// The blocks that are named stay where they stand.
+fn fix_named(alloc: Global, named: &[bool], placement: &Placement) -> Result<Fixed, AllocError>
+    requires many { length named.now ≡ length placement.now.sites }
+    requires few { length named.now < 2 ^ 32 }
+    ensures { IfOk result (λ f. (b : ℕ) → fixed_at f b ≡ (if slice_index_or named.now b false then Some (site_of placement.now.sites b) else None)) }
+{
+    let mut fixed = Fixed::none(alloc);
+    for b in 0..named.len() {
+        if named[b] {
+            let block = BlockId(b as u32);
+            fixed.fix(block, placement.site_of(block))?;
+        }
+    }
+    Ok(fixed)
+}
+
+/// What a text stands for, or its first fault.
+fn read_parts(
+    alloc: Global,
+    bytes: &[u8],
+    io_rat: u16,
+    design: &Design,
+) -> Result<(u64, Grid, Point), PointFault>
+    ensures found { IfOk result (λ r. StandsForPoint io_rat design.now (lines bytes.now) r.0 r.1 r.2) }
+    ensures fault { IfErr result (λ e. (e ≡ NoMemory) ⊎ IsFirstFault io_rat design.now (lines bytes.now) e) }
+{
+    let mut left = Lines::new(alloc, bytes);
+    let version = read_version(&mut left)?;
+    let head = read_head(&mut left, version, io_rat, design)?;
+    let (stage, total) = read_stage(&mut left, version, &head.grid, &head.schedule)?;
+    let named = read_names(alloc, &mut left, version, design)?;
+    let placement = read_seats(alloc, &mut left, design, &head.grid)?;
+    read_end(&mut left)?;
+    let fixed = fix_named(alloc, &named, &placement)?;
+    let point = Point {
+        schedule: head.schedule,
+        stage,
+        total,
+        fixed,
+        placement,
+    };
+    Ok((head.seed, head.grid, point))
+}
+
+/// The seed, the array and the point of a run that a checkpoint text stands for, with the architecture and the design of that run:
+/// a text of the first or the second version. Else its first fault: that of the first line that is faulty or missing. The time
+/// grows with the length of the text.
+pub fn read_point(
+    alloc: Global,
+    bytes: &[u8],
+    arch: &Arch,
+    design: &Design,
+) -> Result<(u64, Grid, Point), PointFault>
+    // What is read is what the text stands for.
+    ensures found { IfOk result (λ r. StandsForPoint arch.now.io_rat design.now (lines bytes.now) r.0 r.1 r.2) }
+    // What it stands for is read, unless memory runs out.
+    ensures only { (seed : ℕ) (g : GridShape) (p : PointOf) → StandsForPoint arch.now.io_rat design.now (lines bytes.now) seed g p → MatchResult result (λ r. (r.0 ≡ seed) × (r.1 ≡ g) × IsSamePoint r.2 p) (λ e. e ≡ NoMemory) }
+    // An error is the first fault, or want of memory.
+    ensures fault { IfErr result (IsPointFault arch.now.io_rat design.now (lines bytes.now)) }
+{
+    let _blocks = design.blocks();
+    read_parts(alloc, bytes, arch.io_rat, design)
+}
+
+/// The law that the lines of a checkpoint text either stand for one point or have one first fault, and never both.
+pub fn point_texts_mean_or_fault()
+    ensures { (io_rat : ℕ) (d : Netlist) (ls : List TextLine) → IsLawfulDesign d → PointMeansOrFaults io_rat d ls }
+{}
