@@ -2,6 +2,7 @@
 use Rattle.std.proofs.Common.{ℕ, ◌≡◌, ◌∙◌, sym, ap, subst, ◌⊎◌, inl, inr, refl}
 use Rattle.fab_run.specs.declared.fault.RunFault.{RunFault}
 use Rattle.fab_run.specs.declared.fault.RunFault.TheVariants as run_fault
+use Rattle.fab_run.specs.declared.point_fault.PointFault.TheVariants as point_fault
 use Rattle.vplace.specs.declared.status.Status.{Status}
 use Rattle.vplace.specs.declared.status.Status.TheVariants as status
 use Rattle.vplace.specs.Status.{IsRefused, status_of}
@@ -43,6 +44,12 @@ refused_is (run_fault.Place (place_fault.BadLine n)) h = tt
 refused_is (run_fault.Place place_fault.BadLabel) h = tt
 refused_is (run_fault.Place place_fault.Write) h = absurd (device h)
 refused_is (run_fault.Place place_fault.NoMemory) h = tt
+refused_is (run_fault.Point point_fault.BadVersion) h = tt
+refused_is (run_fault.Point (point_fault.BadField n)) h = tt
+refused_is (run_fault.Point (point_fault.OutOfRange f)) h = tt
+refused_is (run_fault.Point (point_fault.Block x)) h = tt
+refused_is (run_fault.Point point_fault.Write) h = absurd (device h)
+refused_is (run_fault.Point point_fault.NoMemory) h = absurd (memory h)
 refused_is (run_fault.Size e) h = tt
 refused_is (run_fault.Schedule e) h = tt
 refused_is run_fault.BatchOutOfRange h = tt
@@ -72,6 +79,12 @@ no_refusal (run_fault.Place (place_fault.BadLine n)) h = absurd (h tt)
 no_refusal (run_fault.Place place_fault.BadLabel) h = absurd (h tt)
 no_refusal (run_fault.Place place_fault.Write) h = inr refl
 no_refusal (run_fault.Place place_fault.NoMemory) h = absurd (h tt)
+no_refusal (run_fault.Point point_fault.BadVersion) h = absurd (h tt)
+no_refusal (run_fault.Point (point_fault.BadField n)) h = absurd (h tt)
+no_refusal (run_fault.Point (point_fault.OutOfRange f)) h = absurd (h tt)
+no_refusal (run_fault.Point (point_fault.Block x)) h = absurd (h tt)
+no_refusal (run_fault.Point point_fault.Write) h = inr refl
+no_refusal (run_fault.Point point_fault.NoMemory) h = absurd (h tt)
 no_refusal (run_fault.Size e) h = absurd (h tt)
 no_refusal (run_fault.Schedule e) h = absurd (h tt)
 no_refusal run_fault.BatchOutOfRange h = absurd (h tt)
@@ -129,6 +142,12 @@ no_device (run_fault.Place (place_fault.BadLine n)) h q = absurd cc
 no_device (run_fault.Place place_fault.BadLabel) h q = absurd cc
 no_device (run_fault.Place place_fault.Write) h q = h
 no_device (run_fault.Place place_fault.NoMemory) h q = absurd cc
+no_device (run_fault.Point point_fault.BadVersion) h q = absurd cc
+no_device (run_fault.Point (point_fault.BadField n)) h q = absurd cc
+no_device (run_fault.Point (point_fault.OutOfRange f)) h q = absurd cc
+no_device (run_fault.Point (point_fault.Block x)) h q = absurd cc
+no_device (run_fault.Point point_fault.Write) h q = absurd h
+no_device (run_fault.Point point_fault.NoMemory) h q = absurd cc
 no_device (run_fault.Size e) h q = absurd cc
 no_device (run_fault.Schedule e) h q = absurd cc
 no_device run_fault.BatchOutOfRange h q = absurd cc

@@ -1,5 +1,5 @@
 -- What a run of the program that ended with 0 did (our own).
-use Rattle.std.specs.Prelude.{ℕ, ◌<◌, ◌⊎◌, List, Option, length}
+use Rattle.std.specs.Prelude.{ℕ, ◌<◌, List, Option, length}
 use Rattle.std.specs.Io.KnownBytes.{Appends}
 use Rattle.fab_run.specs.Check.{IsReported}
 use Rattle.fab_run.specs.Setting.{Texts}

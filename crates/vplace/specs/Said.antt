@@ -1,5 +1,5 @@
 -- What is said on standard error (our own).
-use Rattle.std.specs.Prelude.{ℕ, ◌≡◌, ◌⊎◌, List, ◌++◌, Option, codes, refl}
+use Rattle.std.specs.Prelude.{ℕ, ◌≡◌, ◌<◌, ◌⊎◌, List, ◌++◌, Option, codes, length, refl}
 use Rattle.std.specs.Io.KnownBytes.{Appends}
 use Rattle.fab_text.specs.Failures.{grown}
 use Rattle.fab_text.specs.FaultTexts.{num_fault_text}
@@ -14,6 +14,10 @@ use Rattle.vplace.specs.declared.asked.WordFault.TheVariants.{SizeInPart, BadNum
 -- the line went out, with a line feed at its end, unless the writer failed
 abbrev pub IsSaid : List ℕ → Option (List ℕ) → Option (List ℕ) → ℕ → ℕ → Type 0
 IsSaid line old new failed_old failed_new = Appends old new (line ++ codes "\n") ⊎ (failed_new ≡ grown failed_old)
+
+-- something was said: a text that is not empty went out, unless the writer failed
+abbrev pub IsFaultSaid : Option (List ℕ) → Option (List ℕ) → ℕ → ℕ → Type 0
+IsFaultSaid old new failed_old failed_new = (text : List ℕ) × (0 < length text) × (Appends old new text ⊎ (failed_new ≡ grown failed_old))
 
 abbrev pub no_memory_line : List ℕ
 no_memory_line = codes "vplace: no memory"

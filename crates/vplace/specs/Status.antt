@@ -4,8 +4,9 @@ use Rattle.std.specs.Prelude.{ℕ, ◌≡◌, ◌⊎◌}
 use Rattle.fab_arch.specs.declared.fault.ArchFault.TheVariants.{NoMemory as ArchNoMemory}
 use Rattle.fab_net.specs.declared.fault.NetFault.TheVariants.{NoMemory as NetNoMemory}
 use Rattle.fab_file.specs.declared.fault.PlaceFault.TheVariants.{NoMemory as PlaceNoMemory, Write as PlaceWrite}
+use Rattle.fab_run.specs.declared.point_fault.PointFault.TheVariants.{NoMemory as PointNoMemory, Write as PointWrite}
 use Rattle.fab_run.specs.declared.fault.RunFault.{RunFault}
-use Rattle.fab_run.specs.declared.fault.RunFault.TheVariants.{Arch, Net, Pads, Place, Size, Schedule, BatchOutOfRange, WorkersOutOfRange, Report, NoMemory as RunNoMemory}
+use Rattle.fab_run.specs.declared.fault.RunFault.TheVariants.{Arch, Net, Pads, Place, Point, Size, Schedule, BatchOutOfRange, WorkersOutOfRange, Report, NoMemory as RunNoMemory}
 use Rattle.vplace.specs.declared.status.Status.{Status}
 use Rattle.vplace.specs.declared.status.Status.TheVariants.{Done, Refused, CommandLine, NoMemory, Device}
 
@@ -27,6 +28,9 @@ status_of (Pads _) = Refused
 status_of (Place PlaceNoMemory) = NoMemory
 status_of (Place PlaceWrite) = Device
 status_of (Place _) = Refused
+status_of (Point PointNoMemory) = NoMemory
+status_of (Point PointWrite) = Device
+status_of (Point _) = Refused
 status_of (Size _) = Refused
 status_of (Schedule _) = CommandLine
 status_of BatchOutOfRange = CommandLine

@@ -7,6 +7,7 @@ ghost use Rattle.fab_net.specs.Netlist.{Netlist};
 ghost use Rattle.fab_text.specs.Failures.{grown};
 ghost use Rattle.fab_run.specs.Check.{AreChecked, FaultOf, IsReported};
 ghost use Rattle.fab_run.specs.declared.fault.RunFault.{RunFault as RunFaultOf};
+ghost use Rattle.vplace.specs.Said.{IsFaultSaid};
 ghost use Rattle.vplace.specs.Placing.{AreGiven};
 ghost use Rattle.vplace.specs.Status.{status_of};
 
@@ -42,6 +43,7 @@ pub fn check_files<F: NamedFiles, O: Sink, E: Sink>(
     ensures silent { result ≡ Status.Refused → O.contents out.new ≡ O.contents out.old }
     ensures written { result ≡ Status.Done → O.failed out.new ≡ O.failed out.old }
     ensures quiet { result ≡ Status.Done → E.contents err.new ≡ E.contents err.old }
+    ensures said { result ≢ Status.Done → IsFaultSaid (E.contents err.old) (E.contents err.new) (E.failed err.old) (E.failed err.new) }
     ensures line { result ≢ Status.CommandLine }
 {
     let arch = match read_role(alloc, files, Role::Arch, names.arch.as_slice(), err) {
@@ -87,6 +89,7 @@ pub fn check_texts<O: Sink, E: Sink>(
     ensures device { result ≡ Status.Device → O.failed out.new ≡ grown (O.failed out.old) }
     ensures written { result ≡ Status.Done → O.failed out.new ≡ O.failed out.old }
     ensures quiet { result ≡ Status.Done → E.contents err.new ≡ E.contents err.old }
+    ensures said { result ≢ Status.Done → IsFaultSaid (E.contents err.old) (E.contents err.new) (E.failed err.old) (E.failed err.new) }
     ensures line { result ≢ Status.CommandLine }
 {
     match check_run(alloc, arch, net, place, out) {

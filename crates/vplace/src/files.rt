@@ -42,16 +42,20 @@ pub trait NamedFiles {
     /// The place of a file that is to be written.
     type Outlet: Drop;
 
+    /// The name that a place was taken for.
+    ghost name_of: { Self.Outlet → List ℕ };
+
     /// All bytes of a file.
     fn read(&self, alloc: Global, name: &[u8]) -> Result<Vec<u8>, ReadFault>
         ensures { IfOk result (λ bytes. Gives (held self.now) name.now bytes.items) };
 
     /// Finds out whether bytes can be put at a name, and takes a place for them. At the name itself nothing is made.
-    fn reserve(&self, alloc: Global, name: &[u8]) -> Result<Self::Outlet, WriteFault>;
+    fn reserve(&self, alloc: Global, name: &[u8]) -> Result<Self::Outlet, WriteFault>
+        ensures { IfOk result (λ outlet. name_of outlet ≡ name.now) };
 
     /// Puts bytes at the name that the place was taken for, instead of all that it gave.
-    fn put(&mut self, name: &[u8], outlet: Self::Outlet, bytes: &[u8]) -> Result<(), WriteFault>
-        ensures put { OnOk result (Puts (held self.old) (held self.new) name.now bytes.now) }
+    fn put(&mut self, outlet: Self::Outlet, bytes: &[u8]) -> Result<(), WriteFault>
+        ensures put { OnOk result (Puts (held self.old) (held self.new) (name_of outlet) bytes.now) }
         ensures kept { OnErr result (held self.new ≡ held self.old) };
 
     /// Gives a place up that was taken for nothing.

@@ -48,6 +48,16 @@ names the first fault, as `vplace: place: P8 Missing block 3`.
 Example:
   vplace check --arch small.arch --net small.net --place small.place";
 
+pub(crate) const ARCH: &str =
+    "The architecture: pads for each position, and the pins of a logic block";
+
+pub(crate) const NET: &str = "The netlist: the blocks, and the nets on their pins";
+
+const PLACE: &str = "The placement: the size of the array, and the site of each block";
+
+// The options of `check` by name, in the order of the help.
+const CHECK_OPTIONS: [(&str, &str); 3] = [("arch", ARCH), ("net", NET), ("place", PLACE)];
+
 // A required option with one value, the name of a file.
 pub(crate) fn file_option<'a>(alloc: Global, name: &'a str, help: &'a str) -> Arg<'a> {
     Arg::new(alloc, name)
@@ -59,27 +69,13 @@ pub(crate) fn file_option<'a>(alloc: Global, name: &'a str, help: &'a str) -> Ar
 }
 
 fn check_command<'a>(alloc: Global) -> Result<Command<'a>, AllocError> {
-    let arch = file_option(
-        alloc,
-        "arch",
-        "The architecture: pads for each position, and the pins of a logic block",
-    );
-    let net = file_option(
-        alloc,
-        "net",
-        "The netlist: the blocks, and the nets on their pins",
-    );
-    let place = file_option(
-        alloc,
-        "place",
-        "The placement: the size of the array, and the site of each block",
-    );
-    Command::new(alloc, "check")
+    let mut command = Command::new(alloc, "check")
         .about(CHECK_ABOUT)
-        .after_help(CHECK_AFTER)
-        .arg(arch)?
-        .arg(net)?
-        .arg(place)
+        .after_help(CHECK_AFTER);
+    for (name, help) in CHECK_OPTIONS {
+        command = command.arg(file_option(alloc, name, help))?;
+    }
+    Ok(command)
 }
 
 fn vplace_command<'a>(alloc: Global) -> Result<Command<'a>, AllocError> {
@@ -110,19 +106,17 @@ fn check_names(alloc: Global, matches: &ArgMatches<'_>) -> Result<CheckNames, Al
     Ok(CheckNames { arch, net, place })
 }
 
-/// What the words ask for; else what is to be said of them. No words ask for the check of the built-in example.
-pub fn parse_words(alloc: Global, words: &[Vec<u8>]) -> Result<Asked, Error>
-    ensures example { words.now ≡ [] → result ≡ Ok Example }
-{
-    if words.is_empty() {
-        return Ok(Asked::Example);
-    }
+// The words as the parser takes them, behind the program's name.
+fn shown_words(alloc: Global, words: &[Vec<u8>]) -> Result<Vec<String>, AllocError> {
     let mut texts = Vec::new(alloc);
     texts.push(String::from_str(alloc, NAME)?)?;
     for word in words {
         texts.push(as_text(alloc, word.as_slice())?)?;
     }
-    let matches = vplace_command(alloc)?.try_get_matches_from(texts.as_slice())?;
+    Ok(texts)
+}
+
+fn asked_for(alloc: Global, matches: &ArgMatches<'_>) -> Result<Asked, AllocError> {
     if let Some(place) = matches.subcommand_matches("place") {
         return Ok(Asked::Place(place_words(alloc, place)?));
     }
@@ -131,4 +125,16 @@ pub fn parse_words(alloc: Global, words: &[Vec<u8>]) -> Result<Asked, Error>
         // The parser asks for a command, so there is one.
         None => Ok(Asked::Example),
     }
+}
+
+/// What the words ask for; else what is to be said of them. No words ask for the check of the built-in example.
+pub fn parse_words(alloc: Global, words: &[Vec<u8>]) -> Result<Asked, Error>
+    ensures example { words.now ≡ [] → result ≡ Ok Example }
+{
+    if words.is_empty() {
+        return Ok(Asked::Example);
+    }
+    let texts = shown_words(alloc, words)?;
+    let matches = vplace_command(alloc)?.try_get_matches_from(texts.as_slice())?;
+    Ok(asked_for(alloc, &matches)?)
 }

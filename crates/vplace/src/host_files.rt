@@ -24,18 +24,26 @@ pub struct HostFiles<'a> {
     rt: &'a HostRuntime,
 }
 
-/// Where the bytes of an out file go.
+/// The place that was taken for an out file.
 #[derive(Drop)]
-pub enum Outlet {
-    /// To a file beside, under a lock, which then takes the place of the other.
+pub struct Outlet {
+    // The name that was asked for, of which contracts speak.
+    name: Vec<u8>,
+    way: Way,
+}
+
+// Where the bytes of an out file go.
+#[derive(Drop)]
+enum Way {
+    // To a file beside, under a lock, which then takes the place of the other.
     Beside(Beside),
-    /// To the file itself: a device, a pipe, or a plain file in a folder that takes no new file.
+    // To the file itself: a device, a pipe, or a plain file in a folder that takes no new file.
     InPlace(String),
 }
 
-/// A file that is to take the place of another.
+// A file that is to take the place of another.
 #[derive(Drop)]
-pub struct Beside {
+struct Beside {
     file: File,
     name: String,
     target: String,
@@ -53,6 +61,8 @@ impl NamedFiles for HostFiles<'_> {
 
     type Outlet = Outlet;
 
+    ghost name_of = { λ outlet. outlet.name.items };
+
     /// The library opens files by names that are text; a file with another name is not read.
     fn read(&self, _alloc: Global, name: &[u8]) -> Result<Vec<u8>, ReadFault> {
         let Ok(name) = str::from_utf8(name) else {
@@ -68,33 +78,26 @@ impl NamedFiles for HostFiles<'_> {
     }
 
     fn reserve(&self, alloc: Global, name: &[u8]) -> Result<Outlet, WriteFault> {
-        let Ok(name) = str::from_utf8(name) else {
-            return Err(WriteFault::Unwritable);
-        };
-        let (target, found) = self.end_of_links(alloc, name)?;
-        let Some(found) = found else {
-            return self.place_beside(alloc, target, None);
-        };
-        if found.is_file() && !is_open_file(target.as_str()) {
-            self.stop_unless_writable(target.as_str())?;
-            return self.place_beside(alloc, target, Some(found.permissions()));
+        match Vec::from_slice(alloc, name) {
+            Ok(name) => {
+                let way = self.way_to(alloc, name.as_slice())?;
+                Ok(Outlet { name, way })
+            }
+            Err(_) => Err(WriteFault::NoMemory),
         }
-        // A pipe is not opened before there are bytes for it: it would wait for a reader.
-        if !found.file_type().is_fifo() {
-            self.stop_unless_writable(target.as_str())?;
-        }
-        Ok(Outlet::InPlace(target))
     }
 
-    fn put(&mut self, _name: &[u8], outlet: Outlet, bytes: &[u8]) -> Result<(), WriteFault> {
-        match outlet {
-            Outlet::Beside(beside) => self.replace(beside, bytes),
-            Outlet::InPlace(target) => self.overwrite(target.as_str(), bytes),
+    fn put(&mut self, outlet: Outlet, bytes: &[u8]) -> Result<(), WriteFault> {
+        let Outlet { way, .. } = outlet;
+        match way {
+            Way::Beside(beside) => self.replace(beside, bytes),
+            Way::InPlace(target) => self.overwrite(target.as_str(), bytes),
         }
     }
 
     fn release(&self, outlet: Outlet) {
-        if let Outlet::Beside(beside) = outlet {
+        let Outlet { way, .. } = outlet;
+        if let Way::Beside(beside) = way {
             if self.is_at(&beside.file, beside.name.as_str()) {
                 let _ = fs::remove_file(self.rt, beside.name.as_str());
             }
@@ -126,6 +129,25 @@ fn folder_of(name: &str) -> &str {
 }
 
 impl HostFiles<'_> {
+    fn way_to(&self, alloc: Global, name: &[u8]) -> Result<Way, WriteFault> {
+        let Ok(name) = str::from_utf8(name) else {
+            return Err(WriteFault::Unwritable);
+        };
+        let (target, found) = self.end_of_links(alloc, name)?;
+        let Some(found) = found else {
+            return self.place_beside(alloc, target, None);
+        };
+        if found.is_file() && !is_open_file(target.as_str()) {
+            self.stop_unless_writable(target.as_str())?;
+            return self.place_beside(alloc, target, Some(found.permissions()));
+        }
+        // A pipe is not opened before there are bytes for it: it would wait for a reader.
+        if !found.file_type().is_fifo() {
+            self.stop_unless_writable(target.as_str())?;
+        }
+        Ok(Way::InPlace(target))
+    }
+
     // The name that symbolic links lead to from this one, and what is there, if anything is. An open file of a process is an end.
     fn end_of_links(
         &self,
@@ -175,14 +197,14 @@ impl HostFiles<'_> {
         alloc: Global,
         target: String,
         mode: Option<Permissions>,
-    ) -> Result<Outlet, WriteFault> {
+    ) -> Result<Way, WriteFault> {
         for number in 0..MOST_BESIDE {
             let name = beside_name(alloc, target.as_str(), number)?;
             match self.fresh(name.as_str()) {
                 Ok(Some(file)) => return self.with_mode(Beside { file, name, target }, mode),
                 Ok(None) => {}
                 Err(error) if must_be_in_place(error.kind(), mode.is_some()) => {
-                    return Ok(Outlet::InPlace(target));
+                    return Ok(Way::InPlace(target));
                 }
                 Err(error) => return Err(WriteFault::of(&error)),
             }
@@ -190,14 +212,14 @@ impl HostFiles<'_> {
         Err(WriteFault::Unwritable)
     }
 
-    fn with_mode(&self, beside: Beside, mode: Option<Permissions>) -> Result<Outlet, WriteFault> {
+    fn with_mode(&self, beside: Beside, mode: Option<Permissions>) -> Result<Way, WriteFault> {
         if let Some(mode) = mode {
             if let Err(error) = beside.file.set_permissions(mode) {
                 let _ = fs::remove_file(self.rt, beside.name.as_str());
                 return Err(WriteFault::of(&error));
             }
         }
-        Ok(Outlet::Beside(beside))
+        Ok(Way::Beside(beside))
     }
 
     // A new file of this name under a lock; none where another run uses the one that is there, or where something else has the name.

@@ -2,8 +2,6 @@
 #![tactic(auto)]
 
 mod asked;
-#[cfg(test)]
-mod check_tests;
 mod checking;
 mod example;
 mod files;
@@ -19,10 +17,6 @@ mod placing;
 mod placing_tests;
 mod program;
 mod reading;
-#[cfg(test)]
-mod run_tests;
-#[cfg(test)]
-mod schedule_tests;
 mod status;
 #[cfg(test)]
 mod tests;

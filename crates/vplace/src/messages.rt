@@ -3,9 +3,10 @@
 ghost use Rattle.std.specs.Prelude.{◌≡◌, ◌≢◌, ◌⊎◌, ◌++◌, IfOk, codes};
 ghost use Rattle.std.specs.String.{string_bytes};
 ghost use Rattle.fab_file.specs.declared.fault.PlaceFault.TheVariants.{Write};
-ghost use Rattle.fab_run.specs.declared.fault.RunFault.TheVariants.{Place, Report};
+ghost use Rattle.fab_run.specs.declared.fault.RunFault.TheVariants.{Place, Point, Report};
+ghost use Rattle.fab_run.specs.declared.point_fault.PointFault.TheVariants.{Write as PointWrite};
 ghost use Rattle.fab_run.specs.FaultLines.{fault_line as line_of_fault};
-ghost use Rattle.vplace.specs.Said.{IsSaid, no_memory_line, option_name as name_of_option, unreadable_line, word_fault_line};
+ghost use Rattle.vplace.specs.Said.{IsFaultSaid, IsSaid, no_memory_line, option_name as name_of_option, unreadable_line, word_fault_line};
 ghost use Rattle.vplace.specs.Status.{status_of};
 
 use crate::asked::{Number, WordFault};
@@ -18,6 +19,7 @@ use std::alloc::{AllocError, Global};
 pub fn no_memory<E: Sink>(err: &mut E) -> Status
     ensures status { result ≡ Status.NoMemory }
     ensures said { IsSaid no_memory_line (E.contents err.old) (E.contents err.new) (E.failed err.old) (E.failed err.new) }
+    ensures heard { IsFaultSaid (E.contents err.old) (E.contents err.new) (E.failed err.old) (E.failed err.new) }
 {
     let _ = write_whole(err, b"vplace: no memory\n");
     Status::NoMemory
@@ -36,6 +38,7 @@ pub enum Role {
 pub fn unreadable<E: Sink>(err: &mut E, role: Role) -> Status
     ensures status { result ≡ Status.Device }
     ensures said { IsSaid (unreadable_line role) (E.contents err.old) (E.contents err.new) (E.failed err.old) (E.failed err.new) }
+    ensures heard { IsFaultSaid (E.contents err.old) (E.contents err.new) (E.failed err.old) (E.failed err.new) }
 {
     let line: &[u8] = match role {
         Role::Arch => b"vplace: cannot read arch\n",
@@ -51,6 +54,7 @@ pub fn unreadable<E: Sink>(err: &mut E, role: Role) -> Status
 pub fn unwritable_report<E: Sink>(err: &mut E) -> Status
     ensures status { result ≡ Status.Device }
     ensures said { IsSaid (codes "vplace: cannot write report") (E.contents err.old) (E.contents err.new) (E.failed err.old) (E.failed err.new) }
+    ensures heard { IsFaultSaid (E.contents err.old) (E.contents err.new) (E.failed err.old) (E.failed err.new) }
 {
     let _ = write_whole(err, b"vplace: cannot write report\n");
     Status::Device
@@ -60,6 +64,7 @@ pub fn unwritable_report<E: Sink>(err: &mut E) -> Status
 pub fn unwritable_place<E: Sink>(err: &mut E) -> Status
     ensures status { result ≡ Status.Device }
     ensures said { IsSaid (codes "vplace: cannot write place") (E.contents err.old) (E.contents err.new) (E.failed err.old) (E.failed err.new) }
+    ensures heard { IsFaultSaid (E.contents err.old) (E.contents err.new) (E.failed err.old) (E.failed err.new) }
 {
     let _ = write_whole(err, b"vplace: cannot write place\n");
     Status::Device
@@ -91,6 +96,7 @@ fn word_fault_text(alloc: Global, fault: WordFault) -> Result<String, AllocError
 pub fn word_fault<E: Sink>(alloc: Global, err: &mut E, fault: WordFault) -> Status
     ensures status { (result ≡ Status.CommandLine) ⊎ (result ≡ Status.NoMemory) }
     ensures said { ((result ≡ Status.CommandLine) × IsSaid (word_fault_line fault) (E.contents err.old) (E.contents err.new) (E.failed err.old) (E.failed err.new)) ⊎ ((result ≡ Status.NoMemory) × IsSaid no_memory_line (E.contents err.old) (E.contents err.new) (E.failed err.old) (E.failed err.new)) }
+    ensures heard { IsFaultSaid (E.contents err.old) (E.contents err.new) (E.failed err.old) (E.failed err.new) }
 {
     match word_fault_text(alloc, fault) {
         Ok(line) => {
@@ -106,8 +112,9 @@ pub fn run_fault<E: Sink>(alloc: Global, err: &mut E, fault: &RunFault, net: &[u
     ensures status { (result ≡ status_of fault.now) ⊎ (result ≡ Status.NoMemory) }
     // The line of the fault went out, or that there was no memory for it.
     ensures said { ((result ≡ status_of fault.now) × IsSaid (line_of_fault fault.now net.now) (E.contents err.old) (E.contents err.new) (E.failed err.old) (E.failed err.new)) ⊎ ((result ≡ Status.NoMemory) × IsSaid no_memory_line (E.contents err.old) (E.contents err.new) (E.failed err.old) (E.failed err.new)) }
+    ensures heard { IsFaultSaid (E.contents err.old) (E.contents err.new) (E.failed err.old) (E.failed err.new) }
     ensures open { result ≢ Status.Done }
-    ensures device { result ≡ Status.Device → (fault.now ≡ Report) ⊎ (fault.now ≡ Place Write) }
+    ensures device { result ≡ Status.Device → (fault.now ≡ Report) ⊎ ((fault.now ≡ Place Write) ⊎ (fault.now ≡ Point PointWrite)) }
 {
     match fault_line(alloc, fault, net) {
         Ok(mut line) => {

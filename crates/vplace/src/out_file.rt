@@ -1,15 +1,26 @@
 //! The place text of a run on its way to a file: it lies in memory until the run has answered, and its name is tried before the
 //! first move.
 
-ghost use Rattle.std.specs.Prelude.{◌≡◌, [], Some};
+ghost use Rattle.std.specs.Prelude.{◌≡◌, ℕ, List, [], Some};
+ghost use Rattle.std.specs.Option.{ForSome};
 
 use crate::files::{NamedFiles, WriteFault};
 use std::alloc::Global;
 use std::io::Write;
+use std::marker::{Brand, PhantomData};
+
+/// The name of an out file, known to its type, so that whoever is lent the file leaves one of the same name.
+pub trait Named {
+    ghost name: { List ℕ };
+}
+
+impl Named for Brand {
+    ghost name = { [] };
+}
 
 /// The bytes of a file that is yet to be written, and the place that was taken for them.
 #[derive(Drop)]
-pub struct OutFile<'a, F: NamedFiles> {
+pub struct OutFile<'a, F: NamedFiles, N: Named> {
     pub files: &'a F,
     pub alloc: Global,
     pub name: &'a [u8],
@@ -17,11 +28,16 @@ pub struct OutFile<'a, F: NamedFiles> {
     pub outlet: Option<F::Outlet>,
     pub fault: Option<WriteFault>,
     pub failures: u64,
+    pub of: PhantomData<N>,
+    // The place was taken for the name.
+    ghost named: { name.now ≡ N.name },
+    ghost placed: { ForSome outlet (λ place. F.name_of place ≡ N.name) },
 }
 
-impl<'a, F: NamedFiles> OutFile<'a, F> {
+impl<'a, F: NamedFiles, N: Named> OutFile<'a, F, N> {
     /// No bytes yet, and no place.
     pub fn new(files: &'a F, alloc: Global, name: &'a [u8]) -> Self
+        requires { name.now ≡ N.name }
         ensures text { result.text.items ≡ [] }
         ensures failures { result.failures ≡ 0 }
     {
@@ -33,11 +49,12 @@ impl<'a, F: NamedFiles> OutFile<'a, F> {
             outlet: None,
             fault: None,
             failures: 0,
+            of: PhantomData,
         }
     }
 }
 
-impl<F: NamedFiles> fab_text::Sink for OutFile<'_, F> {
+impl<F: NamedFiles, N: Named> fab_text::Sink for OutFile<'_, F, N> {
     ghost contents = { λ file. Some file.text.items };
 
     ghost failed = { λ file. file.failures };

@@ -5,7 +5,7 @@ ghost use Rattle.clap.specs.Words.{found_of};
 ghost use Rattle.vplace.specs.Given.{AreGivenBy, GivesDefault, GivesNumber, GivesText};
 
 use crate::asked::PlaceWords;
-use crate::flags::{file_name, file_option};
+use crate::flags::{ARCH, NET, file_name, file_option};
 use clap::{Arg, ArgAction, ArgMatches, Command, value_parser};
 use std::alloc::{AllocError, Global};
 
@@ -20,6 +20,8 @@ then writes the placement. The same files and numbers give the same bytes on eve
 
 Example:
   vplace place --arch small.arch --net small.net --out small.place --seed 7";
+
+const OUT: &str = "Where the placement is written, once the run is over";
 
 const PADS: &str =
     "The locations: a line `NAME X Y SUB` fixes a block there, a last word `free` only begins it there";
@@ -48,86 +50,67 @@ const BATCH: &str =
 
 const WORKERS: &str = "How many threads judge moves, 1 to 64; the placement does not depend on it";
 
-// An option with one value, the name of a file.
-fn named_file<'a>(alloc: Global, name: &'a str, help: &'a str) -> Arg<'a> {
-    Arg::new(alloc, name)
-        .long(name)
-        .value_name("FILE")
-        .action(ArgAction::Set)
-        .help(help)
+// What an option takes.
+#[derive(Clone, Copy)]
+enum Takes {
+    // The name of a file; the option is needed.
+    NeededFile,
+    // The name of a file.
+    File,
+    // A side of the array.
+    Side,
+    // A whole number, perhaps with a default.
+    Whole(Option<&'static str>),
+    // A decimal number, with its default.
+    Decimal(&'static str),
 }
 
-// An option with one value, a decimal number.
-fn decimal_option<'a>(alloc: Global, name: &'a str, default: &'a str, help: &'a str) -> Arg<'a> {
+// The options by name, in the order of the help.
+const OPTIONS: [(&str, Takes, &str); 14] = [
+    ("arch", Takes::NeededFile, ARCH),
+    ("net", Takes::NeededFile, NET),
+    ("out", Takes::NeededFile, OUT),
+    ("pads", Takes::File, PADS),
+    ("nx", Takes::Side, NX),
+    ("ny", Takes::Side, NY),
+    ("seed", Takes::Whole(Some("1")), SEED),
+    ("init-t", Takes::Decimal("100"), INIT_T),
+    ("exit-t", Takes::Decimal("0.01"), EXIT_T),
+    ("alpha-t", Takes::Decimal("0.8"), ALPHA_T),
+    ("inner", Takes::Whole(Some("10")), INNER),
+    ("moves", Takes::Whole(None), MOVES),
+    ("batch", Takes::Whole(Some("64")), BATCH),
+    ("workers", Takes::Whole(Some("4")), WORKERS),
+];
+
+// An option with one value, a number.
+fn number_option<'a>(alloc: Global, name: &'a str, help: &'a str) -> Arg<'a> {
     Arg::new(alloc, name)
         .long(name)
         .value_name("NUMBER")
         .action(ArgAction::Set)
-        .default_value(default)
         .help(help)
 }
 
-// An option with one value, a whole number.
-fn whole_option<'a>(alloc: Global, name: &'a str, help: &'a str) -> Arg<'a> {
-    Arg::new(alloc, name)
-        .long(name)
-        .value_name("NUMBER")
-        .action(ArgAction::Set)
-        .value_parser(value_parser!(u64))
-        .help(help)
-}
-
-// An option with one value, a side of the array.
-fn side_option<'a>(alloc: Global, name: &'a str, help: &'a str) -> Arg<'a> {
-    Arg::new(alloc, name)
-        .long(name)
-        .value_name("NUMBER")
-        .action(ArgAction::Set)
-        .value_parser(value_parser!(u16))
-        .help(help)
-}
-
-fn with_files<'a>(alloc: Global, command: Command<'a>) -> Result<Command<'a>, AllocError> {
-    let arch = file_option(
-        alloc,
-        "arch",
-        "The architecture: pads for each position, and the pins of a logic block",
-    );
-    let net = file_option(
-        alloc,
-        "net",
-        "The netlist: the blocks, and the nets on their pins",
-    );
-    let out = file_option(
-        alloc,
-        "out",
-        "Where the placement is written, once the run is over",
-    );
-    command
-        .arg(arch)?
-        .arg(net)?
-        .arg(out)?
-        .arg(named_file(alloc, "pads", PADS))
-}
-
-fn with_schedule<'a>(alloc: Global, command: Command<'a>) -> Result<Command<'a>, AllocError> {
-    command
-        .arg(decimal_option(alloc, "init-t", "100", INIT_T))?
-        .arg(decimal_option(alloc, "exit-t", "0.01", EXIT_T))?
-        .arg(decimal_option(alloc, "alpha-t", "0.8", ALPHA_T))?
-        .arg(whole_option(alloc, "inner", INNER).default_value("10"))?
-        .arg(whole_option(alloc, "moves", MOVES))
+fn option_of<'a>(alloc: Global, name: &'a str, takes: Takes, help: &'a str) -> Arg<'a> {
+    match takes {
+        Takes::NeededFile => file_option(alloc, name, help),
+        Takes::File => file_option(alloc, name, help).required(false),
+        Takes::Side => number_option(alloc, name, help).value_parser(value_parser!(u16)),
+        Takes::Whole(None) => number_option(alloc, name, help).value_parser(value_parser!(u64)),
+        Takes::Whole(Some(default)) => number_option(alloc, name, help)
+            .value_parser(value_parser!(u64))
+            .default_value(default),
+        Takes::Decimal(default) => number_option(alloc, name, help).default_value(default),
+    }
 }
 
 pub fn place_command<'a>(alloc: Global) -> Result<Command<'a>, AllocError> {
-    let command = Command::new(alloc, "place").about(ABOUT).after_help(AFTER);
-    let command = with_files(alloc, command)?
-        .arg(side_option(alloc, "nx", NX))?
-        .arg(side_option(alloc, "ny", NY))?
-        .arg(whole_option(alloc, "seed", SEED).default_value("1"))?;
-    with_schedule(alloc, command)?
-        .arg(whole_option(alloc, "batch", BATCH).default_value("64"))?
-        .arg(whole_option(alloc, "workers", WORKERS).default_value("4"))
+    let mut command = Command::new(alloc, "place").about(ABOUT).after_help(AFTER);
+    for (name, takes, help) in OPTIONS {
+        command = command.arg(option_of(alloc, name, takes, help))?;
+    }
+    Ok(command)
 }
 
 // The file name that an option was given, if it was.

@@ -1,7 +1,7 @@
 //! The subcommand `place`: the files are read, and only then is the first of their texts looked at; the placement is
 //! written once the run has answered.
 
-ghost use Rattle.std.specs.Prelude.{◌≡◌, ◌≢◌, ◌⊎◌, ℕ, List, OnOk, OnErr, IfOk, IfErr, option_map};
+ghost use Rattle.std.specs.Prelude.{◌≡◌, ◌≢◌, ◌⊎◌, ℕ, List, OnOk, OnErr, IfOk, IfErr, IfSome, option_map};
 ghost use Rattle.fab_text.specs.Failures.{grown};
 ghost use Rattle.fab_run.specs.Placed.{IsReportBegun};
 ghost use Rattle.fab_run.specs.Setting.{IsSetting, Setting, Texts, texts_of};
@@ -11,6 +11,7 @@ ghost use Rattle.fab_run.specs.declared.fault.RunFault.{RunFault as RunFaultOf};
 ghost use Rattle.vplace.specs.Status.{IsRefused, status_of};
 ghost use Rattle.vplace.specs.Asked.{AreAsked, IsWordFault};
 ghost use Rattle.vplace.specs.Files.{Puts};
+ghost use Rattle.vplace.specs.Said.{IsFaultSaid};
 ghost use Rattle.vplace.specs.Placing.{AreNamed, GivesPads, IsPlacedText, name_of};
 ghost use Rattle.vplace.specs.declared.asked.WordFault.{WordFault as WordFaultOf};
 
@@ -18,13 +19,14 @@ use crate::asked::{PlaceWords, options_of};
 use crate::files::{NamedFiles, WriteFault};
 use crate::messages;
 use crate::messages::Role;
-use crate::out_file::OutFile;
+use crate::out_file::{Named, OutFile};
 use crate::reading::read_role;
 use crate::status::Status;
 use fab_file::{Labels, PlaceFault};
 use fab_run::{Inputs, Options, RunFault, place_run};
 use fab_text::Sink;
 use std::alloc::Global;
+use std::marker::Brand;
 use std::sync::Wait;
 use std::thread::Threads;
 
@@ -45,6 +47,8 @@ fn read_pads<F: NamedFiles, E: Sink>(
 ) -> Result<Option<Vec<u8>>, Status>
     ensures gives { IfOk result (λ text. GivesPads (F.held files.now) (name_of words.now) (option_map (λ bytes. bytes.items) text)) }
     ensures quiet { OnOk result (E.contents err.new ≡ E.contents err.old) }
+    ensures still { OnOk result (E.failed err.new ≡ E.failed err.old) }
+    ensures said { OnErr result (IsFaultSaid (E.contents err.old) (E.contents err.new) (E.failed err.old) (E.failed err.new)) }
     ensures open { IfErr result (λ status. (status ≡ Status.Device) ⊎ (status ≡ Status.NoMemory)) }
 {
     match &words.pads {
@@ -62,6 +66,8 @@ fn read_texts<F: NamedFiles, E: Sink>(
 ) -> Result<Read, Status>
     ensures gives { IfOk result (λ read. AreNamed (F.held files.now) words.now (record { arch = read.arch.items; net = read.net.items; pads = option_map (λ bytes. bytes.items) read.pads; net_label = words.now.net.items; arch_label = words.now.arch.items })) }
     ensures quiet { OnOk result (E.contents err.new ≡ E.contents err.old) }
+    ensures still { OnOk result (E.failed err.new ≡ E.failed err.old) }
+    ensures said { OnErr result (IsFaultSaid (E.contents err.old) (E.contents err.new) (E.failed err.old) (E.failed err.new)) }
     ensures open { IfErr result (λ status. (status ≡ Status.Device) ⊎ (status ≡ Status.NoMemory)) }
 {
     let arch = read_role(alloc, files, Role::Arch, words.arch.as_slice(), err)?;
@@ -72,7 +78,13 @@ fn read_texts<F: NamedFiles, E: Sink>(
 
 /// Places the design of a run, all of whose texts are at hand. The report goes out; the answer is the place text, and the place
 /// that was taken for it at its name before the first move.
-pub fn place_texts<R: AllocGlobal + Threads + Wait + Sync, F: NamedFiles, O: Sink, E: Sink>(
+pub fn place_texts<
+    R: AllocGlobal + Threads + Wait + Sync,
+    F: NamedFiles,
+    O: Sink,
+    E: Sink,
+    N: Named,
+>(
     rt: &R,
     inputs: &Inputs,
     options: &Options,
@@ -81,8 +93,11 @@ pub fn place_texts<R: AllocGlobal + Threads + Wait + Sync, F: NamedFiles, O: Sin
     out: &mut O,
     err: &mut E,
 ) -> Result<(Vec<u8>, Option<F::Outlet>), Status>
+    requires { name.now ≡ N.name }
     // What goes out is the report of annealing one move at a time, and the answer is the text of its placement.
     ensures placed { IfOk result (λ made. IsPlacedText (texts_of inputs.now) options.now (O.contents out.old) (O.contents out.new) made.0.items) }
+    // A place that was taken is that of the name.
+    ensures taken { IfOk result (λ made. IfSome made.1 (λ outlet. F.name_of outlet ≡ name.now)) }
     // A refusal is that of the first check that fails.
     ensures refused { IfErr result (λ status. IsRefused status → (fault : RunFaultOf) × IsRunFault (texts_of inputs.now) options.now fault × (status_of fault ≡ status)) }
     // Texts and numbers that mean a run are never refused.
@@ -94,9 +109,11 @@ pub fn place_texts<R: AllocGlobal + Threads + Wait + Sync, F: NamedFiles, O: Sin
     ensures device { IfErr result (λ status. status ≡ Status.Device → (O.failed out.new ≡ grown (O.failed out.old)) ⊎ ((s : Setting) × IsSetting (texts_of inputs.now) options.now s)) }
     ensures written { OnOk result (O.failed out.new ≡ O.failed out.old) }
     ensures quiet { OnOk result (E.contents err.new ≡ E.contents err.old) }
+    ensures still { OnOk result (E.failed err.new ≡ E.failed err.old) }
+    ensures said { OnErr result (IsFaultSaid (E.contents err.old) (E.contents err.new) (E.failed err.old) (E.failed err.new)) }
     ensures open { IfErr result (λ status. status ≢ Status.Done) }
 {
-    let mut place = OutFile::new(files, rt.alloc(), name);
+    let mut place: OutFile<'_, F, N> = OutFile::new(files, rt.alloc(), name);
     let told = place_run(rt, inputs, options, out, &mut place);
     let OutFile {
         text,
@@ -127,9 +144,11 @@ fn put_text<F: NamedFiles, E: Sink>(
     text: &[u8],
     err: &mut E,
 ) -> Status
+    requires { IfSome outlet (λ outlet. F.name_of outlet ≡ name.now) }
     ensures put { result ≡ Status.Done → Puts (F.held files.old) (F.held files.new) name.now text.now }
     ensures kept { result ≢ Status.Done → F.held files.new ≡ F.held files.old }
     ensures quiet { result ≡ Status.Done → E.contents err.new ≡ E.contents err.old }
+    ensures said { result ≢ Status.Done → IsFaultSaid (E.contents err.old) (E.contents err.new) (E.failed err.old) (E.failed err.new) }
     ensures open { (result ≡ Status.Done) ⊎ ((result ≡ Status.Device) ⊎ (result ≡ Status.NoMemory)) }
 {
     let outlet = match outlet {
@@ -137,7 +156,7 @@ fn put_text<F: NamedFiles, E: Sink>(
         None => files.reserve(alloc, name),
     };
     let put = match outlet {
-        Ok(outlet) => files.put(name, outlet, text),
+        Ok(outlet) => files.put(outlet, text),
         Err(fault) => Err(fault),
     };
     match put {
@@ -166,6 +185,8 @@ pub fn place_files<R: AllocGlobal + Threads + Wait + Sync, F: NamedFiles, O: Sin
     ensures silent { IsRefused result → O.contents out.new ≡ O.contents out.old }
     ensures written { result ≡ Status.Done → O.failed out.new ≡ O.failed out.old }
     ensures quiet { result ≡ Status.Done → E.contents err.new ≡ E.contents err.old }
+    // Else something was said of the fault.
+    ensures said { result ≢ Status.Done → IsFaultSaid (E.contents err.old) (E.contents err.new) (E.failed err.old) (E.failed err.new) }
 {
     let alloc = rt.alloc();
     let options = match options_of(words) {
@@ -187,7 +208,7 @@ pub fn place_files<R: AllocGlobal + Threads + Wait + Sync, F: NamedFiles, O: Sin
         pads: read.pads.as_deref(),
         labels,
     };
-    match place_texts(rt, &inputs, &options, &*files, name, out, err) {
+    match place_texts::<R, F, O, E, Brand>(rt, &inputs, &options, &*files, name, out, err) {
         Ok((text, outlet)) => put_text(alloc, files, name, outlet, text.as_slice(), err),
         Err(status) => status,
     }

@@ -6,13 +6,39 @@ ghost use Rattle.vplace.specs.Files.{text_among};
 use crate::files::{NamedFiles, ReadFault, WriteFault};
 use crate::narrow::Narrow;
 use crate::program::program;
-use crate::run_tests::{ARCH, NET, PADS, PLACE, REPORT};
 use fab_text::{Counted, Sink, write_whole};
 use std::alloc::{AllocError, Global};
 use std::cell::Cell;
 use std::sync::Wait;
 use std::test::*;
 use std::thread::Threads;
+
+const ARCH: &[u8] = b"io_rat 1\ninpin class: 0 left\noutpin class: 1 right\n";
+
+const NET: &[u8] =
+    b".input a\npinlist: n1\n.output z\npinlist: n2\n.clb b\npinlist: n1 n2\nsubblock: b 0 1\n";
+
+const PADS: &[u8] = b"a 0 1 0\nz 2 1 0\n";
+
+const REPORT: &[u8] = b"blocks 3 logic 1 pads 2 nets 2 array 1 x 1
+start cost 4.0000
+stage 0 t 10.0000 range 1.000 moves 3 accepted 0 cost 4.0000
+stage 1 t 5.0000 range 1.000 moves 3 accepted 0 cost 4.0000
+stage 2 t 2.5000 range 1.000 moves 3 accepted 0 cost 4.0000
+stage 3 t 1.2500 range 1.000 moves 3 accepted 0 cost 4.0000
+frozen range 1.000 moves 3 accepted 0 cost 4.0000
+final cost 4.0000 accepted 0 of 15
+";
+
+const PLACE: &[u8] = b"Netlist file: t.net   Architecture file: t.arch
+Array size: 1 x 1 logic blocks
+
+#block name\tx\ty\tsubblk\tblock number
+#----------\t--\t--\t------\t------------
+a\t0\t1\t0\t#0
+z\t2\t1\t0\t#1
+b\t1\t1\t0\t#2
+";
 
 // The files of the design. What is put at `t.place` is kept, and so is what is put at `late`, for which the disk is full by then; for
 // `huge` there is no memory by then; no other name is taken.
@@ -29,8 +55,10 @@ struct Desk {
 impl NamedFiles for Desk {
     ghost held = { λ desk. Some (text_among ((codes "t.arch", Some desk.arch.now) ∷ (codes "t.net", Some desk.net.now) ∷ (codes "t.pads", Some desk.pads.now) ∷ (codes "t.place", option_map (λ bytes. bytes.items) desk.placed) ∷ [])) };
 
-    // The number of places that were taken.
-    type Outlet = u32;
+    // The name.
+    type Outlet = Vec<u8>;
+
+    ghost name_of = { λ name. name.items };
 
     fn read(&self, alloc: Global, name: &[u8]) -> Result<Vec<u8>, ReadFault> {
         let text = if name == b"t.arch".as_slice() {
@@ -48,7 +76,7 @@ impl NamedFiles for Desk {
         }
     }
 
-    fn reserve(&self, _alloc: Global, name: &[u8]) -> Result<u32, WriteFault> {
+    fn reserve(&self, alloc: Global, name: &[u8]) -> Result<Vec<u8>, WriteFault> {
         if name == b"none".as_slice() {
             return Err(WriteFault::NoMemory);
         }
@@ -58,16 +86,21 @@ impl NamedFiles for Desk {
         if !is_known {
             return Err(WriteFault::Unwritable);
         }
-        self.taken.set(self.taken.get().saturating_add(1));
-        Ok(self.taken.get())
+        match Vec::from_slice(alloc, name) {
+            Ok(name) => {
+                self.taken.set(self.taken.get().saturating_add(1));
+                Ok(name)
+            }
+            Err(_) => Err(WriteFault::NoMemory),
+        }
     }
 
-    fn put(&mut self, name: &[u8], outlet: u32, bytes: &[u8]) -> Result<(), WriteFault> {
-        self.release(outlet);
-        if name == b"huge".as_slice() {
+    fn put(&mut self, name: Vec<u8>, bytes: &[u8]) -> Result<(), WriteFault> {
+        self.taken.set(self.taken.get().saturating_sub(1));
+        if name.as_slice() == b"huge".as_slice() {
             return Err(WriteFault::NoMemory);
         }
-        if name != b"t.place".as_slice() {
+        if name.as_slice() != b"t.place".as_slice() {
             return Err(WriteFault::Unwritable);
         }
         match Vec::from_slice(self.alloc, bytes) {
@@ -79,7 +112,7 @@ impl NamedFiles for Desk {
         }
     }
 
-    fn release(&self, _outlet: u32) {
+    fn release(&self, _name: Vec<u8>) {
         self.taken.set(self.taken.get().saturating_sub(1));
     }
 }

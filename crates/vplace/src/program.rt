@@ -1,7 +1,8 @@
 //! The whole program over its words, its files and its two outputs, so that a test can run it in memory.
 
-ghost use Rattle.std.specs.Prelude.{◌≡◌, ◌⊎◌, []};
+ghost use Rattle.std.specs.Prelude.{◌≡◌, ◌≢◌, ◌⊎◌, []};
 ghost use Rattle.vplace.specs.Done.{IsChecked, IsExample, IsPlaced, IsTold};
+ghost use Rattle.vplace.specs.Said.{IsFaultSaid};
 ghost use Rattle.vplace.specs.Status.{IsRefused};
 
 use crate::checking::{check_files, check_texts};
@@ -30,6 +31,7 @@ fn tell<O: Sink, E: Sink>(alloc: Global, error: &Error, out: &mut O, err: &mut E
     ensures silent { IsRefused result → O.contents out.new ≡ O.contents out.old }
     ensures written { result ≡ Status.Done → O.failed out.new ≡ O.failed out.old }
     ensures quiet { result ≡ Status.Done → E.contents err.new ≡ E.contents err.old }
+    ensures said { result ≢ Status.Done → IsFaultSaid (E.contents err.old) (E.contents err.new) (E.failed err.old) (E.failed err.new) }
     ensures told { result ≡ Status.Done → IsTold (O.contents out.old) (O.contents out.new) }
 {
     if error.kind() == ErrorKind::OutOfMemory {
@@ -38,13 +40,13 @@ fn tell<O: Sink, E: Sink>(alloc: Global, error: &Error, out: &mut O, err: &mut E
     let Ok(text) = text_of(alloc, error) else {
         return messages::no_memory(err);
     };
+    // What is to be said is never nothing.
+    if text.is_empty() {
+        return messages::no_memory(err);
+    }
     if error.use_stderr() {
         let _ = write_whole(err, text.as_slice());
         return Status::CommandLine;
-    }
-    // What was asked for is never nothing.
-    if text.is_empty() {
-        return messages::no_memory(err);
     }
     match write_whole(out, text.as_slice()) {
         Ok(()) => Status::Done,
@@ -63,6 +65,7 @@ fn run<R: AllocGlobal + Threads + Wait + Sync, F: NamedFiles, O: Sink, E: Sink>(
     ensures silent { IsRefused result → O.contents out.new ≡ O.contents out.old }
     ensures written { result ≡ Status.Done → O.failed out.new ≡ O.failed out.old }
     ensures quiet { result ≡ Status.Done → E.contents err.new ≡ E.contents err.old }
+    ensures said { result ≢ Status.Done → IsFaultSaid (E.contents err.old) (E.contents err.new) (E.failed err.old) (E.failed err.new) }
     ensures example { words.now ≡ [] → result ≡ Status.Done → IsExample ARCH.now NET.now PLACE.now (O.contents out.old) (O.contents out.new) }
     ensures done { result ≡ Status.Done → IsTold (O.contents out.old) (O.contents out.new) ⊎ (IsExample ARCH.now NET.now PLACE.now (O.contents out.old) (O.contents out.new) ⊎ (IsChecked (F.held files.old) (O.contents out.old) (O.contents out.new) ⊎ IsPlaced (F.held files.old) (F.held files.new) (O.contents out.old) (O.contents out.new))) }
 {
@@ -90,6 +93,9 @@ pub fn program<R: AllocGlobal + Threads + Wait + Sync, F: NamedFiles, O: Sink, E
     // Where the status is 0, no write to the output failed, and nothing was said on the standard error.
     ensures written { result ≡ 0 → O.failed out.new ≡ O.failed out.old }
     ensures quiet { result ≡ 0 → E.contents err.new ≡ E.contents err.old }
+
+    // Where it is not 0, something was said there, unless it failed too.
+    ensures said { result ≢ 0 → IsFaultSaid (E.contents err.old) (E.contents err.new) (E.failed err.old) (E.failed err.new) }
 
     // With no words it is 0 only where the report of the check of the built-in texts went out.
     ensures example { words.now ≡ [] → result ≡ 0 → IsExample ARCH.now NET.now PLACE.now (O.contents out.old) (O.contents out.new) }

@@ -1,7 +1,8 @@
 //! Files of a run, read whole.
 
-ghost use Rattle.std.specs.Prelude.{◌≡◌, ◌⊎◌, OnOk, IfOk, IfErr};
+ghost use Rattle.std.specs.Prelude.{◌≡◌, ◌⊎◌, OnOk, OnErr, IfOk, IfErr};
 ghost use Rattle.vplace.specs.Files.{Gives};
+ghost use Rattle.vplace.specs.Said.{IsFaultSaid};
 
 use crate::files::{NamedFiles, ReadFault};
 use crate::messages;
@@ -20,6 +21,8 @@ pub fn read_role<F: NamedFiles, E: Sink>(
 ) -> Result<Vec<u8>, Status>
     ensures gives { IfOk result (λ text. Gives (F.held files.now) name.now text.items) }
     ensures read { OnOk result (E.contents err.new ≡ E.contents err.old) }
+    ensures still { OnOk result (E.failed err.new ≡ E.failed err.old) }
+    ensures said { OnErr result (IsFaultSaid (E.contents err.old) (E.contents err.new) (E.failed err.old) (E.failed err.new)) }
     ensures fault { IfErr result (λ status. (status ≡ Status.Device) ⊎ (status ≡ Status.NoMemory)) }
 {
     match files.read(alloc, name) {

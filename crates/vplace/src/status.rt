@@ -2,13 +2,14 @@
 
 ghost use Rattle.std.specs.Prelude.{◌≡◌, ◌≢◌, ◌⊎◌};
 ghost use Rattle.fab_file.specs.declared.fault.PlaceFault.TheVariants.{Write};
-ghost use Rattle.fab_run.specs.declared.fault.RunFault.TheVariants.{Place, Report};
+ghost use Rattle.fab_run.specs.declared.fault.RunFault.TheVariants.{Place, Point, Report};
+ghost use Rattle.fab_run.specs.declared.point_fault.PointFault.TheVariants.{Write as PointWrite};
 ghost use Rattle.vplace.specs.Status.{code_of, status_of};
 
 use fab_arch::ArchFault;
 use fab_file::PlaceFault;
 use fab_net::NetFault;
-use fab_run::RunFault;
+use fab_run::{PointFault, RunFault};
 
 /// How a run of the program ended.
 #[derive(Clone, Copy, Debug, PartialEq, Eq)]
@@ -44,15 +45,18 @@ impl Status {
 pub fn status_after(fault: &RunFault) -> Status
     ensures status { result ≡ status_of fault.now }
     ensures open { result ≢ Status.Done }
-    ensures device { result ≡ Status.Device → (fault.now ≡ Report) ⊎ (fault.now ≡ Place Write) }
+    ensures device { result ≡ Status.Device → (fault.now ≡ Report) ⊎ ((fault.now ≡ Place Write) ⊎ (fault.now ≡ Point PointWrite)) }
 {
     match fault {
         RunFault::NoMemory
         | RunFault::Arch(ArchFault::NoMemory)
         | RunFault::Net(NetFault::NoMemory)
         | RunFault::Pads(PlaceFault::NoMemory)
-        | RunFault::Place(PlaceFault::NoMemory) => Status::NoMemory,
-        RunFault::Report | RunFault::Place(PlaceFault::Write) => Status::Device,
+        | RunFault::Place(PlaceFault::NoMemory)
+        | RunFault::Point(PointFault::NoMemory) => Status::NoMemory,
+        RunFault::Report
+        | RunFault::Place(PlaceFault::Write)
+        | RunFault::Point(PointFault::Write) => Status::Device,
         RunFault::Schedule(_) | RunFault::BatchOutOfRange | RunFault::WorkersOutOfRange => {
             Status::CommandLine
         }
@@ -60,6 +64,7 @@ pub fn status_after(fault: &RunFault) -> Status
         | RunFault::Net(_)
         | RunFault::Pads(_)
         | RunFault::Place(_)
+        | RunFault::Point(_)
         | RunFault::Size(_) => Status::Refused,
     }
 }

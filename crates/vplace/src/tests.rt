@@ -1,6 +1,6 @@
 // The program in memory: its words, the files that it reads, what it writes, and its status.
 
-ghost use Rattle.std.specs.Prelude.{None};
+ghost use Rattle.std.specs.Prelude.{None, []};
 
 use crate::files::{NamedFiles, ReadFault, WriteFault};
 use crate::narrow::Narrow;
@@ -42,6 +42,8 @@ impl NamedFiles for Shelf {
 
     type Outlet = ();
 
+    ghost name_of = { λ outlet. [] };
+
     fn read(&self, alloc: Global, name: &[u8]) -> Result<Vec<u8>, ReadFault> {
         self.reads.set(self.reads.get().saturating_add(1));
         let text = if name == self.arch {
@@ -66,7 +68,7 @@ impl NamedFiles for Shelf {
         Err(WriteFault::Unwritable)
     }
 
-    fn put(&mut self, _name: &[u8], _outlet: (), _bytes: &[u8]) -> Result<(), WriteFault> {
+    fn put(&mut self, _outlet: (), _bytes: &[u8]) -> Result<(), WriteFault> {
         Err(WriteFault::Unwritable)
     }
 

@@ -1,4 +1,4 @@
-use Rattle.std.proofs.Common.{◌≡◌, inr}
+use Rattle.std.proofs.Common.{inr}
 use Rattle.vplace.proofs.program.run.Goals as goal
 
 pub returns-in-Ok-Place-clause-done : goal.returns-in-Ok-Place-clause-done

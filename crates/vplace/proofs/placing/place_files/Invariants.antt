@@ -1,0 +1,4 @@
+use Rattle.vplace.proofs.placing.place_files.Given as goal
+
+abbrev pub ghosts-place_texts : goal.ghosts-place_texts
+ghosts-place_texts g a = record { name = a.name.now }

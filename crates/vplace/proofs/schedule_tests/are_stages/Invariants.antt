@@ -1,5 +1,0 @@
-use Rattle.fab_sched.specs.Annealing.{IsStage}
-use Rattle.vplace.proofs.schedule_tests.are_stages.Given as goal
-
-abbrev pub invariant-rows : goal.invariant-rows
-invariant-rows l = IsStage l.schedule l.side l.stage
