@@ -21,6 +21,7 @@ place:
 bench: program
 	@bench/place.sh
 	@bench/turns.sh
+	@bench/point.sh
 
 # The program, proved and then compiled, at crates/vplace/out/vplace: some 25 minutes on four processors, with a line for each crate as it
 # is done. With no change since, nothing is made anew.
