@@ -1,5 +1,5 @@
 -- Turns of one batch, one more at a time.
-use Rattle.std.proofs.Common.{◌≡◌, ℕ, zero, suc, ◌+◌, ◌-◌, ◌<◌, min, [], replicate, take, refl, sym, ap, ◌∙◌, arith}
+use Rattle.std.proofs.Common.{◌≡◌, ℕ, zero, suc, ◌+◌, ◌-◌, ◌<◌, ◌≤◌, min, [], replicate, take, refl, sym, ap, ◌∙◌, arith}
 use Rattle.std.specs.List.{count_by}
 use Rattle.fab_commit.specs.Serial.{Run, Standing, moves_left}
 use Rattle.fab_commit.specs.Commits.{AnnealOf, world_of}
@@ -8,7 +8,7 @@ use Rattle.fab_commit.specs.RunLaws.{is_redone_way}
 use Rattle.fab_commit.specs.TurnEvents.{LastTurn, IsOfAStage, next_turn, no_turn, stands, turn, turn_events, world_behind}
 use Rattle.fab_commit.specs.Turns.{last_turn, redone, redone_in_run, redone_next}
 use Rattle.fab_commit.specs.World.{World, ways}
-use Rattle.fab_commit.proofs.RunLaws.{redone_in_runs, ways_of_a_beginning}
+use Rattle.fab_commit.proofs.RunLaws.{redone_in_runs, redone_with_a_shorter, ways_of_a_beginning}
 use Rattle.fab_commit.proofs.TurnLaws.{turns_lead_on}
 
 last_push : (r : Run) (t : LastTurn) (n batch : ℕ) → last_turn r t (replicate (suc n) batch) ≡ next_turn r batch (last_turn r t (replicate n batch))
@@ -74,3 +74,26 @@ redone_by_turns r x batch a pos by =
     by.again
     ∙ redone_in_runs r x batch by.turns pos
     ∙ ap (λ (w : World). redone_in_run r x batch (w.live.done - x.done)) (sym by.here)
+
+-- and how many are, where a shorter turn came last
+pub redone_by_a_shorter : {W : Type 0} (r : Run) (x : Standing) (batch short : ℕ) (a b : AnnealOf W) → 0 < r.plan.moves → short ≤ batch → IsByTurns r x batch a
+    → b.standing.done ≡ a.standing.done + min short (moves_left r a.standing)
+    → b.redone ≡ a.redone + count_by is_redone_way (take (b.standing.done - a.standing.done) (ways r (world_of a) (turn_events r short (world_of a))))
+    → b.redone ≡ redone_in_run r x batch (b.standing.done - x.done)
+redone_by_a_shorter r x batch short a b pos low by done count =
+    let t = last_turn r (no_turn x) (replicate by.turns batch) in
+    let first : IsOfAStage r (no_turn x) = omega arith in
+    let stage = last_of_a_stage r (no_turn x) by.turns batch pos first in
+    let next = next_turn r short t in
+    let here : a.standing ≡ stands r t = ap (λ (w : World). w.live) by.here in
+    let same : min short (moves_left r a.standing) ≡ next.made = ap (λ s. min short (moves_left r s)) here in
+    let made : b.standing.done - a.standing.done ≡ next.made = omega (arith, done, same) in
+    let told = ways_of_a_beginning r t short next.made pos stage (omega arith) in
+    let counted : count_by is_redone_way (take (b.standing.done - a.standing.done) (ways r (world_of a) (turn_events r short (world_of a)))) ≡ redone_next r short t =
+    (λ i. count_by is_redone_way (take (made i) (ways r (by.here i) (turn_events r short (by.here i))))) ∙ told in
+    let was = by.again in
+    let all = redone_with_a_shorter r x batch by.turns short pos low in
+    let begun : a.standing.done ≡ (stands r t).done = ap (λ (s : Standing). s.done) here in
+    let end : (stands r t).done + next.made - x.done ≡ b.standing.done - x.done = omega (arith, done, same, begun) in
+    let sum : b.redone ≡ redone r (no_turn x) (replicate by.turns batch) + redone_next r short t = omega (arith, count, counted, was) in
+    sum ∙ all ∙ ap (redone_in_run r x batch) end

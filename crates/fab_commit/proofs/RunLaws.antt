@@ -289,3 +289,29 @@ redone_in_runs r x batch n pos =
     let done = told.done in
     let all : told.moves ≡ (stands r (last_turn r (no_turn x) (replicate n batch))).done - x.done = omega (arith, done) in
     told.redone_is ∙ ap (redone_in_run r x batch) all
+
+runs_through : (r : Run) (x : Standing) (batch n : ℕ) (t : LastTurn) → 0 < r.plan.moves → IsInRun r x batch t → IsInRun r x batch (last_turn r t (replicate n batch))
+runs_through r x batch zero t pos is = is
+runs_through r x batch (suc n) t pos is = runs_through r x batch n (next_turn r batch t) pos (runs_on r x batch t pos is)
+
+-- a shorter turn behind turns of one batch: its moves are first judged on what those of a whole one are
+pub redone_with_a_shorter : (r : Run) (x : Standing) (batch n short : ℕ) → 0 < r.plan.moves → short ≤ batch →
+    let t = last_turn r (no_turn x) (replicate n batch) in
+    redone r (no_turn x) (replicate n batch) + redone_next r short t ≡ redone_in_run r x batch ((stands r t).done + (next_turn r short t).made - x.done)
+redone_with_a_shorter r x batch n short pos low =
+    let t = last_turn r (no_turn x) (replicate n batch) in
+    let y = stands r t in
+    let made = (next_turn r short t).made in
+    let told : ℕ → Bool = λ k. is_redone r x (base_of r.plan.moves x.done batch k) k in
+    let is = runs_through r x batch n (no_turn x) pos (begins r x batch) in
+    let first = run_told r x batch n (no_turn x) pos (begins r x batch) in
+    let done = first.done in
+    let within : made ≤ (next_turn r batch t).made = omega (arith, low) in
+    let here : redone_next r short t ≡ count_by told (range_with_len y.done made) =
+    same_count (is_redone_behind r t) told y.done made (λ k a b. move_told r x batch t k pos is a (omega (arith, b, within))) in
+    let all : first.moves + made ≡ y.done + made - x.done = omega (arith, done) in
+    (λ i. first.redone_is i + here i)
+    ∙ ap (λ k. count_by told (range_with_len x.done first.moves) + count_by told (range_with_len k made)) done
+    ∙ sym (count_by-append told (range_with_len x.done first.moves) (range_with_len (x.done + first.moves) made))
+    ∙ ap (λ l. count_by told l) (range-append x.done first.moves made)
+    ∙ ap (redone_in_run r x batch) all
