@@ -4,10 +4,11 @@ use Rattle.std.proofs.lemmas.List.{append-nil}
 use Rattle.fab_commit.specs.Serial.{Run, Standing, accepted_among, from}
 use Rattle.fab_commit.proofs.Folding.{from_add}
 use Rattle.fab_run.specs.Piece.{end_line, last_line, stage_costs, stage_lines}
-use Rattle.fab_run.specs.Chains.{ChainsAreRuns, EndsAfter, IsUnbroken, StopsAfter, chain_lines}
+use Rattle.fab_run.specs.Chains.{ChainsAreRuns, IsUnbroken, chain_lines}
+use Rattle.fab_run.specs.Ends.{EndsAfter, StopsAfter}
 use Rattle.fab_run.proofs.Pieces.{accepted_add, costs_add, lines_add}
 
-no_end_line : (r : Run) (y : Standing) → is_some y.heat ≡ true → end_line r y ≡ []
+pub no_end_line : (r : Run) (y : Standing) → is_some y.heat ≡ true → end_line r y ≡ []
 no_end_line r y h = ap (λ b. cond b [] (last_line r y)) h
 
 last_piece : (r : Run) (x : Standing) (stop : Option ℕ) (n : ℕ) → EndsAfter r x stop n → IsUnbroken r x (n ∷ []) n

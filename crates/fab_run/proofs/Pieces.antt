@@ -8,9 +8,9 @@ use Rattle.fab_sched.specs.Annealing.{next_heat, next_range}
 use Rattle.fab_commit.specs.Serial.{Run, Standing, after_move, accepted_among, accepted_here, from, judged_here, left_at, moves_left, one_if, or_zero, stage_at, stage_of, step}
 use Rattle.fab_sched.specs.declared.schedules.Stage.{Stage}
 use Rattle.std.proofs.lemmas.Nat.{mod_below}
-use Rattle.fab_commit.proofs.Folding.{still_hot, step_is, left_step}
+use Rattle.fab_commit.proofs.Folding.{still_hot, step_is, left_step, from_add}
 use Rattle.fab_run.specs.RunReport.{stage_line}
-use Rattle.fab_run.specs.Piece.{cost_at, cost_here, line_here, stage_costs, stage_lines}
+use Rattle.fab_run.specs.Piece.{IsOver, cost_at, cost_here, line_here, stage_costs, stage_lines}
 
 -- n moves and then m moves
 pub lines_add : (r : Run) (x : Standing) (n m : ℕ) → stage_lines r x (n + m) ≡ stage_lines r x n ++ stage_lines r (from r x n) m
@@ -203,3 +203,36 @@ left_le_by moves n (Some t) = omega arith
 
 pub left_le : (r : Run) (x : Standing) → moves_left r x ≤ r.plan.moves
 left_le r x = left_le_by r.plan.moves x.done x.heat
+
+-- within a stage no line is told, and no cost
+pub no_lines : (r : Run) (x : Standing) (n : ℕ) → n < moves_left r x → stage_lines r x n ≡ []
+no_lines r x zero l = refl
+no_lines r x (suc n) l =
+    let s = stays_in r x (omega (arith, l)) in
+    let left = s.left in
+    let more : eqb (moves_left r x) 1 ≡ false = ne_eqb (moves_left r x) 1 (λ q. absurd (omega (arith, l, q))) in
+    ap (λ b. cond b (stage_line (x.done / r.plan.moves) (or_zero x.heat) x.range r.plan.moves (x.accepted + one_if (judged_here r x x.done).accepted) (cost_at r (step r x))) [] ++ stage_lines r (step r x) n) more
+    ∙ no_lines r (step r x) n (omega (arith, l, left))
+
+pub no_costs : (r : Run) (x : Standing) (n : ℕ) → n < moves_left r x → stage_costs r x n ≡ []
+no_costs r x zero l = refl
+no_costs r x (suc n) l =
+    let s = stays_in r x (omega (arith, l)) in
+    let left = s.left in
+    let more : eqb (moves_left r x) 1 ≡ false = ne_eqb (moves_left r x) 1 (λ q. absurd (omega (arith, l, q))) in
+    ap (λ b. cond b (cost_at r (step r x) ∷ []) [] ++ stage_costs r (step r x) n) more
+    ∙ no_costs r (step r x) n (omega (arith, l, left))
+
+-- where no move is left, none is made
+pub still : (r : Run) (x : Standing) → x.heat ≡ None → step r x ≡ x
+still r x e = ap (λ q. cond (is_some q) (after_move r x (judged_here r x x.done)) x) e
+
+pub from_still : (r : Run) (x : Standing) (n : ℕ) → x.heat ≡ None → from r x n ≡ x
+from_still r x zero e = refl
+from_still r x (suc n) e = ap (λ y. from r y n) (still r x e) ∙ from_still r x n e
+
+pub over_later : (r : Run) (x : Standing) (n m : ℕ) → IsOver r x n → n ≤ m → IsOver r x m
+over_later r x n m over low =
+    let e : n + (m - n) ≡ m = omega (arith, low) in
+    let there : from r x m ≡ from r x n = ap (from r x) (sym e) ∙ from_add r x n (m - n) ∙ from_still r (from r x n) (m - n) over in
+    ap (λ y. y.heat) there ∙ over

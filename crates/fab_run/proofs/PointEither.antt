@@ -31,7 +31,7 @@ use Rattle.fab_run.proofs.PointParts.{end_by, taking_fails, taking_missing}
 use Rattle.fab_run.proofs.PointLists.{AreAll, Seating, none_named, seated_all, seating_all, seating_fails, seating_none, seating_one}
 use Rattle.fab_run.proofs.PointWhole.{BehindHead, BehindNames, BehindStage, HasHead, due_map, due_past, field_map, field_past, head_map, head_past, heat_map, heat_past, names_map, names_past, seats_map, seats_past, stage_map, stage_past}
 use Rattle.fab_run.proofs.PointFound.{AreNames, found, names_meant}
-use Rattle.fab_run.proofs.PointOne.{Marked, count_none, mark_all, never_both, same}
+use Rattle.fab_run.proofs.PointOne.{Marked, count_none, mark_all, names_of_lawful, never_both, same}
 use Rattle.fab_run.proofs.PointFirst.{one_fault}
 
 -- what can be decided
@@ -362,6 +362,6 @@ means_or_faults io_rat d ls law =
         | inr fault ↦ inr fault
       ];
       never_both = λ seed g p e t h. never_both io_rat d ls seed g p e law t h;
-      one_point = λ seed other g h p q t u. same io_rat d ls seed other g h p q law t u;
+      one_point = λ seed other g h p q t u. same io_rat d ls seed other g h p q (names_of_lawful d law) t u;
       one_fault = one_fault io_rat d ls;
     }

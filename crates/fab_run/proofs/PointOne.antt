@@ -4,13 +4,15 @@ use Rattle.std.specs.Prelude.{option_map, Result, Ok, Err, IfOk, IfErr, MatchRes
 use Rattle.std.specs.List.{AllByRecursion, list_any}
 use Rattle.std.specs.Str.{bytes_eq}
 use Rattle.std.proofs.lemmas.Bool.{cases_Bool, false≢true, eqb-true, eq-eqb}
-use Rattle.std.proofs.lemmas.List.{append-nil, append_assoc, map-append, ext_get_or, length-append, length-replicate, length-set}
+use Rattle.std.proofs.lemmas.List.{append-nil, append_assoc, map-append, ext_get_or, length-append, length-map, length-replicate, length-set}
 use Rattle.fab_text.specs.Lines.{TextLine}
 use Rattle.fab_text.specs.FirstFault.{or_else, unless, fault_behind, fault_of_all}
 use Rattle.fab_arch.specs.declared.array.Site.{Site}
 use Rattle.fab_arch.specs.Grid.{GridShape}
 use Rattle.fab_net.specs.Names.{AllDistinct}
+use Rattle.fab_arch.specs.declared.architecture.PinKind.{PinKind}
 use Rattle.fab_net.specs.Netlist.{Netlist, IsLawful as IsLawfulDesign, is_logic_at}
+use Rattle.fab_net.specs.Text.{IsNetlist, kind_in, name_in, sections}
 use Rattle.fab_net.proofs.Naming.{itself, name_at_number}
 use Rattle.fab_net.proofs.Underway.{all_push}
 use Rattle.fab_site.specs.Placement.{IsLegal, fixed_at, nowhere, site_of}
@@ -375,7 +377,18 @@ counted_same name ls c k us bs xs ys t u m n =
     let long : length us ≡ length bs = (let e = many in cc) in
     list_same us bs xs ys long rest
 
-sites_same : (d : Netlist) (g : GridShape) (ls xs ys : List TextLine) (one two : List Site) → IsLawfulDesign d → length one ≡ length d.kinds → length two ≡ length d.kinds → SaysPlaces d ls xs one → SaysPlaces d ls ys two → one ≡ two
+-- each block has a name, and no two have one
+pub record HasNames (d : Netlist) : Type 0 where
+  pub named : length d.names ≡ length d.kinds
+  pub distinct : AllDistinct d.names
+
+pub names_of_lawful : (d : Netlist) → IsLawfulDesign d → HasNames d
+names_of_lawful d law = record { named = law.named; distinct = law.distinct }
+
+pub names_of_meaning : (arch : List PinKind) (ls : List TextLine) (d : Netlist) → IsNetlist arch ls d → HasNames d
+names_of_meaning arch ls d h = subst HasNames (sym h.netlist) (record { named = length-map (sections ls) name_in ∙ sym (length-map (sections ls) kind_in); distinct = h.distinct })
+
+sites_same : (d : Netlist) (g : GridShape) (ls xs ys : List TextLine) (one two : List Site) → HasNames d → length one ≡ length d.kinds → length two ≡ length d.kinds → SaysPlaces d ls xs one → SaysPlaces d ls ys two → one ≡ two
 sites_same d g ls xs ys one two law m n r s =
     let same = counted_same (codes "places") ls r.count_line s.count_line r.places s.places xs ys r.text s.text r.count s.count in
     let each : AllByRecursion (Places d two) r.places = subst (AllByRecursion (Places d two)) (sym same.0) s.each in
@@ -396,7 +409,7 @@ fixed_same v d one two ls xs ys f h same r s =
 names_behind : (v : Version) (d : Netlist) (one two : List Site) (ls xs ys : List TextLine) (f h : List (Option Site)) → SaysFixed v d one ls xs f → SaysFixed v d two ls ys h → xs ≡ ys
 names_behind v d one two ls xs ys f h r s = (counted_same (codes "fixed") ls r.count_line s.count_line r.names s.names xs ys r.text s.text r.count s.count).1
 
-same_by : (v : Version) (io_rat : ℕ) (d : Netlist) (fields : List TextLine) (seed other : ℕ) (g h : GridShape) (p q : Point) (fp pp fq pq e1 e2 : List TextLine) → IsLawfulDesign d
+same_by : (v : Version) (io_rat : ℕ) (d : Netlist) (fields : List TextLine) (seed other : ℕ) (g h : GridShape) (p q : Point) (fp pp fq pq e1 e2 : List TextLine) → HasNames d
     → SaysFields v fields fp seed g p → SaysFixed v d p.placement.sites fp pp p.fixed → SaysPlaces d pp e1 p.placement.sites → IsArrayFor io_rat d g → IsLawful p.schedule → IsPoint d g p
     → SaysFields v fields fq other h q → SaysFixed v d q.placement.sites fq pq q.fixed → SaysPlaces d pq e2 q.placement.sites → IsArrayFor io_rat d h → IsLawful q.schedule → IsPoint d h q → Same seed other g h p q
 same_by v io_rat d fields seed other g h p q fp pp fq pq e1 e2 law f1 x1 s1 a1 l1 p1 f2 x2 s2 a2 l2 p2 =
@@ -422,7 +435,7 @@ same_by v io_rat d fields seed other g h p q fp pp fq pq e1 e2 law f1 x1 s1 a1 l
       };
     }
 
-pub same : (io_rat : ℕ) (d : Netlist) (ls : List TextLine) (seed other : ℕ) (g h : GridShape) (p q : Point) → IsLawfulDesign d → StandsForPoint io_rat d ls seed g p → StandsForPoint io_rat d ls other h q → (seed ≡ other) × (g ≡ h) × IsSamePoint p q
+pub same : (io_rat : ℕ) (d : Netlist) (ls : List TextLine) (seed other : ℕ) (g h : GridShape) (p q : Point) → HasNames d → StandsForPoint io_rat d ls seed g p → StandsForPoint io_rat d ls other h q → (seed ≡ other) × (g ≡ h) × IsSamePoint p q
 same io_rat d ls seed other g h p q law t u =
     let both : t.first ∷ t.fields ≡ u.first ∷ u.fields = sym t.text ∙ u.text in
     let firsts : t.first ≡ u.first = (let k = both in cc) in
@@ -436,7 +449,7 @@ same io_rat d ls seed other g h p q law t u =
 
 pub only_by : (io_rat : ℕ) (d : Netlist) (ls : List TextLine) (seed : ℕ) (g : GridShape) (p : Point) (r : Result (ℕ × GridShape × Point) PointFault) → IsLawfulDesign d → IfOk r (λ x. StandsForPoint io_rat d ls x.0 x.1 x.2) → IfErr r (λ e. (e ≡ NoMemory) ⊎ IsFirstFault io_rat d ls e) → StandsForPoint io_rat d ls seed g p
     → MatchResult r (λ x. (x.0 ≡ seed) × (x.1 ≡ g) × IsSamePoint x.2 p) (λ e. e ≡ NoMemory)
-only_by io_rat d ls seed g p (Ok x) law found fault t = same io_rat d ls x.0 seed x.1 g x.2 p law found t
+only_by io_rat d ls seed g p (Ok x) law found fault t = same io_rat d ls x.0 seed x.1 g x.2 p (names_of_lawful d law) found t
 only_by io_rat d ls seed g p (Err e) law found fault t = elim fault [
   | inl memory ↦ memory
   | inr first ↦ absurd (never_both io_rat d ls seed g p e law t first)

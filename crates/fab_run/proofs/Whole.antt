@@ -1,25 +1,29 @@
--- The report of a whole run, and its beginnings.
-use Rattle.std.proofs.Common.{◌≡◌, ℕ, zero, suc, ◌+◌, ◌-◌, ◌<◌, List, [], ◌∷◌, ◌++◌, length, take, cond, Option, None, is_some, refl, sym, ap, subst, ◌∙◌, arith, inl, inr}
+-- The report of a piece, and its beginnings.
+use Rattle.std.proofs.Common.{◌≡◌, ℕ, zero, suc, ◌+◌, ◌-◌, ◌<◌, List, [], ◌∷◌, ◌++◌, length, take, true, false, cond, Option, Some, None, is_some, refl, sym, ap, subst, ◌∙◌, arith, inl, inr}
 use Rattle.std.specs.Io.KnownBytes.{Appends}
 use Rattle.std.specs.Prelude.{Result, Ok, Err, IfOk, IfErr, OnOk, OnErr}
 use Rattle.fab_site.specs.Placement.{IsLegal}
+use Rattle.std.proofs.lemmas.Bool.{false≢true}
 use Rattle.std.proofs.lemmas.List.{length-append}
 use Rattle.fab_file.specs.declared.fault.PlaceFault.TheVariants.{Write}
 use Rattle.fab_file.specs.Written.{IsCut}
 use Rattle.fab_cost.specs.Cost.{cost_of}
 use Rattle.fab_move.specs.Stream.{stream_moves}
-use Rattle.fab_commit.specs.Serial.{Run, Standing, accepted_among, from}
-use Rattle.fab_commit.specs.ByTurns.{IsByTurns, LeadsByTurns}
+use Rattle.fab_commit.specs.Serial.{Run, Standing, accepted_among, from, stage_at, stage_of}
 use Rattle.fab_commit.specs.Commits.{AnnealOf, IsSameRun, run_of}
 use Rattle.fab_commit.specs.Turns.{redone_in_run}
-use Rattle.fab_commit.proofs.ByTurns.{by_no_turn, redone_by_turns}
-use Rattle.fab_run.specs.Piece.{IsOver, cost_at, end_line, head_text, last_line, run_costs, stage_costs, stage_lines}
-use Rattle.fab_run.specs.Setting.{Setting}
-use Rattle.fab_run.specs.Placed.{AreRedone, IsBegun, IsReportFault, IsToldRun, head_by, report_by, run_by, start_by}
+use Rattle.fab_commit.proofs.ByTurns.{by_no_turn}
+use Rattle.fab_run.specs.Piece.{end_line, last_line, run_costs, stage_costs, stage_lines}
+use Rattle.fab_arch.specs.Grid.{GridShape}
+use Rattle.fab_net.specs.Netlist.{Netlist}
+use Rattle.fab_run.specs.Setting.{Texts}
+use Rattle.fab_run.specs.Ends.{Answer, AreRedone, EndsAs, IsBegun, IsPiece, IsReportCutOf, IsReportOf, IsToldPiece, IsWithin, Piece, answer_of, piece_end, piece_of, piece_report}
+use Rattle.fab_run.specs.Placed.{IsPlaceFault, IsReportFault, IsTextCut, text_by}
+use Rattle.fab_run.specs.Stages.{AreMade, IsNew}
 use Rattle.fab_run.specs.declared.fault.RunFault.{RunFault}
 use Rattle.fab_run.specs.declared.fault.RunFault.TheVariants.{Place, Report, NoMemory}
 use Rattle.fab_run.specs.declared.inputs.Outcome.{Outcome}
-use Rattle.fab_run.proofs.Telling.{appends_none, appends_two, same_run, take_more}
+use Rattle.fab_run.proofs.Telling.{appends_none, appends_two, same_run, take_more, take_whole}
 
 -- a beginning of a text is one of the text and what follows it; where it is not all of the one, it is not all of both
 begins_head : (xs ys : List ℕ) (k : ℕ) → (j : ℕ) × (take k xs ≡ take j (xs ++ ys)) × (k < length xs → j < length (xs ++ ys))
@@ -28,218 +32,180 @@ begins_head [] ys (suc k) = (0, refl, λ h. absurd (omega (arith, h)))
 begins_head (x ∷ xs) ys zero = (0, refl, λ h. omega arith)
 begins_head (x ∷ xs) ys (suc k) = (let r = begins_head xs ys k in let more = r.2 in (suc r.0, ap (λ l. x ∷ l) r.1, λ h. (let less = more (omega (arith, h)) in omega (arith, less))))
 
-end_over : (r : Run) (y : Standing) → y.heat ≡ None → end_line r y ≡ last_line r y
-end_over r y e = ap (λ h. cond (is_some h) [] (last_line r y)) e
+-- so much went out of the report of so many moves, which is not all of it under this premise
+abbrev IsToldTo : Type 0 → Piece → Option (List ℕ) → Option (List ℕ) → Type 0
+IsToldTo P p old new = (n : ℕ) × (j : ℕ) × IsWithin p.run p.start p.stop n × Appends old new (take j (piece_report p n)) × (P → j < length (piece_report p n))
 
--- what went out is a beginning of the report, and not all of it where the last piece of it that went out was not whole
-abbrev pub IsCutReport : Setting → ℕ → Option (List ℕ) → Option (List ℕ) → Type 0
-IsCutReport s seed old new = (n : ℕ) × IsBegun old new (report_by s seed n)
+begun_of : (P : Type 0) (p : Piece) (old new : Option (List ℕ)) → IsToldTo P p old new → IsReportOf p old new
+begun_of P p old new t = (t.0, t.2, (t.1, t.3))
 
-abbrev pub IsShortReport : Setting → ℕ → Option (List ℕ) → Option (List ℕ) → Type 0
-IsShortReport s seed old new = (n : ℕ) × IsCut (report_by s seed n) old new
+short_of : (P : Type 0) (p : Piece) (old new : Option (List ℕ)) → IsToldTo P p old new → P → IsReportCutOf p old new
+short_of P p old new t q = (t.0, t.2, (t.1, t.4 q, t.3))
 
--- so many moves told, and so much of their report, which is not all of it under this premise
-abbrev IsTold : Type 0 → Setting → ℕ → Option (List ℕ) → Option (List ℕ) → Type 0
-IsTold P s seed old new = (n : ℕ) × (j : ℕ) × Appends old new (take j (report_by s seed n)) × (P → j < length (report_by s seed n))
+none_within : (r : Run) (x : Standing) (stop : Option ℕ) → IsWithin r x stop 0
+none_within r x stop m here going = omega arith
 
-begun_of : (P : Type 0) (s : Setting) (seed : ℕ) (old new : Option (List ℕ)) → IsTold P s seed old new → IsCutReport s seed old new
-begun_of P s seed old new t = (t.0, (t.1, t.2))
+within_by : (r : Run) (x : Standing) (stop : Option ℕ) (n : ℕ) → IsPiece r x stop n → IsWithin r x stop n
+within_by r x stop n (inl s) m here going =
+    let both : Some (x.done + n) ≡ Some (x.done + m) = sym s.here ∙ here in
+    let same : x.done + n ≡ x.done + m = (let k = both in cc) in
+    omega (arith, same)
+within_by r x stop n (inr s) m here going = absurd (false≢true (sym (ap is_some (s.passed m here)) ∙ going))
 
-short_of : (P : Type 0) (s : Setting) (seed : ℕ) (old new : Option (List ℕ)) → IsTold P s seed old new → P → IsShortReport s seed old new
-short_of P s seed old new t p = (t.0, (t.1, t.3 p, t.2))
+pub cut_none : (p : Piece) (old new : Option (List ℕ)) → new ≡ old → IsReportOf p old new
+unfolding piece_report
+cut_none p old new e = (0, none_within p.run p.start p.stop, (0, subst (λ l. Appends old l []) (sym e) (appends_none old)))
 
-pub cut_none : (s : Setting) (seed : ℕ) (old new : Option (List ℕ)) → new ≡ old → IsCutReport s seed old new
-unfolding report_by
-cut_none s seed old new e = (0, (0, subst (λ l. Appends old l []) (sym e) (appends_none old)))
+head_at : (p : Piece) (old new : Option (List ℕ)) (k : ℕ) → Appends old new (take k p.head) → IsToldTo (k < length p.head) p old new
+unfolding piece_report
+head_at p old new k b =
+    let j = begins_head p.head (stage_lines p.run p.start 0 ++ end_line p.run p.start) k in
+    (0, j.0, none_within p.run p.start p.stop, subst (λ l. Appends old new l) j.1 b, j.2)
 
-head_at : (s : Setting) (seed : ℕ) (old new : Option (List ℕ)) (k : ℕ) → Appends old new (take k (head_by s seed)) → IsTold (k < length (head_by s seed)) s seed old new
-unfolding head_by report_by
-head_at s seed old new k b =
-    let r = run_by s seed in
-    let x = start_by s seed in
-    let j = begins_head (head_by s seed) (stage_lines r x 0 ++ end_line r x) k in
-    (0, j.0, subst (λ l. Appends old new l) j.1 b, j.2)
+pub cut_head : (p : Piece) (old new : Option (List ℕ)) → IsBegun old new p.head → IsReportOf p old new
+cut_head p old new b = begun_of (b.0 < length p.head) p old new (head_at p old new b.0 b.1)
 
-pub cut_head : (s : Setting) (seed : ℕ) (old new : Option (List ℕ)) → IsBegun old new (head_by s seed) → IsCutReport s seed old new
-cut_head s seed old new b = begun_of (b.0 < length (head_by s seed)) s seed old new (head_at s seed old new b.0 b.1)
+pub short_head : (p : Piece) (old new : Option (List ℕ)) → IsCut p.head old new → IsReportCutOf p old new
+short_head p old new b = short_of (b.0 < length p.head) p old new (head_at p old new b.0 b.2) b.1
 
-pub short_head : (s : Setting) (seed : ℕ) (old new : Option (List ℕ)) → IsCut (head_by s seed) old new → IsShortReport s seed old new
-short_head s seed old new b = short_of (b.0 < length (head_by s seed)) s seed old new (head_at s seed old new b.0 b.2) b.1
-
-stages_at : (s : Setting) (seed : ℕ) (old mid new : Option (List ℕ)) (n k : ℕ) → Appends old mid (head_by s seed) → Appends mid new (take k (stage_lines (run_by s seed) (start_by s seed) n)) → IsTold (k < length (stage_lines (run_by s seed) (start_by s seed) n)) s seed old new
-unfolding head_by report_by
-stages_at s seed old mid new n k told cut =
-    let r = run_by s seed in
-    let x = start_by s seed in
-    let head = head_by s seed in
-    let lines = stage_lines r x n in
-    let end = end_line r (from r x n) in
+stages_at : (p : Piece) (old mid new : Option (List ℕ)) (n k : ℕ) → IsWithin p.run p.start p.stop n → Appends old mid p.head → Appends mid new (take k (stage_lines p.run p.start n)) → IsToldTo (k < length (stage_lines p.run p.start n)) p old new
+unfolding piece_report
+stages_at p old mid new n k within told cut =
+    let lines = stage_lines p.run p.start n in
+    let end = end_line p.run (piece_end p n) in
     let a = begins_head lines end k in
-    let all : head ++ take k lines ≡ take (length head + a.0) (head ++ (lines ++ end)) = ap (λ l. head ++ l) a.1 ∙ sym (take_more head (lines ++ end) a.0) in
-    let long = length-append head (lines ++ end) in
+    let all : p.head ++ take k lines ≡ take (length p.head + a.0) (p.head ++ (lines ++ end)) = ap (λ l. p.head ++ l) a.1 ∙ sym (take_more p.head (lines ++ end) a.0) in
+    let long = length-append p.head (lines ++ end) in
     let more = a.2 in
-    (n, length head + a.0, subst (λ l. Appends old new l) all (appends_two old mid new head (take k lines) told cut), λ h. (let less = more h in omega (arith, less, long)))
+    (n, length p.head + a.0, within, subst (λ l. Appends old new l) all (appends_two old mid new p.head (take k lines) told cut), λ h. (let less = more h in omega (arith, less, long)))
 
-pub cut_stages : (s : Setting) (seed : ℕ) (old mid new : Option (List ℕ)) (n k : ℕ) → Appends old mid (head_by s seed) → Appends mid new (take k (stage_lines (run_by s seed) (start_by s seed) n)) → IsCutReport s seed old new
-cut_stages s seed old mid new n k told cut = begun_of (k < length (stage_lines (run_by s seed) (start_by s seed) n)) s seed old new (stages_at s seed old mid new n k told cut)
+pub cut_stages : (p : Piece) (old mid new : Option (List ℕ)) (n k : ℕ) → IsWithin p.run p.start p.stop n → Appends old mid p.head → Appends mid new (take k (stage_lines p.run p.start n)) → IsReportOf p old new
+cut_stages p old mid new n k within told cut = begun_of (k < length (stage_lines p.run p.start n)) p old new (stages_at p old mid new n k within told cut)
 
-pub short_stages : (s : Setting) (seed : ℕ) (old mid new : Option (List ℕ)) (n : ℕ) → Appends old mid (head_by s seed) → IsCut (stage_lines (run_by s seed) (start_by s seed) n) mid new → IsShortReport s seed old new
-short_stages s seed old mid new n told b = short_of (b.0 < length (stage_lines (run_by s seed) (start_by s seed) n)) s seed old new (stages_at s seed old mid new n b.0 told b.2) b.1
+pub short_stages : (p : Piece) (old mid new : Option (List ℕ)) (n : ℕ) → IsWithin p.run p.start p.stop n → Appends old mid p.head → IsCut (stage_lines p.run p.start n) mid new → IsReportCutOf p old new
+short_stages p old mid new n within told b = short_of (b.0 < length (stage_lines p.run p.start n)) p old new (stages_at p old mid new n b.0 within told b.2) b.1
 
-last_at : (s : Setting) (seed : ℕ) (old mid more new : Option (List ℕ)) (n k : ℕ) → Appends old mid (head_by s seed) → Appends mid more (stage_lines (run_by s seed) (start_by s seed) n)
-    → IsOver (run_by s seed) (start_by s seed) n → Appends more new (take k (last_line (run_by s seed) (from (run_by s seed) (start_by s seed) n)))
-    → IsTold (k < length (last_line (run_by s seed) (from (run_by s seed) (start_by s seed) n))) s seed old new
-unfolding head_by report_by
-last_at s seed old mid more new n k told lined over b =
-    let r = run_by s seed in
-    let x = start_by s seed in
-    let head = head_by s seed in
-    let lines = stage_lines r x n in
-    let y = from r x n in
-    let end = end_line r y in
-    let same = end_over r y over in
-    let last : take k (last_line r y) ≡ take k end = ap (take k) (sym same) in
-    let two = appends_two mid more new lines (take k (last_line r y)) lined b in
-    let three = appends_two old mid new head (lines ++ take k (last_line r y)) told two in
-    let all : head ++ (lines ++ take k (last_line r y)) ≡ take (length head + (length lines + k)) (head ++ (lines ++ end)) =
-    ap (λ l. head ++ (lines ++ l)) last ∙ ap (λ l. head ++ l) (sym (take_more lines end k)) ∙ sym (take_more head (lines ++ end) (length lines + k)) in
-    let long = length-append head (lines ++ end) in
+last_at : (p : Piece) (old mid more new : Option (List ℕ)) (n k : ℕ) → IsWithin p.run p.start p.stop n → Appends old mid p.head → Appends mid more (stage_lines p.run p.start n)
+    → Appends more new (take k (end_line p.run (piece_end p n))) → IsToldTo (k < length (end_line p.run (piece_end p n))) p old new
+unfolding piece_report
+last_at p old mid more new n k within told lined b =
+    let lines = stage_lines p.run p.start n in
+    let end = end_line p.run (piece_end p n) in
+    let two = appends_two mid more new lines (take k end) lined b in
+    let three = appends_two old mid new p.head (lines ++ take k end) told two in
+    let all : p.head ++ (lines ++ take k end) ≡ take (length p.head + (length lines + k)) (p.head ++ (lines ++ end)) =
+    ap (λ l. p.head ++ l) (sym (take_more lines end k)) ∙ sym (take_more p.head (lines ++ end) (length lines + k)) in
+    let long = length-append p.head (lines ++ end) in
     let long2 = length-append lines end in
-    let ends : length end ≡ length (last_line r y) = ap length same in
-    (n, length head + (length lines + k), subst (λ l. Appends old new l) all three, λ h. omega (arith, h, long, long2, ends))
+    (n, length p.head + (length lines + k), within, subst (λ l. Appends old new l) all three, λ h. omega (arith, h, long, long2))
 
-pub cut_last : (s : Setting) (seed : ℕ) (old mid more new : Option (List ℕ)) (n : ℕ) → Appends old mid (head_by s seed) → Appends mid more (stage_lines (run_by s seed) (start_by s seed) n)
-    → IsOver (run_by s seed) (start_by s seed) n → IsBegun more new (last_line (run_by s seed) (from (run_by s seed) (start_by s seed) n)) → IsCutReport s seed old new
-cut_last s seed old mid more new n told lined over b = begun_of (b.0 < length (last_line (run_by s seed) (from (run_by s seed) (start_by s seed) n))) s seed old new (last_at s seed old mid more new n b.0 told lined over b.1)
+cut_last : (p : Piece) (old mid more new : Option (List ℕ)) (n : ℕ) → IsWithin p.run p.start p.stop n → Appends old mid p.head → Appends mid more (stage_lines p.run p.start n) → IsBegun more new (end_line p.run (piece_end p n)) → IsReportOf p old new
+cut_last p old mid more new n within told lined b = begun_of (b.0 < length (end_line p.run (piece_end p n))) p old new (last_at p old mid more new n b.0 within told lined b.1)
 
-pub short_last : (s : Setting) (seed : ℕ) (old mid more new : Option (List ℕ)) (n : ℕ) → Appends old mid (head_by s seed) → Appends mid more (stage_lines (run_by s seed) (start_by s seed) n)
-    → IsOver (run_by s seed) (start_by s seed) n → IsCut (last_line (run_by s seed) (from (run_by s seed) (start_by s seed) n)) more new → IsShortReport s seed old new
-short_last s seed old mid more new n told lined over b = short_of (b.0 < length (last_line (run_by s seed) (from (run_by s seed) (start_by s seed) n))) s seed old new (last_at s seed old mid more new n b.0 told lined over b.2) b.1
+short_last : (p : Piece) (old mid more new : Option (List ℕ)) (n : ℕ) → IsWithin p.run p.start p.stop n → Appends old mid p.head → Appends mid more (stage_lines p.run p.start n) → IsCut (end_line p.run (piece_end p n)) more new → IsReportCutOf p old new
+short_last p old mid more new n within told lined b = short_of (b.0 < length (end_line p.run (piece_end p n))) p old new (last_at p old mid more new n b.0 within told lined b.2) b.1
 
-pub told_whole : (s : Setting) (seed : ℕ) (old mid more new : Option (List ℕ)) (n : ℕ) → Appends old mid (head_by s seed) → Appends mid more (stage_lines (run_by s seed) (start_by s seed) n)
-    → IsOver (run_by s seed) (start_by s seed) n → Appends more new (last_line (run_by s seed) (from (run_by s seed) (start_by s seed) n)) → Appends old new (report_by s seed n)
-unfolding head_by report_by
-told_whole s seed old mid more new n told lined over last =
-    let r = run_by s seed in
-    let x = start_by s seed in
-    let head = head_by s seed in
-    let lines = stage_lines r x n in
-    let y = from r x n in
-    let two = appends_two mid more new lines (last_line r y) lined last in
-    let three = appends_two old mid new head (lines ++ last_line r y) told two in
-    subst (λ l. Appends old new (head ++ (lines ++ l))) (sym (end_over r y over)) three
+told_whole : (p : Piece) (old mid more new : Option (List ℕ)) (n : ℕ) → Appends old mid p.head → Appends mid more (stage_lines p.run p.start n) → Appends more new (end_line p.run (piece_end p n)) → Appends old new (piece_report p n)
+unfolding piece_report
+told_whole p old mid more new n told lined last =
+    let lines = stage_lines p.run p.start n in
+    let end = end_line p.run (piece_end p n) in
+    appends_two old mid new p.head (lines ++ end) told (appends_two mid more new lines end lined last)
 
--- an annealer before its first move
-abbrev pub IsFresh : Setting → ℕ → AnnealOf ℕ → Type 0
-IsFresh s seed a = a ≡ record { design = s.design; grid = s.grid; fixed = s.fixed; plan = s.plan; words = seed; standing = start_by s seed; ahead = []; swaps = []; accepted = []; redone = 0 }
+-- the last line of an annealer that made its piece
+end_there : (a b : AnnealOf ℕ) (n : ℕ) → IsSameRun a b → b.standing ≡ from (run_of stream_moves a) a.standing n → end_line (run_of stream_moves b) b.standing ≡ end_line (run_of stream_moves a) (from (run_of stream_moves a) a.standing n)
+end_there a b n same stands = λ i. end_line (same_run stream_moves a b same i) (stands i)
 
--- what an annealer tells, from the standing before the first move
-pub record IsLined (s : Setting) (seed : ℕ) (y : Standing) (accepted costs : List ℕ) (mid more : Option (List ℕ)) : Type 0 where
-  pub stands : y ≡ from (run_by s seed) (start_by s seed) y.done
-  pub over : y.heat ≡ None
-  pub numbers : accepted ≡ accepted_among (run_by s seed) (start_by s seed) y.done
-  pub values : costs ≡ run_costs (run_by s seed) (start_by s seed) y.done
-  pub lined : Appends mid more (stage_lines (run_by s seed) (start_by s seed) y.done)
-
-pub lined_by : (s : Setting) (seed : ℕ) (a b : AnnealOf ℕ) (costs0 costs : List ℕ) (mid more : Option (List ℕ))
-    → IsFresh s seed a
-    → b.standing ≡ from (run_of stream_moves a) a.standing (b.standing.done - a.standing.done)
-    → b.standing.heat ≡ None
-    → b.accepted ≡ a.accepted ++ accepted_among (run_of stream_moves a) a.standing (b.standing.done - a.standing.done)
-    → costs0 ≡ cost_at (run_by s seed) (start_by s seed) ∷ []
-    → costs ≡ costs0 ++ stage_costs (run_of stream_moves a) a.standing (b.standing.done - a.standing.done)
-    → Appends mid more (stage_lines (run_of stream_moves a) a.standing (b.standing.done - a.standing.done))
-    → IsLined s seed b.standing b.accepted costs mid more
-lined_by s seed a b costs0 costs mid more e stands over numbers first values lined =
-    let n = b.standing.done in
-    let r = run_by s seed in
-    let x = start_by s seed in
-    let all : n - 0 ≡ n = omega arith in
+-- what an annealer answers that made its piece, and its report
+pub told_piece : (a b : AnnealOf ℕ) (head : List ℕ) (stop : Option ℕ) (batch cost : ℕ) (costs0 costs : List ℕ) (old mid more new : Option (List ℕ))
+    → IsNew a → IsSameRun a b → AreMade stream_moves stop batch a b costs0 costs mid more → cost ≡ cost_of a.design a.grid a.standing.sites → costs0 ≡ cost ∷ [] → Appends old mid head
+    → (r : Result Outcome RunFault) → IfOk r (λ out. EndsAs (run_of stream_moves b) b.standing out.ending) → IfOk r (λ out. out.placement.grid ≡ b.grid) → IfOk r (λ out. out.placement.sites ≡ b.standing.sites)
+    → IfOk r (λ out. IsLegal b.design b.grid b.fixed out.placement.sites) → IfOk r (λ out. out.accepted.items ≡ b.accepted) → IfOk r (λ out. out.costs.items ≡ costs)
+    → OnOk r (Appends more new (end_line (run_of stream_moves b) b.standing))
+    → IfOk r (λ out. IsToldPiece (piece_of stream_moves a head stop) (answer_of out) old new)
+told_piece a b head stop batch cost costs0 costs old mid more new fresh same made value first told (Err f) ending array sites legal accepted values last = tt
+told_piece a b head stop batch cost costs0 costs old mid more new fresh same made value first told (Ok out) ending array sites legal accepted values last =
+    let r = same_run stream_moves a b same in
+    let x = a.standing in
+    let n = made.count in
+    let p = piece_of stream_moves a head stop in
+    let costs_are : costs0 ++ stage_costs (run_of stream_moves a) x n ≡ run_costs (run_of stream_moves a) x n = (λ i. first i ++ stage_costs (run_of stream_moves a) x n) ∙ ap (λ c. c ∷ stage_costs (run_of stream_moves a) x n) value in
     record {
-      stands = stands ∙ ap (λ (q : AnnealOf ℕ). from (run_of stream_moves q) q.standing (n - q.standing.done)) e ∙ ap (from r x) all;
-      over = over;
-      numbers = numbers ∙ ap (λ (q : AnnealOf ℕ). q.accepted ++ accepted_among (run_of stream_moves q) q.standing (n - q.standing.done)) e ∙ ap (accepted_among r x) all;
-      values = values ∙ (λ i. first i ++ stage_costs (run_of stream_moves (e i)) (e i).standing (n - (e i).standing.done)) ∙ ap (run_costs r x) all;
-      lined = subst (λ k. Appends mid more (stage_lines r x k)) all (subst (λ (q : AnnealOf ℕ). Appends mid more (stage_lines (run_of stream_moves q) q.standing (n - q.standing.done))) e lined);
-    }
-
-pub over_there : (s : Setting) (seed : ℕ) (y : Standing) → y ≡ from (run_by s seed) (start_by s seed) y.done → y.heat ≡ None → IsOver (run_by s seed) (start_by s seed) y.done
-over_there s seed y stands over = sym (ap (λ q. q.heat) stands) ∙ over
-
-cost_is : (s : Setting) (seed : ℕ) (a : AnnealOf ℕ) (cost : ℕ) → IsFresh s seed a → cost ≡ cost_of a.design a.grid a.standing.sites → cost ≡ cost_at (run_by s seed) (start_by s seed)
-cost_is s seed a cost e k = k ∙ ap (λ q. cost_of q.design q.grid q.standing.sites) e
-
-pub head_is : (s : Setting) (seed : ℕ) (a : AnnealOf ℕ) (cost : ℕ) → IsFresh s seed a → cost ≡ cost_of a.design a.grid a.standing.sites → head_text s.design s.grid cost ≡ head_by s seed
-unfolding head_by
-head_is s seed a cost e k = ap (head_text s.design s.grid) (cost_is s seed a cost e k)
-
-pub cost_first : (s : Setting) (seed : ℕ) (a : AnnealOf ℕ) (cost : ℕ) → IsFresh s seed a → cost ≡ cost_of a.design a.grid a.standing.sites → cost ∷ [] ≡ cost_at (run_by s seed) (start_by s seed) ∷ []
-cost_first s seed a cost e k = ap (λ q. q ∷ []) (cost_is s seed a cost e k)
-
-run_is : (s : Setting) (seed : ℕ) (a b : AnnealOf ℕ) → IsFresh s seed a → IsSameRun a b → run_of stream_moves b ≡ run_by s seed
-run_is s seed a b e same = same_run stream_moves a b same ∙ ap (run_of stream_moves) e
-
-pub told_run : (s : Setting) (seed : ℕ) (old mid more new : Option (List ℕ)) (a b : AnnealOf ℕ) (costs : List ℕ) → IsFresh s seed a → IsSameRun a b → Appends old mid (head_by s seed) → IsLined s seed b.standing b.accepted costs mid more
-    → (r : Result Outcome RunFault) → IfOk r (λ out. out.placement.grid ≡ b.grid) → IfOk r (λ out. out.placement.sites ≡ b.standing.sites) → IfOk r (λ out. IsLegal b.design b.grid b.fixed out.placement.sites) → IfOk r (λ out. out.accepted.items ≡ b.accepted)
-    → IfOk r (λ out. out.costs.items ≡ costs) → OnOk r (Appends more new (last_line (run_of stream_moves b) b.standing))
-    → IfOk r (λ out. IsToldRun s seed out.placement out.accepted.items out.costs.items old new)
-told_run s seed old mid more new a b costs e same told lined (Err f) array sites legal accepted values last = tt
-told_run s seed old mid more new a b costs e same told lined (Ok out) array sites legal accepted values last =
-    let r = run_is s seed a b e same in
-    let over = over_there s seed b.standing lined.stands lined.over in
-    let here = subst (λ l. Appends more new l) (λ i. last_line (r i) (lined.stands i)) last in
-    record {
-      moves = b.standing.done;
+      moves = n;
       annealed = record {
-        over = over;
-        array = array ∙ ap (λ (q : Run). q.problem.grid) r;
-        stands = sites ∙ ap (λ y. y.sites) lined.stands;
+        piece = made.piece;
+        ending = subst (λ y. EndsAs (run_of stream_moves a) y out.ending) made.stands (subst (λ q. EndsAs q b.standing out.ending) r ending);
+        array = array ∙ same.grid;
+        stands = sites ∙ ap (λ (y : Standing). y.sites) made.stands;
         legal = subst (λ (q : Run). IsLegal q.problem.design q.problem.grid q.problem.fixed out.placement.sites) r legal;
-        numbers = accepted ∙ lined.numbers;
-        values = values ∙ lined.values;
+        numbers = accepted ∙ made.accepted ∙ ap (λ l. l ++ accepted_among (run_of stream_moves a) x n) fresh.accepted;
+        values = values ∙ made.costs ∙ costs_are;
       };
-      report = told_whole s seed old mid more new b.standing.done told lined.lined over here;
+      report = told_whole p old mid more new n told made.told (subst (λ l. Appends more new l) (end_there a b n same made.stands) last);
     }
 
-pub cut_run : (s : Setting) (seed : ℕ) (old mid more new : Option (List ℕ)) (a b : AnnealOf ℕ) (costs : List ℕ) → IsFresh s seed a → IsSameRun a b → Appends old mid (head_by s seed) → IsLined s seed b.standing b.accepted costs mid more
-    → (r : Result Outcome RunFault) → OnErr r (IsBegun more new (last_line (run_of stream_moves b) b.standing)) → OnErr r (IsCutReport s seed old new)
-cut_run s seed old mid more new a b costs e same told lined (Ok out) cut = tt
-cut_run s seed old mid more new a b costs e same told lined (Err f) cut =
-    let r = run_is s seed a b e same in
-    let over = over_there s seed b.standing lined.stands lined.over in
-    let here = subst (λ l. IsBegun more new l) (λ i. last_line (r i) (lined.stands i)) cut in
-    cut_last s seed old mid more new b.standing.done told lined.lined over here
+-- where the last line did not go out whole, a beginning of the report did
+pub cut_piece : (a b : AnnealOf ℕ) (head : List ℕ) (stop : Option ℕ) (batch : ℕ) (costs0 costs : List ℕ) (old mid more new : Option (List ℕ)) → IsSameRun a b → AreMade stream_moves stop batch a b costs0 costs mid more → Appends old mid head
+    → (r : Result Outcome RunFault) → OnErr r (IsBegun more new (end_line (run_of stream_moves b) b.standing)) → OnErr r (IsReportOf (piece_of stream_moves a head stop) old new)
+cut_piece a b head stop batch costs0 costs old mid more new same made told (Ok out) cut = tt
+cut_piece a b head stop batch costs0 costs old mid more new same made told (Err f) cut =
+    cut_last (piece_of stream_moves a head stop) old mid more new made.count (within_by (run_of stream_moves a) a.standing stop made.count made.piece) told made.told (subst (λ l. IsBegun more new l) (end_there a b made.count same made.stands) cut)
 
-pub short_run : (s : Setting) (seed : ℕ) (old mid more new : Option (List ℕ)) (a b : AnnealOf ℕ) (costs : List ℕ) → IsFresh s seed a → IsSameRun a b → Appends old mid (head_by s seed) → IsLined s seed b.standing b.accepted costs mid more
-    → (r : Result Outcome RunFault) → IfErr r (λ e. e ≡ Report → IsCut (last_line (run_of stream_moves b) b.standing) more new) → IfErr r (λ e. e ≡ Report → IsShortReport s seed old new)
-short_run s seed old mid more new a b costs e same told lined (Ok out) cut = tt
-short_run s seed old mid more new a b costs e same told lined (Err f) cut = λ q.
-    (let r = run_is s seed a b e same in
-    let over = over_there s seed b.standing lined.stands lined.over in
-    let here = subst (λ l. IsCut l more new) (λ i. last_line (r i) (lined.stands i)) (cut q) in
-    short_last s seed old mid more new b.standing.done told lined.lined over here)
+pub short_piece : (a b : AnnealOf ℕ) (head : List ℕ) (stop : Option ℕ) (batch : ℕ) (costs0 costs : List ℕ) (old mid more new : Option (List ℕ)) → IsSameRun a b → AreMade stream_moves stop batch a b costs0 costs mid more → Appends old mid head
+    → (r : Result Outcome RunFault) → IfErr r (λ e. e ≡ Report → IsCut (end_line (run_of stream_moves b) b.standing) more new) → IfErr r (λ e. e ≡ Report → IsReportCutOf (piece_of stream_moves a head stop) old new)
+short_piece a b head stop batch costs0 costs old mid more new same made told (Ok out) cut = tt
+short_piece a b head stop batch costs0 costs old mid more new same made told (Err f) cut = λ q.
+    short_last (piece_of stream_moves a head stop) old mid more new made.count (within_by (run_of stream_moves a) a.standing stop made.count made.piece) told made.told (subst (λ l. IsCut l more new) (end_there a b made.count same made.stands) (cut q))
 
 -- the moves that were judged again
-pub redone_run : (s : Setting) (seed batch : ℕ) (a b : AnnealOf ℕ) → 0 < s.plan.moves → IsFresh s seed a → IsSameRun a b → LeadsByTurns (run_of stream_moves a) batch a b
-    → b.standing ≡ from (run_of stream_moves a) a.standing (b.standing.done - a.standing.done) → b.standing.heat ≡ None
-    → (r : Result Outcome RunFault) → IfOk r (λ out. out.redone ≡ b.redone) → IfOk r (λ out. AreRedone s seed batch out.redone)
-redone_run s seed batch a b pos e same turns stands over (Err f) count = tt
-redone_run s seed batch a b pos e same turns stands over (Ok out) count =
-    let r = run_by s seed in
-    let x = start_by s seed in
-    let ra : run_of stream_moves a ≡ r = ap (run_of stream_moves) e in
-    let first : IsByTurns (run_of stream_moves a) a.standing batch a = by_no_turn (run_of stream_moves a) batch a (ap (λ (q : AnnealOf ℕ). q.ahead) e) (ap (λ (q : AnnealOf ℕ). q.swaps) e) (ap (λ (q : AnnealOf ℕ). q.redone) e) in
-    let there : a.standing ≡ x = ap (λ (q : AnnealOf ℕ). q.standing) e in
-    let by : IsByTurns r x batch b = subst (λ q. IsByTurns q x batch b) ra (subst (λ y. IsByTurns (run_of stream_moves a) y batch b) there (turns.on a.standing first)) in
-    let n : b.standing.done - x.done ≡ b.standing.done = omega arith in
-    let here : b.standing ≡ from r x b.standing.done = stands ∙ (λ i. from (ra i) (there i) (b.standing.done - (there i).done)) ∙ ap (from r x) n in
+pub redone_piece : (a b : AnnealOf ℕ) (head : List ℕ) (stop : Option ℕ) (batch : ℕ) (costs0 costs : List ℕ) (mid more : Option (List ℕ)) → IsNew a → AreMade stream_moves stop batch a b costs0 costs mid more
+    → (r : Result Outcome RunFault) → IfOk r (λ out. out.redone ≡ b.redone) → IfOk r (λ out. AreRedone (piece_of stream_moves a head stop) batch out.redone)
+redone_piece a b head stop batch costs0 costs mid more fresh made (Err f) count = tt
+redone_piece a b head stop batch costs0 costs mid more fresh made (Ok out) count =
+    let r = run_of stream_moves a in
+    let done = made.done in
+    let all : b.standing.done - a.standing.done ≡ made.count = omega (arith, done) in
     record {
-      moves = b.standing.done;
-      over = over_there s seed b.standing here over;
-      count = count ∙ redone_by_turns r x batch b pos by ∙ ap (redone_in_run r x batch) n;
+      moves = made.count;
+      piece = made.piece;
+      made = ap (λ (y : Standing). y.done) (sym made.stands) ∙ done;
+      count = count ∙ made.counted.on a.standing (by_no_turn r batch a fresh.ahead fresh.swaps fresh.redone) ∙ ap (redone_in_run r a.standing batch) all;
     }
 
 -- a fault of the report alone leaves the writer of the place text as it was
 pub no_place : (old new : ℕ) (e : RunFault) → IsReportFault old new e → e ≡ Place Write → ⊥
 no_place old new e (inl h) q = (let k : NoMemory ≡ Place Write = sym h.0 ∙ q in absurd cc)
 no_place old new e (inr h) q = (let k : Report ≡ Place Write = sym h.0 ∙ q in absurd cc)
+
+end_by_none : (r : Run) (y : Standing) (h : Option ℕ) → y.heat ≡ h → is_some (stage_at r.plan y h) ≡ true → end_line r y ≡ []
+end_by_none r y None e k = absurd (false≢true k)
+end_by_none r y (Some t) e k = ap (λ q. cond (is_some q) [] (last_line r y)) e
+
+end_by_some : (r : Run) (y : Standing) (h : Option ℕ) → y.heat ≡ h → is_some (stage_at r.plan y h) ≡ false → end_line r y ≡ last_line r y
+end_by_some r y None e k = ap (λ q. cond (is_some q) [] (last_line r y)) e
+end_by_some r y (Some t) e k = absurd (false≢true (sym k))
+
+-- where a stage runs, there is no last line
+pub no_end : (r : Run) (y : Standing) → is_some (stage_of r y) ≡ true → end_line r y ≡ []
+no_end r y k = end_by_none r y y.heat refl k
+
+pub an_end : (r : Run) (y : Standing) → is_some (stage_of r y) ≡ false → end_line r y ≡ last_line r y
+an_end r y k = end_by_some r y y.heat refl k
+
+-- a whole report is a beginning of itself
+pub begun_whole : (p : Piece) (a : Answer) (old new : Option (List ℕ)) → IsToldPiece p a old new → IsReportOf p old new
+begun_whole p a old new t = (t.moves, within_by p.run p.start p.stop t.moves t.annealed.piece, (length (piece_report p t.moves), subst (λ l. Appends old new l) (sym (take_whole (piece_report p t.moves))) t.report))
+
+-- a place text that its writer cut
+pub text_cut : (t : Texts) (p : Piece) (a : Answer) (d : Netlist) (g : GridShape) (report_old report_new place_old place_mid place_new : Option (List ℕ)) (failed_old failed_new : ℕ) (e : RunFault)
+    → d ≡ p.run.problem.design → g ≡ p.run.problem.grid → IsToldPiece p a report_old report_new → place_mid ≡ place_old
+    → IsPlaceFault t d g a.placement.sites a.ending place_mid place_new failed_old failed_new e → e ≡ Place Write → IsTextCut t p report_old report_new place_old place_new
+text_cut t p a d g report_old report_new place_old place_mid place_new failed_old failed_new e design grid told same (inl h) q = (let k : NoMemory ≡ Place Write = sym h.0 ∙ q in absurd cc)
+text_cut t p a d g report_old report_new place_old place_mid place_new failed_old failed_new e design grid told same (inr h) q =
+    record {
+      answer = a;
+      told = told;
+      finished = h.1;
+      place = subst (λ old. IsCut (text_by t p.run.problem.design p.run.problem.grid a.placement.sites) old place_new) same
+          (subst (λ l. IsCut l place_mid place_new) (λ i. text_by t (design i) (grid i) a.placement.sites) h.2);
+    }

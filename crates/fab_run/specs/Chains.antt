@@ -1,22 +1,20 @@
 -- Pieces of a run, one after another (our own): each goes on from where the one before stopped, and the last one ends the run.
-use Rattle.std.specs.Prelude.{ℕ, ◌≡◌, ◌+◌, ◌⊎◌, true, List, [], ◌∷◌, ◌++◌, Option, Some, is_some}
+use Rattle.std.specs.Prelude.{ℕ, ◌≡◌, List, [], ◌∷◌, ◌++◌, Option, None, drop}
+use Rattle.fab_text.specs.Lines.{lines}
+use Rattle.fab_net.specs.Netlist.{Netlist}
 use Rattle.fab_commit.specs.Serial.{Run, Standing, accepted_among, from}
+use Rattle.fab_commit.specs.declared.points.Point.{Point}
+use Rattle.fab_run.specs.declared.inputs.Ending.{Ending}
+use Rattle.fab_run.specs.declared.inputs.Ending.TheVariants.{Finished, Stopped}
+use Rattle.fab_run.specs.declared.inputs.Options.{Options}
+use Rattle.fab_run.specs.Check.{MeanDesign}
+use Rattle.fab_run.specs.Ends.{EndsAfter, StopsAfter}
 use Rattle.fab_run.specs.Piece.{IsOver, end_line, stage_costs, stage_lines}
-
--- so many moves on, the piece from here is at its stop, and moves are left
-pub record StopsAfter (r : Run) (x : Standing) (stop : Option ℕ) (n : ℕ) : Type 0 where
-  pub here : stop ≡ Some (x.done + n)
-  pub going : is_some (from r x n).heat ≡ true
-
--- so many moves on no move is left, and there is no stop before: one that lies behind the standing is passed, and so is one that no
--- move follows
-pub record EndsAfter (r : Run) (x : Standing) (stop : Option ℕ) (n : ℕ) : Type 0 where
-  pub over : IsOver r x n
-  pub passed : (m : ℕ) → stop ≡ Some (x.done + m) → IsOver r x m
-
--- the piece from here with this stop, if it has one, has so many moves
-abbrev pub IsPiece : Run → Standing → Option ℕ → ℕ → Type 0
-IsPiece r x stop n = StopsAfter r x stop n ⊎ EndsAfter r x stop n
+use Rattle.fab_run.specs.Going.{Going, HasPoint}
+use Rattle.fab_run.specs.Placed.{AskFor, AskToGoOn}
+use Rattle.fab_run.specs.PointMeaning.{StandsForPoint}
+use Rattle.fab_run.specs.SameAnswers.{Call, IsCalled}
+use Rattle.fab_run.specs.Setting.{Texts}
 
 -- pieces with these stops have so many moves each; the last one ends the run
 abbrev pub IsChain : Run → Standing → List (Option ℕ) → List ℕ → Type 0
@@ -57,3 +55,78 @@ pub record IsUnbroken (r : Run) (x : Standing) (ns : List ℕ) (n : ℕ) : Type 
 -- pieces one after another are the unbroken run, wherever they stop
 abbrev pub ChainsAreRuns : Type 0
 ChainsAreRuns = (r : Run) (x : Standing) (stops : List (Option ℕ)) (ns : List ℕ) → IsChain r x stops ns → (n : ℕ) × IsUnbroken r x ns n
+
+-- the text stands for the point of a run with this seed, of the design that the texts mean
+pub record IsTextOfPoint (t : Texts) (seed : ℕ) (q : Point) (text : List ℕ) : Type 0 where
+  pub design : Netlist
+  pub mean : MeanDesign t.arch t.net q.placement.grid.io_rat design
+  pub stands : StandsForPoint q.placement.grid.io_rat design (lines text) seed q.placement.grid q
+
+-- a later call of a chain: its texts, and the numbers that it is given
+pub record Later : Type 0 where
+  pub texts : Texts
+  pub point : List ℕ
+  pub batch : ℕ
+  pub workers : ℕ
+  pub stop : Option ℕ
+  pub call : Call
+
+-- the call goes on with the same architecture and netlist, from a text of the point where the one before stopped; the names that its
+-- place text shows are its own
+pub record GoesOnFrom (t : Texts) (seed : ℕ) (q : Point) (l : Later) : Type 0 where
+  pub arch : l.texts.arch ≡ t.arch
+  pub net : l.texts.net ≡ t.net
+  pub point : IsTextOfPoint t seed q l.point
+  pub called : IsCalled (AskToGoOn l.texts l.point l.batch l.workers l.stop) l.texts l.call
+
+abbrev pub GoesOn : Texts → ℕ → Ending → Later → Type 0
+GoesOn t seed Finished l = ⊥
+GoesOn t seed (Stopped q) l = GoesOnFrom t seed q l
+
+-- after this call come others, each from where the one before stopped, and the last one ends the run
+abbrev pub AreCalls : Texts → ℕ → Call → List Later → Type 0
+AreCalls t seed c [] = c.answer.ending ≡ Finished
+AreCalls t seed c (l ∷ ls) = GoesOn t seed c.answer.ending l × AreCalls l.texts seed l.call ls
+
+-- two calls as one: what they accept and report is joined, and so are their costs, without the first cost of the second call, which is
+-- that at its start; the second has the ending, the placement and the place text
+abbrev pub then : Call → Call → Call
+then a b =
+    record {
+      answer = record {
+        ending = b.answer.ending;
+        placement = b.answer.placement;
+        accepted = a.answer.accepted ++ b.answer.accepted;
+        costs = a.answer.costs ++ drop 1 b.answer.costs;
+      };
+      report = a.report ++ b.report;
+      place = b.place;
+    }
+
+-- all calls as one
+abbrev pub joined : Call → List Later → Call
+joined c [] = c
+joined c (l ∷ ls) = then c (joined l.call ls)
+
+-- the texts of the first call, with the names that the last one's place text shows
+abbrev pub with_names : Texts → Texts → Texts
+with_names t u = record t { net_label = u.net_label; arch_label = u.arch_label }
+
+abbrev pub last_names : Texts → List Later → Texts
+last_names t [] = t
+last_names t (l ∷ ls) = last_names (with_names t l.texts) ls
+
+-- the same numbers without a stop
+abbrev pub unstopped : Options → Options
+unstopped o = record o { stop = None }
+
+-- calls one after another are what one call without a stop answers and writes, whatever their stops, batches and workers
+abbrev pub CallsAreRuns : Type 0
+CallsAreRuns = (t : Texts) (o : Options) (c : Call) (ls : List Later) → IsCalled (AskFor t o) t c → AreCalls t o.seed c ls
+    → IsCalled (AskFor (last_names t ls) (unstopped o)) (last_names t ls) (joined c ls)
+
+-- and calls that begin with one from a checkpoint text are one such call without a stop
+abbrev pub ResumedCallsAreRuns : Type 0
+ResumedCallsAreRuns =
+    (t : Texts) (point : List ℕ) (batch workers : ℕ) (stop : Option ℕ) (s : Going) (c : Call) (ls : List Later) → HasPoint t point s → IsCalled (AskToGoOn t point batch workers stop) t c → AreCalls t s.seed c ls
+    → IsCalled (AskToGoOn (last_names t ls) point batch workers None) (last_names t ls) (joined c ls)

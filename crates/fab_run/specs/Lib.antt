@@ -6,6 +6,8 @@ pub mod Setting
 pub mod RunChecks
 pub mod RunReport
 pub mod Piece
+pub mod Ends
+pub mod Going
 pub mod Placed
 pub mod SameAnswers
 pub mod PieceExamples

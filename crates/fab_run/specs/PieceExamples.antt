@@ -1,5 +1,5 @@
--- An example of a whole run: two blocks without a common net on 2 x 2 sites, two moves at temperature 2.0 and two frozen ones.
-use Rattle.std.specs.Prelude.{ℕ, ◌≡◌, if◌then◌else◌, ◌==◌, List, [], ◌∷◌, false, None, codes, refl}
+-- Examples of a whole run and of pieces of it: two blocks without a common net on 2 x 2 sites, two moves at temperature 2.0 and two frozen ones.
+use Rattle.std.specs.Prelude.{ℕ, ◌≡◌, if◌then◌else◌, ◌==◌, List, [], ◌∷◌, false, Some, None, codes, refl}
 use Rattle.std.specs.Fmt.{digits}
 use Rattle.fab_arch.specs.Grid.{shape}
 use Rattle.fab_net.specs.declared.pieces.BlockKind.TheVariants.{Logic}
@@ -12,7 +12,8 @@ use Rattle.fab_move.specs.Judge.{judged, problem}
 use Rattle.fab_move.specs.Propose.{proposal, target}
 use Rattle.fab_sched.specs.declared.schedules.Cooling.TheVariants.{Factor}
 use Rattle.fab_sched.specs.Annealing.{plan_of, next_range}
-use Rattle.fab_commit.specs.Serial.{Run, Standing, at_start}
+use Rattle.fab_commit.specs.Serial.{Run, Standing, at_start, from}
+use Rattle.fab_run.specs.Ends.{StopsAfter, piece_report}
 use Rattle.fab_run.specs.Piece.{run_costs, run_report}
 
 abbrev two_alone : Netlist
@@ -52,3 +53,24 @@ pub the_report_of_three_moves : run_report four_moves before 3
     ≡ codes "blocks 2 logic 2 pads 0 nets 2 array 2 x 2\nstart cost 4.0000\nstage 0 t 2.0000 range 2.000 moves 2 accepted 2 cost 4.0000\n"
 unfolding digits is_accepted judged proposal target change cost_of net_cost net_box box_on half_perimeter cross_of clip next_range
 the_report_of_three_moves = refl
+
+-- after two moves the run stops at its stop, where a stage has just ended
+pub stops_at_the_end_of_a_stage : StopsAfter four_moves before (Some 2) 2
+unfolding is_accepted judged proposal target change cost_of net_cost net_box box_on half_perimeter cross_of clip next_range
+stops_at_the_end_of_a_stage = record { here = refl; going = refl }
+
+-- a piece from there with the same stop makes no move
+pub stops_where_it_begins : StopsAfter four_moves (from four_moves before 2) (Some 2) 0
+unfolding is_accepted judged proposal target change cost_of net_cost net_box box_on half_perimeter cross_of clip next_range
+stops_where_it_begins = record { here = refl; going = refl }
+
+-- the piece from there to the end tells the rest of the report
+pub the_report_of_the_last_two_moves : piece_report (record { run = four_moves; start = from four_moves before 2; head = []; stop = None }) 2
+    ≡ codes "frozen range 2.000 moves 2 accepted 0 cost 4.0000\nfinal cost 4.0000 accepted 2 of 4\n"
+unfolding piece_report digits is_accepted judged proposal target change cost_of net_cost net_box box_on half_perimeter cross_of clip next_range
+the_report_of_the_last_two_moves = refl
+
+-- and its costs begin with the cost there
+pub the_costs_of_the_last_two_moves : run_costs four_moves (from four_moves before 2) 2 ≡ 40000 ∷ 40000 ∷ []
+unfolding is_accepted judged proposal target change cost_of net_cost net_box box_on half_perimeter cross_of clip next_range
+the_costs_of_the_last_two_moves = refl

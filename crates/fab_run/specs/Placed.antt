@@ -1,24 +1,28 @@
--- What a run answers and writes (our own): the annealing of its design one move at a time, from the start placement that the
--- seed's words draw. No snapshot occurs here; batch and workers occur where their limits are checked, and the batch where moves
--- that are judged again are counted.
-use Rattle.std.specs.Prelude.{ℕ, ◌≡◌, ◌⊎◌, List, Option, take}
+-- What a run of texts answers and writes (our own): a piece of annealing its design one move at a time. No snapshot occurs here; batch
+-- and workers occur where their limits are checked, and the batch where moves that are judged again are counted.
+use Rattle.std.specs.Prelude.{ℕ, ◌≡◌, ◌⊎◌, List, [], Option}
 use Rattle.std.specs.Io.KnownBytes.{Appends}
 use Rattle.fab_text.specs.Lines.{lines}
 use Rattle.fab_text.specs.Failures.{grown}
 use Rattle.fab_arch.specs.declared.array.Site.{Site}
-use Rattle.fab_site.specs.Placement.{IsLegal, PlacementOf}
+use Rattle.fab_net.specs.Netlist.{Netlist}
 use Rattle.fab_site.specs.Start.{start_sites}
+use Rattle.fab_arch.specs.Grid.{GridShape}
 use Rattle.fab_file.specs.Place.{StandsFor}
 use Rattle.fab_file.specs.declared.fault.PlaceFault.TheVariants.{Write}
 use Rattle.fab_file.specs.Written.{IsCut, place_text}
 use Rattle.fab_move.specs.Stream.{stream_moves, stream_starts}
-use Rattle.fab_commit.specs.Serial.{Run, Standing, accepted_among, at_start, from}
+use Rattle.fab_commit.specs.Points.{standing_at}
+use Rattle.fab_commit.specs.Serial.{Run, Standing, at_start}
 use Rattle.fab_commit.specs.Commits.{run}
-use Rattle.fab_commit.specs.Turns.{redone_in_run}
 use Rattle.fab_run.specs.declared.fault.RunFault.{RunFault}
 use Rattle.fab_run.specs.declared.fault.RunFault.TheVariants.{Place, Report, NoMemory}
+use Rattle.fab_run.specs.declared.inputs.Ending.{Ending}
+use Rattle.fab_run.specs.declared.inputs.Ending.TheVariants.{Finished, Stopped}
 use Rattle.fab_run.specs.declared.inputs.Options.{Options}
-use Rattle.fab_run.specs.Piece.{IsOver, cost_at, head_text, run_costs, run_report}
+use Rattle.fab_run.specs.Ends.{Answer, IsReportCutOf, IsReportOf, IsToldPiece, Piece}
+use Rattle.fab_run.specs.Piece.{cost_at, head_text}
+use Rattle.fab_run.specs.Going.{Going, IsGoing}
 use Rattle.fab_run.specs.Setting.{IsSetting, Setting, Texts}
 
 -- the run of a seed
@@ -29,52 +33,49 @@ run_by s seed = run s.design s.grid s.fixed (stream_moves seed) s.plan
 abbrev pub start_by : Setting → ℕ → Standing
 start_by s seed = at_start (run_by s seed) (start_sites s.design s.grid s.fixed s.begun (stream_starts seed))
 
--- the report of a run once so many moves were made
-unfoldable pub report_by : Setting → ℕ → ℕ → List ℕ
-report_by s seed n = run_report (run_by s seed) (start_by s seed) n
-
--- the text of a placement of the design, with the names that the run shows
-abbrev pub text_by : Texts → Setting → List Site → List ℕ
-text_by t s sites = place_text t.net_label t.arch_label s.design s.grid sites
-
--- the annealing is over after so many moves, and ends with this placement, these accepted moves and these costs; for
--- whatever number of moves it is over, what it ends with is the same
-pub record IsAnnealed (s : Setting) (seed moves : ℕ) (placement : PlacementOf) (accepted costs : List ℕ) : Type 0 where
-  pub over : IsOver (run_by s seed) (start_by s seed) moves
-  pub array : placement.grid ≡ s.grid
-  pub stands : placement.sites ≡ (from (run_by s seed) (start_by s seed) moves).sites
-  pub legal : IsLegal s.design s.grid s.fixed placement.sites
-  pub numbers : accepted ≡ accepted_among (run_by s seed) (start_by s seed) moves
-  pub values : costs ≡ run_costs (run_by s seed) (start_by s seed) moves
-
--- so many moves of a run with turns of this batch are judged again
-pub record AreRedone (s : Setting) (seed batch redone : ℕ) : Type 0 where
-  pub moves : ℕ
-  pub over : IsOver (run_by s seed) (start_by s seed) moves
-  pub count : redone ≡ redone_in_run (run_by s seed) (start_by s seed) batch moves
-
--- the annealing ends so, and what went out is its report
-pub record IsToldRun (s : Setting) (seed : ℕ) (placement : PlacementOf) (accepted costs : List ℕ) (old new : Option (List ℕ)) : Type 0 where
-  pub moves : ℕ
-  pub annealed : IsAnnealed s seed moves placement accepted costs
-  pub report : Appends old new (report_by s seed moves)
-
--- the texts and numbers mean a setting, its annealing ends so, and what went to the report and to the place text is the
--- report of it and the text of its placement, which reads back
-pub record IsPlaced (t : Texts) (o : Options) (placement : PlacementOf) (accepted costs : List ℕ) (report_old report_new place_old place_new : Option (List ℕ)) : Type 0 where
-  pub setting : Setting
-  pub given : IsSetting t o setting
-  pub told : IsToldRun setting o.seed placement accepted costs report_old report_new
-  pub place : Appends place_old place_new (text_by t setting placement.sites)
-  pub back : StandsFor setting.design setting.grid (lines (text_by t setting placement.sites)) placement.sites
-
--- the first two lines of a report
+-- the first two lines of its report
 unfoldable pub head_by : Setting → ℕ → List ℕ
 head_by s seed = head_text s.design s.grid (cost_at (run_by s seed) (start_by s seed))
 
--- what went out is a beginning of a text
-abbrev pub IsBegun : Option (List ℕ) → Option (List ℕ) → List ℕ → Type 0
-IsBegun old new text = (k : ℕ) × Appends old new (take k text)
+-- the piece from the start placement that the seed's words draw
+abbrev pub piece_by : Setting → ℕ → Option ℕ → Piece
+piece_by s seed stop = record { run = run_by s seed; start = start_by s seed; head = head_by s seed; stop = stop }
+
+-- the texts and numbers of a run ask for this piece
+abbrev pub AskFor : Texts → Options → Piece → Type 0
+AskFor t o p = (s : Setting) × IsSetting t o s × (p ≡ piece_by s o.seed o.stop)
+
+-- the piece that goes on from a point; its report shows no first two lines again
+abbrev pub piece_from : Going → Option ℕ → Piece
+piece_from s stop =
+    record { run = run s.design s.grid s.point.fixed (stream_moves s.seed) s.point.schedule; start = standing_at s.point; head = []; stop = stop }
+
+-- the texts, the checkpoint text and the numbers of a resumed run ask for this piece
+abbrev pub AskToGoOn : Texts → List ℕ → ℕ → ℕ → Option ℕ → Piece → Type 0
+AskToGoOn t point batch workers stop p = (s : Going) × IsGoing t point batch workers s × (p ≡ piece_from s stop)
+
+-- the text of a placement of the design, with the names that the run shows
+abbrev pub text_by : Texts → Netlist → GridShape → List Site → List ℕ
+text_by t d g sites = place_text t.net_label t.arch_label d g sites
+
+-- the text of a placement went out, and it reads back
+pub record IsTextOut (t : Texts) (d : Netlist) (g : GridShape) (sites : List Site) (old new : Option (List ℕ)) : Type 0 where
+  pub text : Appends old new (text_by t d g sites)
+  pub back : StandsFor d g (lines (text_by t d g sites)) sites
+
+-- what went to the place text: that of the placement where the run is finished, and nothing where it stopped
+abbrev pub IsPlaceOut : Texts → Netlist → GridShape → List Site → Ending → Option (List ℕ) → Option (List ℕ) → Type 0
+IsPlaceOut t d g sites Finished old new = IsTextOut t d g sites old new
+IsPlaceOut t d g sites (Stopped q) old new = new ≡ old
+
+-- a piece answers this, and its report and its place text went out
+pub record IsMade (t : Texts) (p : Piece) (a : Answer) (report_old report_new place_old place_new : Option (List ℕ)) : Type 0 where
+  pub told : IsToldPiece p a report_old report_new
+  pub place : IsPlaceOut t p.run.problem.design p.run.problem.grid a.placement.sites a.ending place_old place_new
+
+-- the piece that is asked for answers this, and its report and its place text went out
+abbrev pub IsPlaced : (Piece → Type 0) → Texts → Answer → Option (List ℕ) → Option (List ℕ) → Option (List ℕ) → Option (List ℕ) → Type 0
+IsPlaced Asked t a report_old report_new place_old place_new = (p : Piece) × Asked p × IsMade t p a report_old report_new place_old place_new
 
 -- memory ran out, or the writer of the report failed once more
 abbrev pub IsReportFault : ℕ → ℕ → RunFault → Type 0
@@ -85,27 +86,33 @@ abbrev pub IsDeviceFault : ℕ → ℕ → ℕ → ℕ → RunFault → Type 0
 IsDeviceFault old new place_old place_new e =
     (IsReportFault old new e × (place_new ≡ place_old)) ⊎ ((e ≡ Place Write) × (new ≡ old) × (place_new ≡ grown place_old))
 
--- what went out is a beginning of the run's report
-abbrev pub IsReportBegun : Texts → Options → Option (List ℕ) → Option (List ℕ) → Type 0
-IsReportBegun t o old new = (s : Setting) × IsSetting t o s × (n : ℕ) × IsBegun old new (report_by s o.seed n)
+-- a placement of a finished run was not written whole: memory ran out before the first byte, or the writer failed once more
+abbrev pub IsPlaceFault : Texts → Netlist → GridShape → List Site → Ending → Option (List ℕ) → Option (List ℕ) → ℕ → ℕ → RunFault → Type 0
+IsPlaceFault t d g sites ending old new failed_old failed_new e =
+    ((e ≡ NoMemory) × (new ≡ old) × (failed_new ≡ failed_old))
+    ⊎ ((e ≡ Place Write) × (ending ≡ Finished) × IsCut (text_by t d g sites) old new × (failed_new ≡ grown failed_old))
+
+-- what went out is a beginning of the report of the piece that is asked for
+abbrev pub IsReportBegun : (Piece → Type 0) → Option (List ℕ) → Option (List ℕ) → Type 0
+IsReportBegun Asked old new = (p : Piece) × Asked p × IsReportOf p old new
 
 -- what went out is a beginning of it, and not all
-abbrev pub IsReportCut : Texts → Options → Option (List ℕ) → Option (List ℕ) → Type 0
-IsReportCut t o old new = (s : Setting) × IsSetting t o s × (n : ℕ) × IsCut (report_by s o.seed n) old new
+abbrev pub IsReportCut : (Piece → Type 0) → Option (List ℕ) → Option (List ℕ) → Type 0
+IsReportCut Asked old new = (p : Piece) × Asked p × IsReportCutOf p old new
 
--- what went out is the whole report, and a beginning of the place text, but not all of it
-pub record IsPlaceCut (t : Texts) (o : Options) (report_old report_new place_old place_new : Option (List ℕ)) : Type 0 where
-  pub setting : Setting
-  pub placement : PlacementOf
-  pub accepted : List ℕ
-  pub costs : List ℕ
-  pub given : IsSetting t o setting
-  pub told : IsToldRun setting o.seed placement accepted costs report_old report_new
-  pub place : IsCut (text_by t setting placement.sites) place_old place_new
+-- what went out is the whole report of a finished piece, and a beginning of its place text, but not all of it
+pub record IsTextCut (t : Texts) (p : Piece) (report_old report_new place_old place_new : Option (List ℕ)) : Type 0 where
+  pub answer : Answer
+  pub told : IsToldPiece p answer report_old report_new
+  pub finished : answer.ending ≡ Finished
+  pub place : IsCut (text_by t p.run.problem.design p.run.problem.grid answer.placement.sites) place_old place_new
 
--- the writer of the place text was not ready: what went out are the first two lines of the report, and nothing of the place text
-pub record IsUnready (t : Texts) (o : Options) (report_old report_new place_old place_new : Option (List ℕ)) : Type 0 where
-  pub setting : Setting
-  pub given : IsSetting t o setting
-  pub told : Appends report_old report_new (head_by setting o.seed)
+-- the writer of the place text was not ready: what went out is what the report shows before the first move
+pub record IsUnreadyFor (p : Piece) (report_old report_new place_old place_new : Option (List ℕ)) : Type 0 where
+  pub told : Appends report_old report_new p.head
   pub place : place_new ≡ place_old
+
+-- the writer of the place text failed: it was not ready, or it took a beginning alone
+abbrev pub IsPlaceCut : (Piece → Type 0) → Texts → Option (List ℕ) → Option (List ℕ) → Option (List ℕ) → Option (List ℕ) → Type 0
+IsPlaceCut Asked t report_old report_new place_old place_new =
+    (p : Piece) × Asked p × (IsUnreadyFor p report_old report_new place_old place_new ⊎ IsTextCut t p report_old report_new place_old place_new)

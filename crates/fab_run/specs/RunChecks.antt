@@ -42,17 +42,17 @@ abbrev pub HasLawfulPlan : Options → ℕ → Type 0
 HasLawfulPlan o blocks = (p : Plan) × IsAskedPlan o blocks p × IsLawful p
 
 -- the first that is wrong with batch and workers
-abbrev pub IsThreadFault : Options → RunFault → Type 0
-IsThreadFault o BatchOutOfRange = ¬ Within 4096 o.batch
-IsThreadFault o WorkersOutOfRange = Within 4096 o.batch × (¬ Within 64 o.workers)
-IsThreadFault o e = ⊥
+abbrev pub IsThreadFault : ℕ → ℕ → RunFault → Type 0
+IsThreadFault batch workers BatchOutOfRange = ¬ Within 4096 batch
+IsThreadFault batch workers WorkersOutOfRange = Within 4096 batch × (¬ Within 64 workers)
+IsThreadFault batch workers e = ⊥
 
 -- the first that is wrong behind the texts, with labels, schedule, batch and workers, for a design with so many blocks
 abbrev pub IsOptionFault : Texts → Options → ℕ → RunFault → Type 0
 IsOptionFault t o blocks (Place BadLabel) = are_labels t.net_label t.arch_label ≡ false
 IsOptionFault t o blocks (Schedule e) = (are_labels t.net_label t.arch_label ≡ true) × ((p : Plan) × IsAskedPlan o blocks p × (fault_of p ≡ Some e))
-IsOptionFault t o blocks BatchOutOfRange = (are_labels t.net_label t.arch_label ≡ true) × HasLawfulPlan o blocks × IsThreadFault o BatchOutOfRange
-IsOptionFault t o blocks WorkersOutOfRange = (are_labels t.net_label t.arch_label ≡ true) × HasLawfulPlan o blocks × IsThreadFault o WorkersOutOfRange
+IsOptionFault t o blocks BatchOutOfRange = (are_labels t.net_label t.arch_label ≡ true) × HasLawfulPlan o blocks × IsThreadFault o.batch o.workers BatchOutOfRange
+IsOptionFault t o blocks WorkersOutOfRange = (are_labels t.net_label t.arch_label ≡ true) × HasLawfulPlan o blocks × IsThreadFault o.batch o.workers WorkersOutOfRange
 IsOptionFault t o blocks e = ⊥
 
 -- the texts are in order, and this is the first that is wrong behind them

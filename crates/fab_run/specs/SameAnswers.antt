@@ -1,21 +1,37 @@
 -- What is placed is told by the texts and the numbers that are asked for alone (our own): batch and workers have no part in it.
-use Rattle.std.specs.Prelude.{ℕ, ◌≡◌, List, [], Some}
-use Rattle.fab_site.specs.Placement.{PlacementOf}
+use Rattle.std.specs.Prelude.{ℕ, ◌≡◌, List, [], Option, Some}
+use Rattle.fab_run.specs.declared.inputs.Ending.{Ending}
+use Rattle.fab_run.specs.declared.inputs.Ending.TheVariants.{Finished, Stopped}
 use Rattle.fab_run.specs.declared.inputs.Options.{Options}
-use Rattle.fab_run.specs.Placed.{IsPlaced}
+use Rattle.fab_run.specs.Ends.{Answer, AreRedone, Piece}
+use Rattle.fab_run.specs.Placed.{AskFor, AskToGoOn, IsPlaced}
+use Rattle.fab_run.specs.PointMeaning.{IsSamePoint}
 use Rattle.fab_run.specs.Setting.{Texts}
 
--- what a run answers: the placement, the accepted moves, the costs, and the bytes of the report and of the place text
-pub record Answer : Type 0 where
-  pub placement : PlacementOf
-  pub accepted : List ℕ
-  pub costs : List ℕ
+-- a call of a run: what it answers, and the bytes of its report and its place text
+pub record Call : Type 0 where
+  pub answer : Answer
   pub report : List ℕ
   pub place : List ℕ
 
--- a run of these texts and numbers answers so, where nothing stood in its outputs before
-abbrev pub Answers : Texts → Options → Answer → Type 0
-Answers t o a = IsPlaced t o a.placement a.accepted a.costs (Some []) (Some a.report) (Some []) (Some a.place)
+-- the piece that is asked for has this call, where nothing stood in its outputs before
+abbrev pub IsCalled : (Piece → Type 0) → Texts → Call → Type 0
+IsCalled Asked t c = IsPlaced Asked t c.answer (Some []) (Some c.report) (Some []) (Some c.place)
+
+-- both are finished, or both stopped at one point
+abbrev pub EndAlike : Ending → Ending → Type 0
+EndAlike Finished Finished = Unit {0}
+EndAlike (Stopped p) (Stopped q) = IsSamePoint p q
+EndAlike _ _ = ⊥
+
+-- two calls answered the same and wrote the same
+pub record AreTheSame (a b : Call) : Type 0 where
+  pub ending : EndAlike a.answer.ending b.answer.ending
+  pub placement : a.answer.placement ≡ b.answer.placement
+  pub accepted : a.answer.accepted ≡ b.answer.accepted
+  pub costs : a.answer.costs ≡ b.answer.costs
+  pub report : a.report ≡ b.report
+  pub place : a.place ≡ b.place
 
 -- the two ask for the same, whatever their batches and numbers of workers
 pub record AsksTheSame (o p : Options) : Type 0 where
@@ -25,7 +41,24 @@ pub record AsksTheSame (o p : Options) : Type 0 where
   pub exit_t : o.exit_t ≡ p.exit_t
   pub cooling : o.cooling ≡ p.cooling
   pub moves : o.moves ≡ p.moves
+  pub stop : o.stop ≡ p.stop
 
 -- runs of the same texts that ask for the same answer the same
 abbrev pub AnswersAreTold : Type 0
-AnswersAreTold = (t : Texts) (o p : Options) (a b : Answer) → AsksTheSame o p → Answers t o a → Answers t p b → a ≡ b
+AnswersAreTold = (t : Texts) (o p : Options) (a b : Call) → AsksTheSame o p → IsCalled (AskFor t o) t a → IsCalled (AskFor t p) t b → AreTheSame a b
+
+-- and so do runs that go on from one checkpoint text to one stop
+abbrev pub ResumedAreTold : Type 0
+ResumedAreTold =
+    (t : Texts) (point : List ℕ) (batch workers other_batch other_workers : ℕ) (stop : Option ℕ) (a b : Call) → IsCalled (AskToGoOn t point batch workers stop) t a → IsCalled (AskToGoOn t point other_batch other_workers stop) t b
+    → AreTheSame a b
+
+-- runs that ask for the same with one batch judge as many moves again, whatever their numbers of workers
+abbrev pub RedoneIsTold : Type 0
+RedoneIsTold = (t : Texts) (o p : Options) (a b : Piece) (m n : ℕ) → AsksTheSame o p → o.batch ≡ p.batch → AskFor t o a → AskFor t p b → AreRedone a o.batch m → AreRedone b p.batch n → m ≡ n
+
+-- and so do runs that go on from one checkpoint text to one stop
+abbrev pub ResumedRedoneIsTold : Type 0
+ResumedRedoneIsTold =
+    (t : Texts) (point : List ℕ) (batch workers other_workers : ℕ) (stop : Option ℕ) (a b : Piece) (m n : ℕ) → AskToGoOn t point batch workers stop a → AskToGoOn t point batch other_workers stop b → AreRedone a batch m → AreRedone b batch n
+    → m ≡ n

@@ -1,5 +1,6 @@
 //! What a run is given, and what it answers.
 
+use fab_commit::Point;
 use fab_file::Labels;
 use fab_sched::Cooling;
 use fab_site::Placement;
@@ -45,13 +46,17 @@ pub struct Options {
     pub batch: u64,
     /// How many threads judge moves ahead, 1 to 64. What is placed does not depend on it.
     pub workers: u64,
+    /// After how many moves of the run it stops. A stop before the first move of a piece is passed, and so is one that no move follows.
+    pub stop: Option<u64>,
 }
 
 /// How a run ended.
-#[derive(Clone, Copy, Debug, PartialEq, Eq)]
+#[derive(Drop)]
 pub enum Ending {
     /// No move is left.
     Finished,
+    /// It is at its stop, and moves are left: `resume_run` goes on from the text of this point.
+    Stopped(Point),
 }
 
 /// What a run answers.
@@ -62,7 +67,7 @@ pub struct Outcome {
     pub placement: Placement,
     /// The numbers of the accepted moves, in order.
     pub accepted: Vec<u64>,
-    /// The cost at the start, and after each stage, in ten-thousandths.
+    /// The cost before the first move of the piece, and after each stage that ended in it, in ten-thousandths.
     pub costs: Vec<u64>,
     /// How many moves were judged again, because a move that was accepted since had touched what their verdicts rested on.
     /// It depends on the batch, and not on the workers.

@@ -5,12 +5,15 @@ pub mod check;
 #[cfg(test)]
 mod check_tests;
 mod crews;
-mod designs;
+pub mod designs;
 pub mod fault;
 pub mod inputs;
 pub mod laws;
 #[cfg(test)]
 mod narrow;
+mod piece;
+#[cfg(test)]
+mod piece_tests;
 pub mod placing;
 pub mod point_fault;
 pub mod point_reading;
@@ -19,17 +22,21 @@ mod point_tests;
 mod point_words;
 pub mod point_writing;
 mod report;
+pub mod resuming;
 #[cfg(test)]
 mod run_tests;
-mod setting;
+pub mod setting;
 mod stages;
 
 pub use check::check_run;
+pub use designs::read_design;
 pub use fab_commit::Point;
 pub use fault::{RunFault, fault_line};
 pub use inputs::{Ending, Inputs, Moves, Options, Outcome};
-pub use laws::{answers_are_told, chains_are_runs};
+pub use laws::{answers_are_told, calls_are_runs, chains_are_runs};
 pub use placing::place_run;
 pub use point_fault::{PointFault, PointField};
 pub use point_reading::{point_texts_mean_or_fault, read_point};
 pub use point_writing::{write_point, written_points_read_back};
+pub use resuming::resume_run;
+pub use setting::array_of;

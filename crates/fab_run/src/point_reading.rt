@@ -452,6 +452,22 @@ fn read_parts(
     Ok((head.seed, head.grid, point))
 }
 
+/// The seed, the array and the point of a run that a checkpoint text stands for, with so many pads at a position and the design of that
+/// run; else its first fault.
+pub(crate) fn point_for(
+    alloc: Global,
+    bytes: &[u8],
+    io_rat: u16,
+    design: &Design,
+) -> Result<(u64, Grid, Point), PointFault>
+    ensures found { IfOk result (λ r. StandsForPoint io_rat design.now (lines bytes.now) r.0 r.1 r.2) }
+    ensures only { (seed : ℕ) (g : GridShape) (p : PointOf) → StandsForPoint io_rat design.now (lines bytes.now) seed g p → MatchResult result (λ r. (r.0 ≡ seed) × (r.1 ≡ g) × IsSamePoint r.2 p) (λ e. e ≡ NoMemory) }
+    ensures fault { IfErr result (IsPointFault io_rat design.now (lines bytes.now)) }
+{
+    let _blocks = design.blocks();
+    read_parts(alloc, bytes, io_rat, design)
+}
+
 /// The seed, the array and the point of a run that a checkpoint text stands for, with the architecture and the design of that run:
 /// a text of the first or the second version. Else its first fault: that of the first line that is faulty or missing. The time
 /// grows with the length of the text.
@@ -468,8 +484,7 @@ pub fn read_point(
     // An error is the first fault, or want of memory.
     ensures fault { IfErr result (IsPointFault arch.now.io_rat design.now (lines bytes.now)) }
 {
-    let _blocks = design.blocks();
-    read_parts(alloc, bytes, arch.io_rat, design)
+    point_for(alloc, bytes, arch.io_rat, design)
 }
 
 /// The law that the lines of a checkpoint text either stand for one point or have one first fault, and never both.

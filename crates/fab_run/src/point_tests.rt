@@ -11,7 +11,7 @@ use std::alloc::{AllocError, Global};
 use std::process::Abort;
 use std::test::*;
 
-const FIRST: &[u8] = b"vplace point 1
+pub const FIRST: &[u8] = b"vplace point 1
 seed 1
 array 1 x 1 io_rat 1
 schedule 100000 10000 500 3
@@ -28,7 +28,7 @@ b 1 1 0
 end
 ";
 
-const SECOND: &[u8] = b"vplace point 2
+pub const SECOND: &[u8] = b"vplace point 2
 seed 1
 array 1 x 1 io_rat 1
 schedule 100000 10000 500 3
@@ -46,7 +46,7 @@ b 1 1 0
 end
 ";
 
-const BY_ACCEPTANCE: &[u8] = b"vplace point 2
+pub const BY_ACCEPTANCE: &[u8] = b"vplace point 2
 seed 1
 array 1 x 1 io_rat 1
 schedule 100000 10000 adaptive 3

@@ -2,7 +2,7 @@
 // made by an independent placer.
 
 use crate::narrow::Narrow;
-use crate::{Inputs, Moves, Options, RunFault, fault_line, place_run};
+use crate::{Ending, Inputs, Moves, Options, Outcome, RunFault, fault_line, place_run};
 use fab_file::Labels;
 use fab_sched::Cooling;
 use fab_text::{Counted, push_number};
@@ -18,7 +18,7 @@ pub const NET: &[u8] =
 
 const PADS: &[u8] = b"a 0 1 0\nz 2 1 0\n";
 
-const REPORT: &[u8] = b"blocks 3 logic 1 pads 2 nets 2 array 1 x 1
+pub const REPORT: &[u8] = b"blocks 3 logic 1 pads 2 nets 2 array 1 x 1
 start cost 4.0000
 stage 0 t 10.0000 range 1.000 moves 3 accepted 0 cost 4.0000
 stage 1 t 5.0000 range 1.000 moves 3 accepted 0 cost 4.0000
@@ -28,7 +28,7 @@ frozen range 1.000 moves 3 accepted 0 cost 4.0000
 final cost 4.0000 accepted 0 of 15
 ";
 
-const PLACE: &[u8] = b"Netlist file: t.net   Architecture file: t.arch
+pub const PLACE: &[u8] = b"Netlist file: t.net   Architecture file: t.arch
 Array size: 1 x 1 logic blocks
 
 #block name\tx\ty\tsubblk\tblock number
@@ -38,7 +38,7 @@ z\t2\t1\t0\t#1
 b\t1\t1\t0\t#2
 ";
 
-const INPUTS: Inputs<'static> = Inputs {
+pub const INPUTS: Inputs<'static> = Inputs {
     arch: ARCH,
     net: NET,
     pads: Some(PADS),
@@ -48,7 +48,7 @@ const INPUTS: Inputs<'static> = Inputs {
     },
 };
 
-const OPTIONS: Options = Options {
+pub const OPTIONS: Options = Options {
     seed: 1,
     size: None,
     init_t: 100_000,
@@ -57,9 +57,10 @@ const OPTIONS: Options = Options {
     moves: Moves::Given(3),
     batch: 64,
     workers: 4,
+    stop: None,
 };
 
-fn writer_with(alloc: Global, room: usize) -> Counted<Narrow> {
+pub fn writer_with(alloc: Global, room: usize) -> Counted<Narrow> {
     Counted::new(Narrow {
         taken: Vec::new(alloc),
         room,
@@ -76,18 +77,27 @@ fn push_all(text: &mut Vec<u8>, name: &[u8], numbers: &[u64]) -> Result<(), Allo
     Ok(())
 }
 
-// What a run answers and writes where its two writers take so many bytes, in one text: the report, the place text, and the
-// accepted moves, costs and number of moves judged again, or the fault.
-fn run_narrow(
-    rt: &(impl AllocGlobal + Threads + Wait + Sync),
+// Where a run stopped, if it did: its stage, temperature, range, moves made and accepted in the stage, and moves accepted in all.
+fn push_ending(text: &mut Vec<u8>, ending: &Ending) -> Result<(), AllocError> {
+    match ending {
+        Ending::Finished => Ok(()),
+        Ending::Stopped(point) => {
+            let stage = &point.stage;
+            push_all(text, b"stage", &[stage.index, stage.t, stage.range])?;
+            push_all(text, b"moves", &[stage.done, stage.accepted, point.total])
+        }
+    }
+}
+
+// What a run answered and wrote, in one text: the report, the place text, and the accepted moves, costs, number of moves judged
+// again and where it stopped, or the fault.
+pub fn told_of(
+    alloc: Global,
     inputs: &Inputs,
-    options: &Options,
-    rooms: (usize, usize),
+    report: Counted<Narrow>,
+    place: Counted<Narrow>,
+    answer: Result<Outcome, RunFault>,
 ) -> Result<Vec<u8>, AllocError> {
-    let alloc = rt.alloc();
-    let mut report = writer_with(alloc, rooms.0);
-    let mut place = writer_with(alloc, rooms.1);
-    let answer = place_run(rt, inputs, options, &mut report, &mut place);
     let mut told = report.into_inner().taken;
     told.extend_from_slice(&place.into_inner().taken)?;
     match answer {
@@ -95,6 +105,7 @@ fn run_narrow(
             push_all(&mut told, b"accepted", &outcome.accepted)?;
             push_all(&mut told, b"costs", &outcome.costs)?;
             push_all(&mut told, b"redone", &[outcome.redone])?;
+            push_ending(&mut told, &outcome.ending)?;
         }
         Err(fault) => {
             let line = fault_line(alloc, &fault, inputs.net)?;
@@ -104,7 +115,21 @@ fn run_narrow(
     Ok(told)
 }
 
-fn run(
+// The same of a run whose two writers take so many bytes.
+pub fn run_narrow(
+    rt: &(impl AllocGlobal + Threads + Wait + Sync),
+    inputs: &Inputs,
+    options: &Options,
+    rooms: (usize, usize),
+) -> Result<Vec<u8>, AllocError> {
+    let alloc = rt.alloc();
+    let mut report = writer_with(alloc, rooms.0);
+    let mut place = writer_with(alloc, rooms.1);
+    let answer = place_run(rt, inputs, options, &mut report, &mut place);
+    told_of(alloc, inputs, report, place, answer)
+}
+
+pub fn run(
     rt: &(impl AllocGlobal + Threads + Wait + Sync),
     inputs: &Inputs,
     options: &Options,
@@ -215,6 +240,7 @@ fn the_first_fault_is_told(rt: HostRuntime) -> Result<(), Fail> {
         moves: Moves::Inner(0),
         batch: 0,
         workers: 0,
+        stop: Some(0),
     };
     let no_net = Inputs {
         arch: ARCH,
@@ -295,7 +321,7 @@ fn a_writer_that_fails_is_told(rt: HostRuntime) -> Result<(), Fail> {
     Ok(())
 }
 
-const SEVEN: Inputs<'static> = Inputs {
+pub const SEVEN: Inputs<'static> = Inputs {
     arch: b"io_rat 1\ninpin class: 0 left\ninpin class: 0 top\noutpin class: 1 right\n",
     net: b".input a
 pinlist: a
@@ -319,7 +345,7 @@ pinlist: b y w
     },
 };
 
-const SHORT: Options = Options {
+pub const SHORT: Options = Options {
     seed: 0,
     size: Some((3, 2)),
     init_t: 20_000,
@@ -328,6 +354,7 @@ const SHORT: Options = Options {
     moves: Moves::Given(8),
     batch: 16,
     workers: 3,
+    stop: None,
 };
 
 #[test]
@@ -443,7 +470,7 @@ redone 86
 }
 
 // How many moves a run judges again, as the reference counts them.
-fn redone(
+pub fn redone(
     rt: &(impl AllocGlobal + Threads + Wait + Sync),
     options: &Options,
 ) -> Result<u64, RunFault> {

@@ -22,8 +22,9 @@ use fab_sched::{Cooling, SchedFault, Schedule, moves_of};
 use fab_site::{Fixed, Pins};
 use std::alloc::Global;
 
-/// The array of the size that is given, or the least square one, where it holds the design.
-fn array_of(design: &Design, size: Option<(u16, u16)>, io_rat: u16) -> Result<Grid, GridFault>
+/// The array of a run of a design: that of the size that is given, or the least square one, where it holds the design. `io_rat` is how
+/// many pads a position takes.
+pub fn array_of(design: &Design, size: Option<(u16, u16)>, io_rat: u16) -> Result<Grid, GridFault>
     requires ratio { (1 ≤ io_rat) × (io_rat ≤ 64) }
     ensures ratio { IfOk result (λ g. g.io_rat ≡ io_rat) }
     ensures size { IfOk result (IsSized size design.now) }
@@ -107,15 +108,15 @@ fn is_within(most: u64, n: u64) -> bool
 }
 
 /// Whether batch and workers are within their limits, the batch first.
-fn check_threads(options: &Options) -> Result<(), RunFault>
-    ensures batch { OnOk result (Within 4096 options.now.batch) }
-    ensures workers { OnOk result (Within 64 options.now.workers) }
-    ensures fault { IfErr result (IsThreadFault options.now) }
+pub(crate) fn check_threads(batch: u64, workers: u64) -> Result<(), RunFault>
+    ensures batch { OnOk result (Within 4096 batch) }
+    ensures workers { OnOk result (Within 64 workers) }
+    ensures fault { IfErr result (IsThreadFault batch workers) }
 {
-    if !is_within(4096, options.batch) {
+    if !is_within(4096, batch) {
         return Err(RunFault::BatchOutOfRange);
     }
-    if !is_within(64, options.workers) {
+    if !is_within(64, workers) {
         return Err(RunFault::WorkersOutOfRange);
     }
     Ok(())
@@ -154,7 +155,7 @@ fn read_schedule(inputs: &Inputs, options: &Options, blocks: usize) -> Result<Sc
         return Err(RunFault::Place(PlaceFault::BadLabel));
     }
     let schedule = schedule_of(options, blocks)?;
-    check_threads(options)?;
+    check_threads(options.batch, options.workers)?;
     Ok(schedule)
 }
 

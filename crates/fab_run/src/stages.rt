@@ -1,13 +1,13 @@
 //! The stages of a run, one after another, each told as it ends.
 
-ghost use Rattle.std.specs.Prelude.{◌≡◌, ◌+◌, ◌≤◌, ◌++◌, Some, OnOk, IfOk, IfErr};
-ghost use Rattle.fab_sched.specs.Annealing.{IsCooling};
+ghost use Rattle.std.specs.Prelude.{◌≡◌, ℕ, ◌+◌, ◌<◌, ◌≤◌, ◌++◌, Some, OnOk, IfOk, IfErr, MatchOption};
+ghost use Rattle.fab_sched.specs.Annealing.{IsLawful};
 ghost use Rattle.fab_commit.specs.Serial.{accepted_among, from, moves_left, stage_of};
 ghost use Rattle.fab_commit.specs.ByTurns.{LeadsByTurns};
 ghost use Rattle.fab_commit.specs.Commits.{IsSameRun, run_of};
 ghost use Rattle.fab_run.specs.Piece.{stage_costs, stage_lines};
 ghost use Rattle.fab_run.specs.Placed.{IsReportFault};
-ghost use Rattle.fab_run.specs.Stages.{AreCut, AreMade};
+ghost use Rattle.fab_run.specs.Stages.{AreCountedOn, AreCut, AreMade};
 
 use crate::fault::RunFault;
 use crate::report::stage_line;
@@ -19,6 +19,19 @@ use fab_text::{Sink, write_whole};
 use std::alloc::{AllocError, Global};
 use std::sync::Wait;
 use std::thread::Threads;
+
+/// How a piece of a run is made.
+#[derive(Clone, Copy)]
+pub(crate) struct Pace {
+    /// The moves of a stage.
+    pub(crate) moves: u64,
+    /// How many moves a turn commits.
+    pub(crate) batch: u64,
+    /// How many workers judge ahead.
+    pub(crate) workers: u64,
+    /// After how many moves of the run it stops.
+    pub(crate) stop: Option<u64>,
+}
 
 /// Makes the moves that are left in the running stage, by turns of a batch.
 fn make_stage<'a, V: Words + Sync + Drop, J: Naming, R: Threads + Wait + Sync>(
@@ -42,6 +55,54 @@ fn make_stage<'a, V: Words + Sync + Drop, J: Naming, R: Threads + Wait + Sync>(
         anneal.turn_by(rt, batch, workers)?;
         made += anneal.done() - before;
     }
+    Ok(())
+}
+
+/// How many of the moves that are left in the running stage are made before the stop, where it lies among them: `done` moves of the run
+/// are made, and `left` are left in the stage.
+fn moves_before(stop: Option<u64>, done: u64, left: u64) -> Option<u64>
+    ensures { MatchOption result ((m : ℕ) → stop ≡ Some (done + m) → left ≤ m) (λ rest. (stop ≡ Some (done + rest)) × (rest < left)) }
+{
+    let Some(stop) = stop else {
+        return None;
+    };
+    if stop < done {
+        return None;
+    }
+    let rest = stop - done;
+    if left <= rest {
+        return None;
+    }
+    Some(rest)
+}
+
+/// Makes the next moves of the running stage, fewer than are left in it: by turns of a batch, and a shorter one at the end where some
+/// are left over.
+fn make_part<'a, V: Words + Sync + Drop, J: Naming, R: Threads + Wait + Sync>(
+    rt: &R,
+    anneal: &mut Anneal<'a, V>,
+    count: u64,
+    batch: u64,
+    workers: &mut Workers<'a, '_, V, NoGate, J>,
+) -> Result<(), AllocError>
+    requires part { count < moves_left (run_of V.moves anneal.old) anneal.old.standing }
+    requires limits { (1 ≤ batch) × (batch ≤ 4096) }
+    ensures same { IsSameRun anneal.old anneal.new }
+    ensures done { OnOk result (anneal.new.standing.done ≡ anneal.old.standing.done + count) }
+    ensures stands { OnOk result (anneal.new.standing ≡ from (run_of V.moves anneal.old) anneal.old.standing count) }
+    ensures accepted { OnOk result (anneal.new.accepted ≡ anneal.old.accepted ++ accepted_among (run_of V.moves anneal.old) anneal.old.standing count) }
+    ensures counted { OnOk result (AreCountedOn (run_of V.moves anneal.old) batch anneal.old anneal.new) }
+{
+    let mut made = 0;
+    while batch <= count - made {
+        let before = anneal.done();
+        anneal.turn_by(rt, batch, workers)?;
+        made += anneal.done() - before;
+    }
+    if made == count {
+        return Ok(());
+    }
+    anneal.turn_by(rt, count - made, workers)?;
     Ok(())
 }
 
@@ -87,29 +148,32 @@ fn end_stage<'a, V: Words + Sync + Drop, J: Naming, R: Threads + Wait + Sync>(
     )
 }
 
-/// Makes all moves that are left, each stage told as it ends.
+/// Makes the moves of a piece, up to its stop or to the last one, each stage told as it ends.
 pub(crate) fn anneal_all<'a, V: Words + Sync + Drop, W: Sink, J: Naming, R: Threads + Wait + Sync>(
     rt: &R,
     alloc: Global,
     anneal: &mut Anneal<'a, V>,
-    moves: u64,
-    batch: u64,
+    pace: &Pace,
     workers: &mut Workers<'a, '_, V, NoGate, J>,
     report: &mut W,
     costs: &mut Vec<u64>,
 ) -> Result<(), RunFault>
-    requires moves { moves ≡ anneal.old.plan.moves }
-    requires some { 1 ≤ moves }
-    requires cooling { IsCooling anneal.old.plan.cooling }
-    requires limits { (1 ≤ batch) × (batch ≤ 4096) }
+    requires moves { pace.now.moves ≡ anneal.old.plan.moves }
+    requires plan { IsLawful anneal.old.plan }
+    requires limits { (1 ≤ pace.now.batch) × (pace.now.batch ≤ 4096) }
     ensures same { IsSameRun anneal.old anneal.new }
-    ensures made { OnOk result (AreMade V.moves batch anneal.old anneal.new costs.old.items costs.new.items (W.contents report.old) (W.contents report.new)) }
-    ensures cut { IfErr result (AreCut (run_of V.moves anneal.old) anneal.old.standing (W.contents report.old) (W.contents report.new)) }
+    ensures made { OnOk result (AreMade V.moves pace.now.stop pace.now.batch anneal.old anneal.new costs.old.items costs.new.items (W.contents report.old) (W.contents report.new)) }
+    ensures cut { IfErr result (AreCut (run_of V.moves anneal.old) anneal.old.standing pace.now.stop (W.contents report.old) (W.contents report.new)) }
     ensures sound { OnOk result (W.failed report.new ≡ W.failed report.old) }
     ensures fault { IfErr result (IsReportFault (W.failed report.old) (W.failed report.new)) }
 {
+    let moves = pace.moves;
     while let Some(stage) = anneal.stage() {
-        let line = end_stage(rt, alloc, anneal, stage, moves, batch, workers, costs)?;
+        if let Some(rest) = moves_before(pace.stop, anneal.done(), moves - stage.done) {
+            make_part(rt, anneal, rest, pace.batch, workers)?;
+            return Ok(());
+        }
+        let line = end_stage(rt, alloc, anneal, stage, moves, pace.batch, workers, costs)?;
         write_whole(report, &line)?;
     }
     Ok(())

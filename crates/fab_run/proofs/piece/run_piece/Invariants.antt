@@ -1,4 +1,4 @@
-use Rattle.fab_run.proofs.placing.place_run.Given as goal
+use Rattle.fab_run.proofs.piece.run_piece.Given as goal
 
 abbrev pub ghosts-anneal_told : goal.ghosts-anneal_told
 ghosts-anneal_told g a = record { book = a.opened }

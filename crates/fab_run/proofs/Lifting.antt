@@ -1,0 +1,59 @@
+-- What a piece answers and leaves, said of the piece that is asked for.
+use Rattle.std.proofs.Common.{◌≡◌, ℕ, ◌⊎◌, List, Option, sym, ap, subst, ◌∙◌, inl, inr}
+use Rattle.std.specs.Prelude.{Result, Ok, Err, IfOk, IfErr, OnErr}
+use Rattle.fab_file.specs.declared.fault.PlaceFault.TheVariants.{Write}
+use Rattle.fab_run.specs.Check.{report_failed_with}
+use Rattle.fab_run.specs.Ends.{AreRedone, IsReportCutOf, IsReportOf, Piece, answer_of}
+use Rattle.fab_run.specs.Placed.{IsDeviceFault, IsMade, IsPlaceCut, IsPlaced, IsReportBegun, IsReportCut, IsTextCut, IsUnreadyFor}
+use Rattle.fab_run.specs.RunChecks.{place_failed_with}
+use Rattle.fab_run.specs.Setting.{Texts}
+use Rattle.fab_run.specs.declared.fault.RunFault.{RunFault}
+use Rattle.fab_run.specs.declared.fault.RunFault.TheVariants.{Place, Report, NoMemory}
+use Rattle.fab_run.specs.declared.inputs.Outcome.{Outcome}
+
+abbrev Answered : Type 0
+Answered = Result Outcome RunFault
+
+pub made_asked : (Asked : Piece → Type 0) (t : Texts) (p : Piece) (r : Answered) (report_old report_new place_old place_new : Option (List ℕ)) → Asked p
+    → IfOk r (λ out. IsMade t p (answer_of out) report_old report_new place_old place_new) → IfOk r (λ out. IsPlaced Asked t (answer_of out) report_old report_new place_old place_new)
+made_asked Asked t p (Ok out) report_old report_new place_old place_new asked made = (p, asked, made)
+made_asked Asked t p (Err e) report_old report_new place_old place_new asked made = tt
+
+pub redone_asked : (Asked : Piece → Type 0) (p : Piece) (batch : ℕ) (r : Answered) → Asked p → IfOk r (λ out. AreRedone p batch out.redone) → IfOk r (λ out. (q : Piece) × Asked q × AreRedone q batch out.redone)
+redone_asked Asked p batch (Ok out) asked redone = (p, asked, redone)
+redone_asked Asked p batch (Err e) asked redone = tt
+
+pub cut_asked : (Asked : Piece → Type 0) (p : Piece) (r : Answered) (old new : Option (List ℕ)) → Asked p → OnErr r (IsReportOf p old new) → OnErr r ((new ≡ old) ⊎ IsReportBegun Asked old new)
+cut_asked Asked p (Ok out) old new asked cut = tt
+cut_asked Asked p (Err e) old new asked cut = inr (p, asked, cut)
+
+pub report_cut_asked : (Asked : Piece → Type 0) (p : Piece) (r : Answered) (old new : Option (List ℕ)) → Asked p → IfErr r (λ e. e ≡ Report → IsReportCutOf p old new) → IfErr r (λ e. e ≡ Report → IsReportCut Asked old new)
+report_cut_asked Asked p (Ok out) old new asked cut = tt
+report_cut_asked Asked p (Err e) old new asked cut = λ q. (p, asked, cut q)
+
+pub place_cut_asked : (Asked : Piece → Type 0) (t : Texts) (p : Piece) (r : Answered) (report_old report_new place_old place_new : Option (List ℕ)) → Asked p
+    → IfErr r (λ e. e ≡ Place Write → IsUnreadyFor p report_old report_new place_old place_new ⊎ IsTextCut t p report_old report_new place_old place_new)
+    → IfErr r (λ e. e ≡ Place Write → IsPlaceCut Asked t report_old report_new place_old place_new)
+place_cut_asked Asked t p (Ok out) report_old report_new place_old place_new asked cut = tt
+place_cut_asked Asked t p (Err e) report_old report_new place_old place_new asked cut = λ q. (p, asked, cut q)
+
+-- one of three faults
+by_device : (P : RunFault → Type 0) (a b c d : ℕ) (e : RunFault) → P NoMemory → P Report → P (Place Write) → IsDeviceFault a b c d e → P e
+by_device P a b c d e memory report place (inl h) = elim (h.0) [ inl q ↦ subst P (sym q.0) memory | inr q ↦ subst P (sym q.0) report ]
+by_device P a b c d e memory report place (inr h) = subst P (sym h.0) place
+
+pub fault_of_device : (P : RunFault → Type 0) (a b c d : ℕ) (r : Answered) → P NoMemory → P Report → P (Place Write) → IfErr r (IsDeviceFault a b c d) → IfErr r P
+fault_of_device P a b c d (Ok out) memory report place h = tt
+fault_of_device P a b c d (Err e) memory report place h = by_device P a b c d e memory report place h
+
+failed_by : (a b c d : ℕ) (e : RunFault) → IsDeviceFault a b c d e → (b ≡ report_failed_with e a) × (d ≡ place_failed_with e c)
+failed_by a b c d e (inl h) =
+    elim (h.0) [
+      | inl q ↦ (q.1 ∙ ap (λ f. report_failed_with f a) (sym q.0), h.1 ∙ ap (λ f. place_failed_with f c) (sym q.0))
+      | inr q ↦ (q.1 ∙ ap (λ f. report_failed_with f a) (sym q.0), h.1 ∙ ap (λ f. place_failed_with f c) (sym q.0))
+    ]
+failed_by a b c d e (inr h) = (h.1 ∙ ap (λ f. report_failed_with f a) (sym h.0), h.2 ∙ ap (λ f. place_failed_with f c) (sym h.0))
+
+pub failed_of_device : (a b c d : ℕ) (r : Answered) → IfErr r (IsDeviceFault a b c d) → IfErr r (λ e. (b ≡ report_failed_with e a) × (d ≡ place_failed_with e c))
+failed_of_device a b c d (Ok out) h = tt
+failed_of_device a b c d (Err e) h = failed_by a b c d e h

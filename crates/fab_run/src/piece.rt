@@ -1,0 +1,261 @@
+//! A piece of a run: from where an annealer stands to its stop or to the last move, and what is told of it.
+
+ghost use Rattle.std.specs.Prelude.{◌≡◌, ◌≢◌, ◌≤◌, ◌⊎◌, true, [], ◌∷◌, OnOk, OnErr, IfOk, IfErr};
+ghost use Rattle.std.specs.Io.KnownBytes.{Appends};
+ghost use Rattle.fab_site.specs.Placement.{IsLegal};
+ghost use Rattle.fab_sched.specs.Annealing.{IsLawful};
+ghost use Rattle.fab_move.specs.Stream.{stream_moves};
+ghost use Rattle.fab_commit.specs.Commits.{run_of};
+ghost use Rattle.fab_run.specs.Piece.{end_line};
+ghost use Rattle.fab_run.specs.Ends.{AreRedone, EndsAs, IsBegun, IsReportCutOf, IsReportOf, IsToldPiece, answer_of, piece_of};
+ghost use Rattle.fab_run.specs.Setting.{texts_of};
+ghost use Rattle.fab_run.specs.Placed.{IsDeviceFault, IsMade, IsPlaceFault, IsPlaceOut, IsReportFault, IsTextCut, IsUnreadyFor};
+ghost use Rattle.fab_run.specs.Stages.{IsNew};
+ghost use Rattle.fab_run.specs.declared.fault.RunFault.TheVariants.{Place, Report};
+ghost use Rattle.fab_file.specs.declared.fault.PlaceFault.TheVariants.{Write};
+ghost use Rattle.fab_file.specs.Written.{IsCut, are_labels};
+
+use crate::crews::{Ahead, Course, anneal_beside};
+use crate::fault::RunFault;
+use crate::inputs::{Ending, Inputs, Outcome};
+use crate::report::final_line;
+use crate::stages::Pace;
+use fab_arch::Grid;
+use fab_board::{Naming, NoGate, Opened, found};
+use fab_commit::{Anneal, Workers};
+use fab_file::{PlaceFault, write_place};
+use fab_move::{StreamWords, Verdict};
+use fab_net::Design;
+use fab_text::{Sink, write_whole};
+use std::alloc::{AllocError, Global};
+use std::marker::Brand;
+use std::sync::Wait;
+use std::thread::Threads;
+
+/// A piece that is asked for, beside the annealer that is to make it.
+#[derive(Drop)]
+pub(crate) struct Piece<'d, 'g> {
+    /// The design of the run.
+    pub(crate) design: &'d Design,
+    /// Its array.
+    pub(crate) grid: &'g Grid,
+    /// What the report shows before the first move.
+    pub(crate) head: Vec<u8>,
+    /// How the piece is made.
+    pub(crate) pace: Pace,
+}
+
+/// How the piece of an annealer ended.
+fn ending_of(anneal: &Anneal<'_, StreamWords>) -> Result<Ending, AllocError>
+    ensures { IfOk result (EndsAs (run_of stream_moves anneal.now) anneal.now.standing) }
+{
+    Ok(match anneal.point()? {
+        None => Ending::Finished,
+        Some(point) => Ending::Stopped(point),
+    })
+}
+
+/// What an annealer answers that made its piece.
+fn outcome(
+    alloc: Global,
+    anneal: &Anneal<'_, StreamWords>,
+    costs: Vec<u64>,
+) -> Result<Outcome, AllocError>
+    ensures ending { IfOk result (λ out. EndsAs (run_of stream_moves anneal.now) anneal.now.standing out.ending) }
+    ensures array { IfOk result (λ out. out.placement.grid ≡ anneal.now.grid) }
+    ensures sites { IfOk result (λ out. out.placement.sites ≡ anneal.now.standing.sites) }
+    ensures legal { IfOk result (λ out. IsLegal anneal.now.design anneal.now.grid anneal.now.fixed out.placement.sites) }
+    ensures accepted { IfOk result (λ out. out.accepted.items ≡ anneal.now.accepted) }
+    ensures costs { IfOk result (λ out. out.costs.items ≡ costs.items) }
+    ensures redone { IfOk result (λ out. out.redone ≡ anneal.now.redone) }
+{
+    let placement = anneal.placement().copy()?;
+    let accepted = anneal.accepted().to_vec(alloc)?;
+    let ending = ending_of(anneal)?;
+    Ok(Outcome {
+        ending,
+        placement,
+        accepted,
+        costs,
+        redone: anneal.redone(),
+    })
+}
+
+/// What a report shows before the first move goes out, and the writer of the place text is asked whether it is ready. The answer is the
+/// cost, alone in a list.
+fn tell_start<W: Sink, P: Sink>(
+    alloc: Global,
+    cost: u64,
+    head: &[u8],
+    report: &mut W,
+    place: &mut P,
+) -> Result<Vec<u64>, RunFault>
+    ensures costs { IfOk result (λ v. v.items ≡ cost ∷ []) }
+    ensures told { OnOk result (Appends (W.contents report.old) (W.contents report.new) head.now) }
+    ensures cut { OnErr result (IsBegun (W.contents report.old) (W.contents report.new) head.now) }
+    ensures short { IfErr result (λ e. e ≡ Report → IsCut head.now (W.contents report.old) (W.contents report.new)) }
+    ensures unready { IfErr result (λ e. e ≡ Place Write → Appends (W.contents report.old) (W.contents report.new) head.now) }
+    ensures place { P.contents place.new ≡ P.contents place.old }
+    ensures sound { OnOk result ((W.failed report.new ≡ W.failed report.old) × (P.failed place.new ≡ P.failed place.old)) }
+    ensures fault { IfErr result (IsDeviceFault (W.failed report.old) (W.failed report.new) (P.failed place.old) (P.failed place.new)) }
+{
+    let mut costs = Vec::new(alloc);
+    costs.push(cost)?;
+    write_whole(report, head)?;
+    if !place.is_ready() {
+        return Err(RunFault::Place(PlaceFault::Write));
+    }
+    Ok(costs)
+}
+
+/// The last line of a report goes out, where no move is left.
+fn tell_last<W: Sink>(
+    alloc: Global,
+    anneal: &Anneal<'_, StreamWords>,
+    report: &mut W,
+) -> Result<(), RunFault>
+    ensures told { OnOk result (Appends (W.contents report.old) (W.contents report.new) (end_line (run_of stream_moves anneal.now) anneal.now.standing)) }
+    ensures cut { OnErr result (IsBegun (W.contents report.old) (W.contents report.new) (end_line (run_of stream_moves anneal.now) anneal.now.standing)) }
+    ensures short { IfErr result (λ e. e ≡ Report → IsCut (end_line (run_of stream_moves anneal.now) anneal.now.standing) (W.contents report.old) (W.contents report.new)) }
+    ensures sound { OnOk result (W.failed report.new ≡ W.failed report.old) }
+    ensures fault { IfErr result (IsReportFault (W.failed report.old) (W.failed report.new)) }
+{
+    if anneal.stage().is_some() {
+        return Ok(());
+    }
+    let line = final_line(alloc, anneal.cost(), anneal.total(), anneal.done())?;
+    write_whole(report, &line)?;
+    Ok(())
+}
+
+/// The last line of a report goes out, where no move is left. The answer is that of the run.
+fn tell_end<W: Sink>(
+    alloc: Global,
+    anneal: &Anneal<'_, StreamWords>,
+    costs: Vec<u64>,
+    report: &mut W,
+) -> Result<Outcome, RunFault>
+    ensures ending { IfOk result (λ out. EndsAs (run_of stream_moves anneal.now) anneal.now.standing out.ending) }
+    ensures array { IfOk result (λ out. out.placement.grid ≡ anneal.now.grid) }
+    ensures sites { IfOk result (λ out. out.placement.sites ≡ anneal.now.standing.sites) }
+    ensures legal { IfOk result (λ out. IsLegal anneal.now.design anneal.now.grid anneal.now.fixed out.placement.sites) }
+    ensures accepted { IfOk result (λ out. out.accepted.items ≡ anneal.now.accepted) }
+    ensures costs { IfOk result (λ out. out.costs.items ≡ costs.items) }
+    ensures redone { IfOk result (λ out. out.redone ≡ anneal.now.redone) }
+    ensures told { OnOk result (Appends (W.contents report.old) (W.contents report.new) (end_line (run_of stream_moves anneal.now) anneal.now.standing)) }
+    ensures cut { OnErr result (IsBegun (W.contents report.old) (W.contents report.new) (end_line (run_of stream_moves anneal.now) anneal.now.standing)) }
+    ensures short { IfErr result (λ e. e ≡ Report → IsCut (end_line (run_of stream_moves anneal.now) anneal.now.standing) (W.contents report.old) (W.contents report.new)) }
+    ensures sound { OnOk result (W.failed report.new ≡ W.failed report.old) }
+    ensures fault { IfErr result (IsReportFault (W.failed report.old) (W.failed report.new)) }
+{
+    let outcome = outcome(alloc, anneal, costs)?;
+    tell_last(alloc, anneal, report)?;
+    Ok(outcome)
+}
+
+/// Makes the moves of a piece beside a crew, and tells of it.
+fn anneal_told<'a, J: Naming + Send + Sync, W: Sink, P: Sink, R: Threads + Wait + Sync>(
+    rt: &R,
+    alloc: Global,
+    opened: Opened<Ahead<'a>>,
+    anneal: Anneal<'a, StreamWords>,
+    piece: &Piece<'_, '_>,
+    report: &mut W,
+    place: &mut P,
+) -> Result<Outcome, RunFault>
+    requires book { opened ≡ J.book }
+    requires fresh { IsNew anneal }
+    requires moves { piece.now.pace.moves ≡ anneal.plan.moves }
+    requires plan { IsLawful anneal.plan }
+    requires limits { (1 ≤ piece.now.pace.batch) × (piece.now.pace.batch ≤ 4096) × (1 ≤ piece.now.pace.workers) × (piece.now.pace.workers ≤ 64) }
+    ensures redone { IfOk result (λ out. AreRedone (piece_of stream_moves anneal.entry piece.now.head.items piece.now.pace.stop) piece.now.pace.batch out.redone) }
+    ensures annealed { IfOk result (λ out. IsToldPiece (piece_of stream_moves anneal.entry piece.now.head.items piece.now.pace.stop) (answer_of out) (W.contents report.old) (W.contents report.new)) }
+    ensures cut { OnErr result (IsReportOf (piece_of stream_moves anneal.entry piece.now.head.items piece.now.pace.stop) (W.contents report.old) (W.contents report.new)) }
+    ensures short { IfErr result (λ e. e ≡ Report → IsReportCutOf (piece_of stream_moves anneal.entry piece.now.head.items piece.now.pace.stop) (W.contents report.old) (W.contents report.new)) }
+    ensures unready { IfErr result (λ e. e ≡ Place Write → Appends (W.contents report.old) (W.contents report.new) piece.now.head.items) }
+    ensures place { P.contents place.new ≡ P.contents place.old }
+    ensures sound { OnOk result ((W.failed report.new ≡ W.failed report.old) × (P.failed place.new ≡ P.failed place.old)) }
+    ensures fault { IfErr result (IsDeviceFault (W.failed report.old) (W.failed report.new) (P.failed place.old) (P.failed place.new)) }
+{
+    let pace = piece.pace;
+    let (crew, lead) = found::<Ahead<'a>, Verdict, J>(alloc, opened, pace.workers)?;
+    let workers = Workers::standing(lead, pace.workers, &NoGate);
+    let costs = tell_start(alloc, anneal.cost(), &piece.head, report, place)?;
+    let mut course = Course {
+        anneal,
+        workers,
+        costs,
+    };
+    anneal_beside(rt, alloc, &crew, &mut course, &pace, report)?;
+    let Course {
+        anneal,
+        workers: _,
+        costs,
+    } = course;
+    tell_end(alloc, &anneal, costs, report)
+}
+
+/// The place text of a run that is finished goes out.
+fn tell_placement<P: Sink>(
+    alloc: Global,
+    inputs: &Inputs,
+    piece: &Piece<'_, '_>,
+    outcome: &Outcome,
+    place: &mut P,
+) -> Result<(), RunFault>
+    requires labels { are_labels inputs.now.labels.net.now inputs.now.labels.arch.now ≡ true }
+    requires legal { IsLegal piece.now.design.now piece.now.grid.now [] outcome.now.placement.sites }
+    ensures whole { OnOk result (IsPlaceOut (texts_of inputs.now) piece.now.design.now piece.now.grid.now outcome.now.placement.sites outcome.now.ending (P.contents place.old) (P.contents place.new)) }
+    ensures sound { OnOk result (P.failed place.new ≡ P.failed place.old) }
+    ensures fault { IfErr result (IsPlaceFault (texts_of inputs.now) piece.now.design.now piece.now.grid.now outcome.now.placement.sites outcome.now.ending (P.contents place.old) (P.contents place.new) (P.failed place.old) (P.failed place.new)) }
+{
+    match &outcome.ending {
+        Ending::Stopped(_) => Ok(()),
+        Ending::Finished => {
+            let labels = &inputs.labels;
+            let placement = &outcome.placement;
+            write_place(alloc, place, labels, piece.design, piece.grid, placement)?;
+            Ok(())
+        }
+    }
+}
+
+/// Makes a piece. The lines of its report go out as its stages end, and the place text once the report is whole, where the piece finishes
+/// the run. Before the first move, when the head of the report has gone out, the writer of the place text is asked whether it is ready.
+pub(crate) fn run_piece<R: AllocGlobal + Threads + Wait + Sync, W: Sink, P: Sink>(
+    rt: &R,
+    anneal: Anneal<'_, StreamWords>,
+    inputs: &Inputs,
+    piece: &Piece<'_, '_>,
+    report: &mut W,
+    place: &mut P,
+) -> Result<Outcome, RunFault>
+    requires fresh { IsNew anneal }
+    requires design { piece.now.design.now ≡ anneal.design }
+    requires grid { piece.now.grid.now ≡ anneal.grid }
+    requires labels { are_labels inputs.now.labels.net.now inputs.now.labels.arch.now ≡ true }
+    requires moves { piece.now.pace.moves ≡ anneal.plan.moves }
+    requires plan { IsLawful anneal.plan }
+    requires limits { (1 ≤ piece.now.pace.batch) × (piece.now.pace.batch ≤ 4096) × (1 ≤ piece.now.pace.workers) × (piece.now.pace.workers ≤ 64) }
+    ensures made { IfOk result (λ out. IsMade (texts_of inputs.now) (piece_of stream_moves anneal.entry piece.now.head.items piece.now.pace.stop) (answer_of out) (W.contents report.old) (W.contents report.new) (P.contents place.old) (P.contents place.new)) }
+    ensures redone { IfOk result (λ out. AreRedone (piece_of stream_moves anneal.entry piece.now.head.items piece.now.pace.stop) piece.now.pace.batch out.redone) }
+    ensures cut { OnErr result (IsReportOf (piece_of stream_moves anneal.entry piece.now.head.items piece.now.pace.stop) (W.contents report.old) (W.contents report.new)) }
+    ensures report_cut { IfErr result (λ e. e ≡ Report → IsReportCutOf (piece_of stream_moves anneal.entry piece.now.head.items piece.now.pace.stop) (W.contents report.old) (W.contents report.new)) }
+    ensures unplaced { IfErr result (λ e. e ≢ Place Write → P.contents place.new ≡ P.contents place.old) }
+    ensures place_cut { IfErr result (λ e. e ≡ Place Write → IsUnreadyFor (piece_of stream_moves anneal.entry piece.now.head.items piece.now.pace.stop) (W.contents report.old) (W.contents report.new) (P.contents place.old) (P.contents place.new) ⊎ IsTextCut (texts_of inputs.now) (piece_of stream_moves anneal.entry piece.now.head.items piece.now.pace.stop) (W.contents report.old) (W.contents report.new) (P.contents place.old) (P.contents place.new)) }
+    ensures sound { OnOk result ((W.failed report.new ≡ W.failed report.old) × (P.failed place.new ≡ P.failed place.old)) }
+    ensures fault { IfErr result (IsDeviceFault (W.failed report.old) (W.failed report.new) (P.failed place.old) (P.failed place.new)) }
+{
+    let alloc = rt.alloc();
+    let outcome = anneal_told::<Brand, W, P, R>(
+        rt,
+        alloc,
+        Opened::new(),
+        anneal,
+        piece,
+        report,
+        place,
+    )?;
+    tell_placement(alloc, inputs, piece, &outcome, place)?;
+    Ok(outcome)
+}
