@@ -12,7 +12,7 @@ use std::alloc::Global;
 
 /// The pads at a position of the array, and the design, that two texts mean; else the first fault of the first of
 /// them that has one.
-pub fn read_design(alloc: Global, arch: &[u8], net: &[u8]) -> Result<(u16, Design), RunFault>
+pub(crate) fn read_design(alloc: Global, arch: &[u8], net: &[u8]) -> Result<(u16, Design), RunFault>
     ensures found { IfOk result (λ r. MeanDesign arch.now net.now r.0 r.1) }
     ensures ratio { IfOk result (λ r. (1 ≤ r.0) × (r.0 ≤ 64)) }
     ensures only { (io_rat : ℕ) (d : Netlist) → MeanDesign arch.now net.now io_rat d → MatchResult result (λ r. (r.0 ≡ io_rat) × (r.1 ≡ d)) (λ e. e ≡ NoMemory) }

@@ -5,7 +5,7 @@ pub mod check;
 #[cfg(test)]
 mod check_tests;
 mod crews;
-pub mod designs;
+mod designs;
 pub mod fault;
 pub mod inputs;
 pub mod laws;
@@ -29,7 +29,6 @@ pub mod setting;
 mod stages;
 
 pub use check::check_run;
-pub use designs::read_design;
 pub use fab_commit::Point;
 pub use fault::{RunFault, fault_line};
 pub use inputs::{Ending, Inputs, Moves, Options, Outcome};
