@@ -1,3 +1,5 @@
 pub mod Ends
 pub mod Heard
 pub mod Names
+pub mod Stopping
+pub mod Chains

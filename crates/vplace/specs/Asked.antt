@@ -1,4 +1,4 @@
--- What the words of `place` ask for (our own).
+-- What the words of `place` and of `resume` ask for (our own).
 use Rattle.std.specs.Prelude.{ℕ, ◌≡◌, List, Option, Some, None, Ok, Err, codes, refl}
 use Rattle.fab_text.specs.Decimal.{decimal_of}
 use Rattle.fab_sched.specs.declared.schedules.Cooling.{Cooling}
@@ -8,8 +8,9 @@ use Rattle.fab_run.specs.declared.inputs.Moves.TheVariants.{Given, Inner}
 use Rattle.fab_run.specs.declared.inputs.Options.{Options}
 use Rattle.vplace.specs.declared.asked.Number.TheVariants.{InitT, ExitT, AlphaT}
 use Rattle.vplace.specs.declared.asked.WordFault.{WordFault}
-use Rattle.vplace.specs.declared.asked.WordFault.TheVariants.{SizeInPart, BadNumber}
+use Rattle.vplace.specs.declared.asked.WordFault.TheVariants.{SizeInPart, StopInPart, BadNumber}
 use Rattle.vplace.specs.declared.asked.PlaceWords.{PlaceWords}
+use Rattle.vplace.specs.declared.asked.ResumeWords.{ResumeWords}
 
 -- the size of the array is asked for by both numbers or by none; one alone asks for nothing
 abbrev pub size_asked : Option ℕ → Option ℕ → Option (Option (ℕ × ℕ))
@@ -22,6 +23,18 @@ columns_alone = refl
 
 pub no_size : size_asked None None ≡ Some None
 no_size = refl
+
+-- a stop is asked for with a name to save at, or neither is; one alone asks for nothing
+abbrev pub stop_asked : {A : Type 0} → Option ℕ → Option A → Option (Option ℕ)
+stop_asked (Some stop) (Some save) = Some (Some stop)
+stop_asked None None = Some None
+stop_asked stop save = None
+
+pub a_stop_and_a_name : stop_asked (Some 5) (Some (codes "t.point")) ≡ Some (Some 5)
+a_stop_and_a_name = refl
+
+pub a_name_alone : stop_asked None (Some (codes "t.point")) ≡ None
+a_name_alone = refl
 
 -- the text asks for this cooling: by the word `adaptive`, else by a factor with at most three places
 abbrev pub IsCoolingAsked : List ℕ → Cooling → Type 0
@@ -43,19 +56,30 @@ pub record AreAsked (w : PlaceWords) (o : Options) : Type 0 where
   pub moves : o.moves ≡ moves_asked w.moves w.inner
   pub batch : o.batch ≡ w.batch
   pub workers : o.workers ≡ w.workers
+  pub stop : stop_asked w.stop w.save ≡ Some o.stop
 
 -- the size is asked for in full
 abbrev HasSize : PlaceWords → Type 0
 HasSize w = (size : Option (ℕ × ℕ)) × (size_asked w.nx w.ny ≡ Some size)
 
+-- the stop is asked for in full
+abbrev HasStop : PlaceWords → Type 0
+HasStop w = (stop : Option ℕ) × (stop_asked w.stop w.save ≡ Some stop)
+
 -- the text is that of a number with so many places
 abbrev IsNumber : List ℕ → ℕ → Type 0
 IsNumber text places = (n : ℕ) × (decimal_of text places ≡ Ok n)
 
--- the first that is wrong with the words, in this order: the size, the first temperature, the last, the factor
+-- the first that is wrong with the words, in this order: the size, the stop, the first temperature, the last, the factor
 abbrev pub IsWordFault : PlaceWords → WordFault → Type 0
 IsWordFault w SizeInPart = size_asked w.nx w.ny ≡ None
-IsWordFault w (BadNumber InitT e) = HasSize w × (decimal_of w.init_t.items 4 ≡ Err e)
-IsWordFault w (BadNumber ExitT e) = HasSize w × IsNumber w.init_t.items 4 × (decimal_of w.exit_t.items 4 ≡ Err e)
+IsWordFault w StopInPart = HasSize w × (stop_asked w.stop w.save ≡ None)
+IsWordFault w (BadNumber InitT e) = HasSize w × HasStop w × (decimal_of w.init_t.items 4 ≡ Err e)
+IsWordFault w (BadNumber ExitT e) = HasSize w × HasStop w × IsNumber w.init_t.items 4 × (decimal_of w.exit_t.items 4 ≡ Err e)
 IsWordFault w (BadNumber AlphaT e) =
-    HasSize w × IsNumber w.init_t.items 4 × IsNumber w.exit_t.items 4 × (w.alpha_t.items ≡ codes "adaptive" → ⊥) × (decimal_of w.alpha_t.items 3 ≡ Err e)
+    HasSize w × HasStop w × IsNumber w.init_t.items 4 × IsNumber w.exit_t.items 4 × (w.alpha_t.items ≡ codes "adaptive" → ⊥) × (decimal_of w.alpha_t.items 3 ≡ Err e)
+
+-- what can be wrong with the words of `resume`
+abbrev pub IsResumeFault : ResumeWords → WordFault → Type 0
+IsResumeFault w StopInPart = stop_asked w.stop w.save ≡ None
+IsResumeFault w fault = ⊥

@@ -2,13 +2,12 @@
 use Rattle.std.specs.Prelude.{ℕ, ◌<◌, List, Option, length}
 use Rattle.std.specs.Io.KnownBytes.{Appends}
 use Rattle.fab_run.specs.Check.{IsReported}
-use Rattle.fab_run.specs.Setting.{Texts}
-use Rattle.fab_run.specs.declared.inputs.Options.{Options}
 use Rattle.vplace.specs.declared.asked.PlaceWords.{PlaceWords}
+use Rattle.vplace.specs.declared.asked.ResumeWords.{ResumeWords}
 use Rattle.vplace.specs.declared.checking.CheckNames.{CheckNames}
-use Rattle.vplace.specs.Asked.{AreAsked}
-use Rattle.vplace.specs.Files.{Held, Puts}
-use Rattle.vplace.specs.Placing.{AreGiven, AreNamed, IsPlacedText}
+use Rattle.vplace.specs.Files.{Held}
+use Rattle.vplace.specs.Placing.{AreGiven, DidPlace}
+use Rattle.vplace.specs.Resuming.{DidResume}
 
 -- some text went out: help, or the version
 abbrev pub IsTold : Option (List ℕ) → Option (List ℕ) → Type 0
@@ -19,10 +18,13 @@ abbrev pub IsChecked : Option Held → Option (List ℕ) → Option (List ℕ) �
 IsChecked held old new =
     (names : CheckNames) × (arch : List ℕ) × (net : List ℕ) × (place : List ℕ) × (cost : ℕ) × AreGiven held names arch net place × IsReported arch net place cost old new
 
--- the report of a run of named files went out, and the text of its placement was put at the out name
+-- the report of a run of named files went out, and what it left was put at its name
 abbrev pub IsPlaced : Option Held → Option Held → Option (List ℕ) → Option (List ℕ) → Type 0
-IsPlaced held held_new old new =
-    (words : PlaceWords) × (t : Texts) × (o : Options) × (text : List ℕ) × AreNamed held words t × AreAsked words o × IsPlacedText t o old new text × Puts held held_new words.out.items text
+IsPlaced held held_new old new = (words : PlaceWords) × DidPlace words held held_new old new
+
+-- the report of a run that goes on from a named checkpoint went out, and what it left was put at its name
+abbrev pub IsResumed : Option Held → Option Held → Option (List ℕ) → Option (List ℕ) → Type 0
+IsResumed held held_new old new = (words : ResumeWords) × DidResume words held held_new old new
 
 -- the report of a check of these texts went out
 abbrev pub IsExample : List ℕ → List ℕ → List ℕ → Option (List ℕ) → Option (List ℕ) → Type 0

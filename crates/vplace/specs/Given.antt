@@ -4,6 +4,7 @@ use Rattle.std.specs.Str.Parse.{IsNumeral, digits_value, without_leading_plus}
 use Rattle.clap.specs.declared.parser.matches.Found.{Found}
 use Rattle.clap.specs.Words.{first_value, one_text}
 use Rattle.vplace.specs.declared.asked.PlaceWords.{PlaceWords}
+use Rattle.vplace.specs.declared.asked.ResumeWords.{ResumeWords}
 
 -- the text is that of a number of so many bits: digits, perhaps behind a plus sign
 abbrev pub IsWhole : ℕ → List ℕ → Type 0
@@ -22,7 +23,7 @@ GivesDefault found option n = (given : Option ℕ) × GivesNumber 64 found optio
 abbrev pub GivesText : Found → List ℕ → List ℕ → Type 0
 GivesText found option text = text ≡ unwrap_or (first_value found option) []
 
--- each number and each decimal text is that of its option
+-- each number and each decimal text of `place` is that of its option
 pub record AreGivenBy (found : Found) (w : PlaceWords) : Type 0 where
   pub nx : GivesNumber 16 found (codes "nx") w.nx
   pub ny : GivesNumber 16 found (codes "ny") w.ny
@@ -34,3 +35,10 @@ pub record AreGivenBy (found : Found) (w : PlaceWords) : Type 0 where
   pub moves : GivesNumber 64 found (codes "moves") w.moves
   pub batch : GivesDefault found (codes "batch") w.batch
   pub workers : GivesDefault found (codes "workers") w.workers
+  pub stop : GivesNumber 64 found (codes "stop") w.stop
+
+-- each number of `resume` is that of its option
+pub record AreGivenToResume (found : Found) (w : ResumeWords) : Type 0 where
+  pub batch : GivesDefault found (codes "batch") w.batch
+  pub workers : GivesDefault found (codes "workers") w.workers
+  pub stop : GivesNumber 64 found (codes "stop") w.stop

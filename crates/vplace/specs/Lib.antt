@@ -1,7 +1,10 @@
 pub mod Status
 pub mod Asked
 pub mod Files
+pub mod Leaving
 pub mod Placing
+pub mod Resuming
 pub mod Said
 pub mod Given
 pub mod Done
+pub mod FileChains

@@ -1,23 +1,20 @@
 -- What `place` and `check` read, print and write (our own).
 use Rattle.std.specs.Prelude.{ℕ, ◌≡◌, List, [], Option, Some, None, option_map}
-use Rattle.fab_site.specs.Placement.{PlacementOf}
 use Rattle.fab_run.specs.declared.inputs.Options.{Options}
+use Rattle.fab_run.specs.Ends.{Answer}
+use Rattle.fab_run.specs.Placed.{AskFor, IsPlaced}
 use Rattle.fab_run.specs.Setting.{Texts}
-use Rattle.fab_run.specs.Placed.{IsPlaced}
 use Rattle.vplace.specs.declared.checking.CheckNames.{CheckNames}
 use Rattle.vplace.specs.declared.asked.PlaceWords.{PlaceWords}
+use Rattle.vplace.specs.Asked.{AreAsked}
 use Rattle.vplace.specs.Files.{Gives, Held}
+use Rattle.vplace.specs.Leaving.{IsPut}
 
 -- the texts of a check are those that its names give
 pub record AreGiven (held : Option Held) (n : CheckNames) (arch net place : List ℕ) : Type 0 where
   pub arch_file : Gives held n.arch.items arch
   pub net_file : Gives held n.net.items net
   pub place_file : Gives held n.place.items place
-
--- what went out is the report of a run that ends with a placement, and this is the text of that placement
-abbrev pub IsPlacedText : Texts → Options → Option (List ℕ) → Option (List ℕ) → List ℕ → Type 0
-IsPlacedText t o old new text =
-    (placement : PlacementOf) × (accepted : List ℕ) × (costs : List ℕ) × IsPlaced t o placement accepted costs old new (Some []) (Some text)
 
 -- the text of a location file, where one is named
 abbrev pub GivesPads : Option Held → Option (List ℕ) → Option (List ℕ) → Type 0
@@ -28,6 +25,10 @@ GivesPads held (Some name) text = (bytes : List ℕ) × (text ≡ Some bytes) ×
 abbrev pub name_of : PlaceWords → Option (List ℕ)
 name_of w = option_map (λ name. name.items) w.pads
 
+-- the name that a run that stops saves at, where there is one
+abbrev pub save_name : PlaceWords → Option (List ℕ)
+save_name w = option_map (λ name. name.items) w.save
+
 -- the texts of a run are those that the names in the words give; the place text shows the names themselves
 pub record AreNamed (held : Option Held) (w : PlaceWords) (t : Texts) : Type 0 where
   pub arch : Gives held w.arch.items t.arch
@@ -35,3 +36,15 @@ pub record AreNamed (held : Option Held) (w : PlaceWords) (t : Texts) : Type 0 w
   pub pads : GivesPads held (name_of w) t.pads
   pub net_label : t.net_label ≡ w.net.items
   pub arch_label : t.arch_label ≡ w.arch.items
+
+-- `place` with these words did what it was asked: the report of a run of the named files went out, and what the run left was put at its
+-- name
+pub record DidPlace (w : PlaceWords) (held held_new : Option Held) (old new : Option (List ℕ)) : Type 0 where
+  pub texts : Texts
+  pub options : Options
+  pub answer : Answer
+  pub place : List ℕ  -- the text of its placement; nothing where it stopped
+  pub named : AreNamed held w texts
+  pub asked : AreAsked w options
+  pub placed : IsPlaced (AskFor texts options) texts answer old new (Some []) (Some place)
+  pub put : IsPut held held_new w.out.items (save_name w) texts options.seed answer.ending place

@@ -5,11 +5,13 @@ use Rattle.fab_text.specs.Failures.{grown}
 use Rattle.fab_text.specs.FaultTexts.{num_fault_text}
 use Rattle.fab_text.specs.declared.numbers.NumFault.TheVariants.{BadDigit}
 use Rattle.vplace.specs.declared.messages.Role.{Role}
-use Rattle.vplace.specs.declared.messages.Role.TheVariants.{Arch, Net, Pads, Place}
+use Rattle.vplace.specs.declared.messages.Role.TheVariants.{Arch, Net, Pads, Place, Point}
+use Rattle.vplace.specs.declared.messages.OutRole.{OutRole}
+use Rattle.vplace.specs.declared.messages.OutRole.TheVariants.{Place as OutPlace, Point as OutPoint}
 use Rattle.vplace.specs.declared.asked.Number.{Number}
 use Rattle.vplace.specs.declared.asked.Number.TheVariants.{InitT, ExitT, AlphaT}
 use Rattle.vplace.specs.declared.asked.WordFault.{WordFault}
-use Rattle.vplace.specs.declared.asked.WordFault.TheVariants.{SizeInPart, BadNumber}
+use Rattle.vplace.specs.declared.asked.WordFault.TheVariants.{SizeInPart, StopInPart, BadNumber}
 
 -- the line went out, with a line feed at its end, unless the writer failed
 abbrev pub IsSaid : List ℕ → Option (List ℕ) → Option (List ℕ) → ℕ → ℕ → Type 0
@@ -27,6 +29,11 @@ unreadable_line Arch = codes "vplace: cannot read arch"
 unreadable_line Net = codes "vplace: cannot read net"
 unreadable_line Pads = codes "vplace: cannot read pads"
 unreadable_line Place = codes "vplace: cannot read place"
+unreadable_line Point = codes "vplace: cannot read point"
+
+abbrev pub unwritable_line : OutRole → List ℕ
+unwritable_line OutPlace = codes "vplace: cannot write place"
+unwritable_line OutPoint = codes "vplace: cannot write point"
 
 abbrev pub option_name : Number → List ℕ
 option_name InitT = codes "init-t"
@@ -35,6 +42,7 @@ option_name AlphaT = codes "alpha-t"
 
 abbrev pub word_fault_line : WordFault → List ℕ
 word_fault_line SizeInPart = codes "vplace: --nx and --ny go together"
+word_fault_line StopInPart = codes "vplace: --stop and --save go together"
 word_fault_line (BadNumber option fault) = codes "vplace: option " ++ option_name option ++ codes ": " ++ num_fault_text fault
 
 pub a_factor_with_letters : word_fault_line (BadNumber AlphaT BadDigit) ≡ codes "vplace: option alpha-t: U1 BadDigit"

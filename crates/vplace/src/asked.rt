@@ -1,11 +1,11 @@
-//! What the words of `place` ask for, and the first that is wrong with them.
+//! What the words of `place` and of `resume` ask for, and the first that is wrong with them.
 
 ghost use Rattle.std.specs.Prelude.{◌≡◌, ◌≢◌, Some, None, Ok, Err, IfOk, IfErr, MatchResult, codes};
 ghost use Rattle.fab_text.specs.Decimal.{decimal_of};
 ghost use Rattle.fab_text.specs.declared.numbers.NumFault.{NumFault as NumFaultOf};
 ghost use Rattle.vplace.specs.declared.asked.Number.TheVariants.{AlphaT};
-ghost use Rattle.vplace.specs.declared.asked.WordFault.TheVariants.{BadNumber, SizeInPart};
-ghost use Rattle.vplace.specs.Asked.{AreAsked, IsCoolingAsked, IsWordFault, size_asked};
+ghost use Rattle.vplace.specs.declared.asked.WordFault.TheVariants.{BadNumber, SizeInPart, StopInPart};
+ghost use Rattle.vplace.specs.Asked.{AreAsked, IsCoolingAsked, IsWordFault, size_asked, stop_asked};
 
 use fab_run::{Moves, Options};
 use fab_sched::Cooling;
@@ -28,6 +28,21 @@ pub struct PlaceWords {
     pub moves: Option<u64>,
     pub batch: u64,
     pub workers: u64,
+    pub stop: Option<u64>,
+    pub save: Option<Vec<u8>>,
+}
+
+/// What the words of `resume` say.
+#[derive(Drop)]
+pub struct ResumeWords {
+    pub arch: Vec<u8>,
+    pub net: Vec<u8>,
+    pub point: Vec<u8>,
+    pub out: Vec<u8>,
+    pub batch: u64,
+    pub workers: u64,
+    pub stop: Option<u64>,
+    pub save: Option<Vec<u8>>,
 }
 
 /// Which of the options whose value is a decimal number.
@@ -43,6 +58,8 @@ pub enum Number {
 pub enum WordFault {
     /// The columns are given without the rows, or the rows without the columns.
     SizeInPart,
+    /// The stop is given without the name to save at, or the name without the stop.
+    StopInPart,
     /// The number of an option is none, or has too many places.
     BadNumber(Number, NumFault),
 }
@@ -55,6 +72,16 @@ fn size_of(words: &PlaceWords) -> Result<Option<(u16, u16)>, WordFault>
         (Some(nx), Some(ny)) => Ok(Some((nx, ny))),
         (None, None) => Ok(None),
         _ => Err(WordFault::SizeInPart),
+    }
+}
+
+/// The stop, where it is given with a name to save at; one without the other is refused.
+pub fn stop_of(stop: Option<u64>, save: &Option<Vec<u8>>) -> Result<Option<u64>, WordFault>
+    ensures { MatchResult result (λ asked. stop_asked stop save.now ≡ Some asked) (λ fault. (fault ≡ StopInPart) × (stop_asked stop save.now ≡ None)) }
+{
+    match (stop, save) {
+        (Some(_), Some(_)) | (None, None) => Ok(stop),
+        _ => Err(WordFault::StopInPart),
     }
 }
 
@@ -75,13 +102,14 @@ fn cooling_of(text: &[u8]) -> Result<Cooling, WordFault>
     Ok(Cooling::Factor(scaled(Number::AlphaT, text, 3)?))
 }
 
-/// The options of a run, or the first that is wrong with the words: the size, then the first temperature, the last, and the
-/// factor.
+/// The options of a run, or the first that is wrong with the words: the size, the stop, then the first temperature, the last, and
+/// the factor.
 pub fn options_of(words: &PlaceWords) -> Result<Options, WordFault>
     ensures value { IfOk result (AreAsked words.now) }
     ensures fault { IfErr result (IsWordFault words.now) }
 {
     let size = size_of(words)?;
+    let stop = stop_of(words.stop, &words.save)?;
     let init_t = scaled(Number::InitT, words.init_t.as_slice(), 4)?;
     let exit_t = scaled(Number::ExitT, words.exit_t.as_slice(), 4)?;
     let cooling = cooling_of(words.alpha_t.as_slice())?;
@@ -98,5 +126,6 @@ pub fn options_of(words: &PlaceWords) -> Result<Options, WordFault>
         moves,
         batch: words.batch,
         workers: words.workers,
+        stop,
     })
 }

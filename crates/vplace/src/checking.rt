@@ -14,7 +14,7 @@ ghost use Rattle.vplace.specs.Status.{status_of};
 use crate::files::NamedFiles;
 use crate::messages;
 use crate::messages::Role;
-use crate::reading::read_role;
+use crate::reading::{read_arch_and_net, read_role};
 use crate::status::Status;
 use fab_run::check_run;
 use fab_text::Sink;
@@ -46,12 +46,15 @@ pub fn check_files<F: NamedFiles, O: Sink, E: Sink>(
     ensures said { result ≢ Status.Done → IsFaultSaid (E.contents err.old) (E.contents err.new) (E.failed err.old) (E.failed err.new) }
     ensures line { result ≢ Status.CommandLine }
 {
-    let arch = match read_role(alloc, files, Role::Arch, names.arch.as_slice(), err) {
-        Ok(text) => text,
-        Err(status) => return status,
-    };
-    let net = match read_role(alloc, files, Role::Net, names.net.as_slice(), err) {
-        Ok(text) => text,
+    let texts = read_arch_and_net(
+        alloc,
+        files,
+        names.arch.as_slice(),
+        names.net.as_slice(),
+        err,
+    );
+    let (arch, net) = match texts {
+        Ok(texts) => texts,
         Err(status) => return status,
     };
     let place = match read_role(alloc, files, Role::Place, names.place.as_slice(), err) {

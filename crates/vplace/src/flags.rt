@@ -3,11 +3,13 @@
 ghost use Rattle.std.specs.Prelude.{◌≡◌, [], Ok};
 ghost use Rattle.vplace.specs.declared.flags.Asked.TheVariants.{Example};
 
-use crate::asked::PlaceWords;
+use crate::asked::{PlaceWords, ResumeWords};
 use crate::checking::CheckNames;
+use crate::options::{ARCH, NET, OptionRow, Takes, file_name, with_options};
 use crate::place_flags::{place_command, place_words};
-use crate::words::{as_bytes, as_text};
-use clap::{Arg, ArgAction, ArgMatches, Command, Error};
+use crate::resume_flags::{resume_command, resume_words};
+use crate::words::as_text;
+use clap::{ArgMatches, Command, Error};
 use std::alloc::{AllocError, Global};
 
 /// What the words ask for.
@@ -19,6 +21,8 @@ pub enum Asked {
     Check(CheckNames),
     /// To place a design that lies in files.
     Place(PlaceWords),
+    /// To go on with a run from a checkpoint that lies in a file.
+    Resume(ResumeWords),
 }
 
 const NAME: &str = "vplace";
@@ -30,13 +34,14 @@ const ABOUT: &str =
 
 const AFTER: &str =
     "Without a command, a built-in example of four blocks on a 3 x 3 array is checked.
+A run of `place` may stop on its way and write a checkpoint, from which `resume` goes on.
 
 Exit status:
   0  done
   1  a file or the size of the array is refused, or the design does not fit on it
   2  the command line is wrong, or another of its numbers is out of its range
   3  there is no memory
-  4  a file cannot be read or written, or the report cannot be written";
+  4  a file cannot be read, or the report, the out file or the save file cannot be written";
 
 const CHECK_ABOUT: &str = "Check a placement: legal or not, and its wire cost";
 
@@ -48,34 +53,22 @@ names the first fault, as `vplace: place: P8 Missing block 3`.
 Example:
   vplace check --arch small.arch --net small.net --place small.place";
 
-pub(crate) const ARCH: &str =
-    "The architecture: pads for each position, and the pins of a logic block";
-
-pub(crate) const NET: &str = "The netlist: the blocks, and the nets on their pins";
-
-const PLACE: &str = "The placement: the size of the array, and the site of each block";
-
 // The options of `check` by name, in the order of the help.
-const CHECK_OPTIONS: [(&str, &str); 3] = [("arch", ARCH), ("net", NET), ("place", PLACE)];
-
-// A required option with one value, the name of a file.
-pub(crate) fn file_option<'a>(alloc: Global, name: &'a str, help: &'a str) -> Arg<'a> {
-    Arg::new(alloc, name)
-        .long(name)
-        .value_name("FILE")
-        .required(true)
-        .action(ArgAction::Set)
-        .help(help)
-}
+const CHECK_OPTIONS: [OptionRow; 3] = [
+    ARCH,
+    NET,
+    (
+        "place",
+        Takes::NeededFile,
+        "The placement: the size of the array, and the site of each block",
+    ),
+];
 
 fn check_command<'a>(alloc: Global) -> Result<Command<'a>, AllocError> {
-    let mut command = Command::new(alloc, "check")
+    let command = Command::new(alloc, "check")
         .about(CHECK_ABOUT)
         .after_help(CHECK_AFTER);
-    for (name, help) in CHECK_OPTIONS {
-        command = command.arg(file_option(alloc, name, help))?;
-    }
-    Ok(command)
+    with_options(alloc, command, CHECK_OPTIONS.as_slice())
 }
 
 fn vplace_command<'a>(alloc: Global) -> Result<Command<'a>, AllocError> {
@@ -87,16 +80,8 @@ fn vplace_command<'a>(alloc: Global) -> Result<Command<'a>, AllocError> {
         .about(ABOUT)
         .after_help(AFTER)
         .subcommand(place_command(alloc)?)?
+        .subcommand(resume_command(alloc)?)?
         .subcommand(check_command(alloc)?)
-}
-
-// The file name that an option was given.
-pub(crate) fn file_name(
-    alloc: Global,
-    matches: &ArgMatches<'_>,
-    option: &str,
-) -> Result<Vec<u8>, AllocError> {
-    as_bytes(alloc, matches.get_str(option).unwrap_or(""))
 }
 
 fn check_names(alloc: Global, matches: &ArgMatches<'_>) -> Result<CheckNames, AllocError> {
@@ -119,6 +104,9 @@ fn shown_words(alloc: Global, words: &[Vec<u8>]) -> Result<Vec<String>, AllocErr
 fn asked_for(alloc: Global, matches: &ArgMatches<'_>) -> Result<Asked, AllocError> {
     if let Some(place) = matches.subcommand_matches("place") {
         return Ok(Asked::Place(place_words(alloc, place)?));
+    }
+    if let Some(resume) = matches.subcommand_matches("resume") {
+        return Ok(Asked::Resume(resume_words(alloc, resume)?));
     }
     match matches.subcommand_matches("check") {
         Some(check) => Ok(Asked::Check(check_names(alloc, check)?)),

@@ -3,20 +3,30 @@
 
 mod asked;
 mod checking;
+#[cfg(test)]
+mod desk;
+mod ending;
 mod example;
 mod files;
 mod flags;
 mod host_files;
+mod laws;
 mod messages;
 #[cfg(test)]
 mod narrow;
+mod options;
 mod out_file;
+mod out_names;
 mod place_flags;
 mod placing;
 #[cfg(test)]
 mod placing_tests;
 mod program;
 mod reading;
+mod resume_flags;
+mod resuming;
+#[cfg(test)]
+mod resuming_tests;
 mod status;
 #[cfg(test)]
 mod tests;

@@ -6,7 +6,7 @@ ghost use Rattle.fab_file.specs.declared.fault.PlaceFault.TheVariants.{Write};
 ghost use Rattle.fab_run.specs.declared.fault.RunFault.TheVariants.{Place, Point, Report};
 ghost use Rattle.fab_run.specs.declared.point_fault.PointFault.TheVariants.{Write as PointWrite};
 ghost use Rattle.fab_run.specs.FaultLines.{fault_line as line_of_fault};
-ghost use Rattle.vplace.specs.Said.{IsFaultSaid, IsSaid, no_memory_line, option_name as name_of_option, unreadable_line, word_fault_line};
+ghost use Rattle.vplace.specs.Said.{IsFaultSaid, IsSaid, no_memory_line, option_name as name_of_option, unreadable_line, unwritable_line, word_fault_line};
 ghost use Rattle.vplace.specs.Status.{status_of};
 
 use crate::asked::{Number, WordFault};
@@ -25,13 +25,26 @@ pub fn no_memory<E: Sink>(err: &mut E) -> Status
     Status::NoMemory
 }
 
-/// Which of the files of a run.
+/// Which of the files that a run reads.
 #[derive(Clone, Copy, Debug, PartialEq, Eq)]
 pub enum Role {
     Arch,
     Net,
     Pads,
     Place,
+    Point,
+}
+
+fn unreadable_text(role: Role) -> &'static [u8]
+    ensures { result.now ≡ unreadable_line role ++ codes "\n" }
+{
+    match role {
+        Role::Arch => b"vplace: cannot read arch\n",
+        Role::Net => b"vplace: cannot read net\n",
+        Role::Pads => b"vplace: cannot read pads\n",
+        Role::Place => b"vplace: cannot read place\n",
+        Role::Point => b"vplace: cannot read point\n",
+    }
 }
 
 /// Says that the file of a role cannot be read.
@@ -40,13 +53,7 @@ pub fn unreadable<E: Sink>(err: &mut E, role: Role) -> Status
     ensures said { IsSaid (unreadable_line role) (E.contents err.old) (E.contents err.new) (E.failed err.old) (E.failed err.new) }
     ensures heard { IsFaultSaid (E.contents err.old) (E.contents err.new) (E.failed err.old) (E.failed err.new) }
 {
-    let line: &[u8] = match role {
-        Role::Arch => b"vplace: cannot read arch\n",
-        Role::Net => b"vplace: cannot read net\n",
-        Role::Pads => b"vplace: cannot read pads\n",
-        Role::Place => b"vplace: cannot read place\n",
-    };
-    let _ = write_whole(err, line);
+    let _ = write_whole(err, unreadable_text(role));
     Status::Device
 }
 
@@ -60,13 +67,26 @@ pub fn unwritable_report<E: Sink>(err: &mut E) -> Status
     Status::Device
 }
 
-/// Says that the placement cannot be written.
-pub fn unwritable_place<E: Sink>(err: &mut E) -> Status
+/// Which of the files that a run writes.
+#[derive(Clone, Copy, Debug, PartialEq, Eq)]
+pub enum OutRole {
+    /// The placement.
+    Place,
+    /// The checkpoint.
+    Point,
+}
+
+/// Says that the file of a role cannot be written.
+pub fn unwritable<E: Sink>(err: &mut E, role: OutRole) -> Status
     ensures status { result ≡ Status.Device }
-    ensures said { IsSaid (codes "vplace: cannot write place") (E.contents err.old) (E.contents err.new) (E.failed err.old) (E.failed err.new) }
+    ensures said { IsSaid (unwritable_line role) (E.contents err.old) (E.contents err.new) (E.failed err.old) (E.failed err.new) }
     ensures heard { IsFaultSaid (E.contents err.old) (E.contents err.new) (E.failed err.old) (E.failed err.new) }
 {
-    let _ = write_whole(err, b"vplace: cannot write place\n");
+    let line: &[u8] = match role {
+        OutRole::Place => b"vplace: cannot write place\n",
+        OutRole::Point => b"vplace: cannot write point\n",
+    };
+    let _ = write_whole(err, line);
     Status::Device
 }
 
@@ -85,6 +105,7 @@ fn word_fault_text(alloc: Global, fault: WordFault) -> Result<String, AllocError
 {
     match fault {
         WordFault::SizeInPart => String::from_str(alloc, "vplace: --nx and --ny go together\n"),
+        WordFault::StopInPart => String::from_str(alloc, "vplace: --stop and --save go together\n"),
         WordFault::BadNumber(option, fault) => {
             let name = option_name(option);
             format!(in alloc; "vplace: option {name}: {fault}\n")
@@ -92,7 +113,7 @@ fn word_fault_text(alloc: Global, fault: WordFault) -> Result<String, AllocError
     }
 }
 
-/// Says what is wrong with the words of `place`.
+/// Says what is wrong with the words of `place` or of `resume`.
 pub fn word_fault<E: Sink>(alloc: Global, err: &mut E, fault: WordFault) -> Status
     ensures status { (result ≡ Status.CommandLine) ⊎ (result ≡ Status.NoMemory) }
     ensures said { ((result ≡ Status.CommandLine) × IsSaid (word_fault_line fault) (E.contents err.old) (E.contents err.new) (E.failed err.old) (E.failed err.new)) ⊎ ((result ≡ Status.NoMemory) × IsSaid no_memory_line (E.contents err.old) (E.contents err.new) (E.failed err.old) (E.failed err.new)) }

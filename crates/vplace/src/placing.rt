@@ -1,29 +1,36 @@
-//! The subcommand `place`: the files are read, and only then is the first of their texts looked at; the placement is
-//! written once the run has answered.
+//! The subcommand `place`: the files are read, and only then is the first of their texts looked at; the placement, or the checkpoint
+//! of a run that stops, is written once the run has answered.
 
-ghost use Rattle.std.specs.Prelude.{◌≡◌, ◌≢◌, ◌⊎◌, ℕ, List, OnOk, OnErr, IfOk, IfErr, IfSome, option_map};
+ghost use Rattle.std.specs.Prelude.{◌≡◌, ◌≢◌, ◌⊎◌, OnOk, OnErr, IfOk, IfErr, IfSome, option_map};
 ghost use Rattle.fab_text.specs.Failures.{grown};
-ghost use Rattle.fab_run.specs.Placed.{IsReportBegun};
+ghost use Rattle.fab_commit.specs.Points.{IsPoint};
+ghost use Rattle.fab_run.specs.Check.{report_failed_with};
+ghost use Rattle.fab_run.specs.Chains.{IsTextOfPoint};
+ghost use Rattle.fab_run.specs.Ends.{Answer};
+ghost use Rattle.fab_run.specs.Placed.{AskFor, IsPlaced, IsReportBegun};
 ghost use Rattle.fab_run.specs.Setting.{IsSetting, Setting, Texts, texts_of};
-ghost use Rattle.fab_run.specs.RunChecks.{IsRunFault};
+ghost use Rattle.fab_run.specs.RunChecks.{IsRefusal, IsRunFault};
 ghost use Rattle.fab_run.specs.declared.inputs.Options.{Options as OptionsOf};
 ghost use Rattle.fab_run.specs.declared.fault.RunFault.{RunFault as RunFaultOf};
+ghost use Rattle.fab_run.specs.declared.fault.RunFault.TheVariants.{NoMemory};
 ghost use Rattle.vplace.specs.Status.{IsRefused, status_of};
 ghost use Rattle.vplace.specs.Asked.{AreAsked, IsWordFault};
-ghost use Rattle.vplace.specs.Files.{Puts};
+ghost use Rattle.vplace.specs.Leaving.{AreLeft, IsCheckpoint, tried_name};
 ghost use Rattle.vplace.specs.Said.{IsFaultSaid};
-ghost use Rattle.vplace.specs.Placing.{AreNamed, GivesPads, IsPlacedText, name_of};
+ghost use Rattle.vplace.specs.Placing.{AreNamed, DidPlace, GivesPads, name_of};
 ghost use Rattle.vplace.specs.declared.asked.WordFault.{WordFault as WordFaultOf};
 
 use crate::asked::{PlaceWords, options_of};
-use crate::files::{NamedFiles, WriteFault};
+use crate::ending::{Left, leave, left_by, read_design, text_of_point};
+use crate::files::NamedFiles;
 use crate::messages;
 use crate::messages::Role;
 use crate::out_file::{Named, OutFile};
-use crate::reading::read_role;
+use crate::out_names::OutNames;
+use crate::reading::{read_arch_and_net, read_role};
 use crate::status::Status;
-use fab_file::{Labels, PlaceFault};
-use fab_run::{Inputs, Options, RunFault, place_run};
+use fab_file::Labels;
+use fab_run::{Ending, Inputs, Options, Outcome, Point, RunFault, array_of, place_run};
 use fab_text::Sink;
 use std::alloc::Global;
 use std::marker::Brand;
@@ -70,14 +77,58 @@ fn read_texts<F: NamedFiles, E: Sink>(
     ensures said { OnErr result (IsFaultSaid (E.contents err.old) (E.contents err.new) (E.failed err.old) (E.failed err.new)) }
     ensures open { IfErr result (λ status. (status ≡ Status.Device) ⊎ (status ≡ Status.NoMemory)) }
 {
-    let arch = read_role(alloc, files, Role::Arch, words.arch.as_slice(), err)?;
-    let net = read_role(alloc, files, Role::Net, words.net.as_slice(), err)?;
+    let (arch, net) = read_arch_and_net(
+        alloc,
+        files,
+        words.arch.as_slice(),
+        words.net.as_slice(),
+        err,
+    )?;
     let pads = read_pads(alloc, files, words, err)?;
     Ok(Read { arch, net, pads })
 }
 
-/// Places the design of a run, all of whose texts are at hand. The report goes out; the answer is the place text, and the place
-/// that was taken for it at its name before the first move.
+/// The text of the point where a run stopped. Its design and its array are made again from the texts and the numbers.
+fn checkpoint(
+    alloc: Global,
+    inputs: &Inputs,
+    options: &Options,
+    point: &Point,
+) -> Result<Vec<u8>, RunFault>
+    requires { (s : Setting) × IsSetting (texts_of inputs.now) options.now s × IsPoint s.design s.grid point.now }
+    ensures text { IfOk result (λ text. IsTextOfPoint (texts_of inputs.now) options.now.seed point.now text.items) }
+    ensures memory { IfErr result (λ e. e ≡ NoMemory) }
+{
+    let (arch, design) = read_design(alloc, inputs)?;
+    let grid = array_of(&design, options.size, arch.io_rat)?;
+    Ok(text_of_point(alloc, options.seed, &design, &grid, point)?)
+}
+
+/// Places the design of a run. The answer is the text of the point where it stopped, if it did.
+fn run_place<R: AllocGlobal + Threads + Wait + Sync, O: Sink, P: Sink>(
+    rt: &R,
+    inputs: &Inputs,
+    options: &Options,
+    out: &mut O,
+    place: &mut P,
+) -> Result<Option<Vec<u8>>, RunFault>
+    ensures placed { IfOk result (λ point. (a : Answer) × IsPlaced (AskFor (texts_of inputs.now) options.now) (texts_of inputs.now) a (O.contents out.old) (O.contents out.new) (P.contents place.old) (P.contents place.new) × IsCheckpoint (texts_of inputs.now) options.now.seed a.ending (option_map (λ bytes. bytes.items) point)) }
+    ensures only { (s : Setting) → IsSetting (texts_of inputs.now) options.now s → IfErr result (λ e. ¬ IsRefusal e) }
+    ensures fault { IfErr result (IsRunFault (texts_of inputs.now) options.now) }
+    ensures silent { IfErr result (λ e. IsRefusal e → O.contents out.new ≡ O.contents out.old) }
+    ensures cut { OnErr result ((O.contents out.new ≡ O.contents out.old) ⊎ IsReportBegun (AskFor (texts_of inputs.now) options.now) (O.contents out.old) (O.contents out.new)) }
+    ensures sound { OnOk result (O.failed out.new ≡ O.failed out.old) }
+    ensures failed { IfErr result (λ e. O.failed out.new ≡ report_failed_with e (O.failed out.old)) }
+{
+    let Outcome { ending, .. } = place_run(rt, inputs, options, out, place)?;
+    match ending {
+        Ending::Finished => Ok(None),
+        Ending::Stopped(point) => Ok(Some(checkpoint(rt.alloc(), inputs, options, &point)?)),
+    }
+}
+
+/// Places the design of a run, all of whose texts are at hand. The report goes out; the answer is what the run leaves, and the place
+/// that was taken for it before the first move, at the name that is tried.
 pub fn place_texts<
     R: AllocGlobal + Threads + Wait + Sync,
     F: NamedFiles,
@@ -89,23 +140,23 @@ pub fn place_texts<
     inputs: &Inputs,
     options: &Options,
     files: &F,
-    name: &[u8],
+    names: &OutNames,
     out: &mut O,
     err: &mut E,
-) -> Result<(Vec<u8>, Option<F::Outlet>), Status>
-    requires { name.now ≡ N.name }
-    // What goes out is the report of annealing one move at a time, and the answer is the text of its placement.
-    ensures placed { IfOk result (λ made. IsPlacedText (texts_of inputs.now) options.now (O.contents out.old) (O.contents out.new) made.0.items) }
+) -> Result<Left<F::Outlet>, Status>
+    requires { tried_name names.now ≡ N.name }
+    // What goes out is the report of annealing one move at a time, and what is left is the text of its placement, or of its point.
+    ensures placed { IfOk result (λ left. AreLeft (AskFor (texts_of inputs.now) options.now) (texts_of inputs.now) options.now.seed (O.contents out.old) (O.contents out.new) left.place.items (option_map (λ bytes. bytes.items) left.point)) }
     // A place that was taken is that of the name.
-    ensures taken { IfOk result (λ made. IfSome made.1 (λ outlet. F.name_of outlet ≡ name.now)) }
+    ensures taken { IfOk result (λ left. IfSome left.outlet (λ outlet. F.name_of outlet ≡ tried_name names.now)) }
     // A refusal is that of the first check that fails.
     ensures refused { IfErr result (λ status. IsRefused status → (fault : RunFaultOf) × IsRunFault (texts_of inputs.now) options.now fault × (status_of fault ≡ status)) }
     // Texts and numbers that mean a run are never refused.
     ensures only { (s : Setting) → IsSetting (texts_of inputs.now) options.now s → IfErr result (λ status. (status ≡ Status.NoMemory) ⊎ (status ≡ Status.Device)) }
     ensures silent { IfErr result (λ status. IsRefused status → O.contents out.new ≡ O.contents out.old) }
     // Else a beginning of the report may have gone out.
-    ensures cut { OnErr result ((O.contents out.new ≡ O.contents out.old) ⊎ IsReportBegun (texts_of inputs.now) options.now (O.contents out.old) (O.contents out.new)) }
-    // A device failed only where the report's writer did, or where the name of the place text was tried: behind all checks.
+    ensures cut { OnErr result ((O.contents out.new ≡ O.contents out.old) ⊎ IsReportBegun (AskFor (texts_of inputs.now) options.now) (O.contents out.old) (O.contents out.new)) }
+    // A device failed only where the report's writer did, or where the name was tried: behind all checks.
     ensures device { IfErr result (λ status. status ≡ Status.Device → (O.failed out.new ≡ grown (O.failed out.old)) ⊎ ((s : Setting) × IsSetting (texts_of inputs.now) options.now s)) }
     ensures written { OnOk result (O.failed out.new ≡ O.failed out.old) }
     ensures quiet { OnOk result (E.contents err.new ≡ E.contents err.old) }
@@ -113,57 +164,10 @@ pub fn place_texts<
     ensures said { OnErr result (IsFaultSaid (E.contents err.old) (E.contents err.new) (E.failed err.old) (E.failed err.new)) }
     ensures open { IfErr result (λ status. status ≢ Status.Done) }
 {
-    let mut place: OutFile<'_, F, N> = OutFile::new(files, rt.alloc(), name);
-    let told = place_run(rt, inputs, options, out, &mut place);
-    let OutFile {
-        text,
-        outlet,
-        fault: refusal,
-        ..
-    } = place;
-    let fault = match told {
-        Ok(_) => return Ok((text, outlet)),
-        Err(fault) => fault,
-    };
-    if let Some(outlet) = outlet {
-        files.release(outlet);
-    }
-    // Where the name was not refused, the place text found no memory.
-    if fault == RunFault::Place(PlaceFault::Write) && refusal != Some(WriteFault::Unwritable) {
-        return Err(messages::no_memory(err));
-    }
-    Err(messages::run_fault(rt.alloc(), err, &fault, inputs.net))
-}
-
-/// The place text goes to the file of its name.
-fn put_text<F: NamedFiles, E: Sink>(
-    alloc: Global,
-    files: &mut F,
-    name: &[u8],
-    outlet: Option<F::Outlet>,
-    text: &[u8],
-    err: &mut E,
-) -> Status
-    requires { IfSome outlet (λ outlet. F.name_of outlet ≡ name.now) }
-    ensures put { result ≡ Status.Done → Puts (F.held files.old) (F.held files.new) name.now text.now }
-    ensures kept { result ≢ Status.Done → F.held files.new ≡ F.held files.old }
-    ensures quiet { result ≡ Status.Done → E.contents err.new ≡ E.contents err.old }
-    ensures said { result ≢ Status.Done → IsFaultSaid (E.contents err.old) (E.contents err.new) (E.failed err.old) (E.failed err.new) }
-    ensures open { (result ≡ Status.Done) ⊎ ((result ≡ Status.Device) ⊎ (result ≡ Status.NoMemory)) }
-{
-    let outlet = match outlet {
-        Some(outlet) => Ok(outlet),
-        None => files.reserve(alloc, name),
-    };
-    let put = match outlet {
-        Ok(outlet) => files.put(outlet, text),
-        Err(fault) => Err(fault),
-    };
-    match put {
-        Ok(()) => Status::Done,
-        Err(WriteFault::Unwritable) => messages::unwritable_place(err),
-        Err(WriteFault::NoMemory) => messages::no_memory(err),
-    }
+    let alloc = rt.alloc();
+    let mut place: OutFile<'_, F, N> = OutFile::new(files, alloc, names.tried());
+    let told = run_place(rt, inputs, options, out, &mut place);
+    left_by(alloc, told, place, names.tried_role(), inputs.net, err)
 }
 
 /// Places a design that lies in files, by the numbers that the words give.
@@ -174,9 +178,9 @@ pub fn place_files<R: AllocGlobal + Threads + Wait + Sync, F: NamedFiles, O: Sin
     out: &mut O,
     err: &mut E,
 ) -> Status
-    // What goes out is the report of a run of the named files by the numbers asked for, and what is put at the out name is the
-    // text of its placement.
-    ensures placed { result ≡ Status.Done → (t : Texts) × (o : OptionsOf) × (text : List ℕ) × AreNamed (F.held files.old) words.now t × AreAsked words.now o × IsPlacedText t o (O.contents out.old) (O.contents out.new) text × Puts (F.held files.old) (F.held files.new) words.now.out.items text }
+    // What goes out is the report of a run of the named files by the numbers asked for. What is put is the text of its placement at
+    // the out name, or where it stopped the text of its point at the save name.
+    ensures placed { result ≡ Status.Done → DidPlace words.now (F.held files.old) (F.held files.new) (O.contents out.old) (O.contents out.new) }
     ensures kept { result ≢ Status.Done → F.held files.new ≡ F.held files.old }
     // What is wrong with the words comes before the files.
     ensures first { (fault : WordFaultOf) → IsWordFault words.now fault → (result ≡ Status.CommandLine) ⊎ (result ≡ Status.NoMemory) }
@@ -197,7 +201,10 @@ pub fn place_files<R: AllocGlobal + Threads + Wait + Sync, F: NamedFiles, O: Sin
         Ok(read) => read,
         Err(status) => return status,
     };
-    let name = words.out.as_slice();
+    let names = OutNames {
+        out: words.out.as_slice(),
+        save: words.save.as_deref(),
+    };
     let labels = Labels {
         net: words.net.as_slice(),
         arch: words.arch.as_slice(),
@@ -208,8 +215,8 @@ pub fn place_files<R: AllocGlobal + Threads + Wait + Sync, F: NamedFiles, O: Sin
         pads: read.pads.as_deref(),
         labels,
     };
-    match place_texts::<R, F, O, E, Brand>(rt, &inputs, &options, &*files, name, out, err) {
-        Ok((text, outlet)) => put_text(alloc, files, name, outlet, text.as_slice(), err),
+    match place_texts::<R, F, O, E, Brand>(rt, &inputs, &options, &*files, &names, out, err) {
+        Ok(left) => leave(alloc, files, &names, left, err),
         Err(status) => status,
     }
 }

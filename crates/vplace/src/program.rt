@@ -1,7 +1,7 @@
 //! The whole program over its words, its files and its two outputs, so that a test can run it in memory.
 
 ghost use Rattle.std.specs.Prelude.{◌≡◌, ◌≢◌, ◌⊎◌, []};
-ghost use Rattle.vplace.specs.Done.{IsChecked, IsExample, IsPlaced, IsTold};
+ghost use Rattle.vplace.specs.Done.{IsChecked, IsExample, IsPlaced, IsResumed, IsTold};
 ghost use Rattle.vplace.specs.Said.{IsFaultSaid};
 ghost use Rattle.vplace.specs.Status.{IsRefused};
 
@@ -11,6 +11,7 @@ use crate::files::NamedFiles;
 use crate::flags::{Asked, parse_words};
 use crate::messages;
 use crate::placing::place_files;
+use crate::resuming::resume_files;
 use crate::status::Status;
 use crate::words::as_bytes;
 use clap::Error;
@@ -67,13 +68,14 @@ fn run<R: AllocGlobal + Threads + Wait + Sync, F: NamedFiles, O: Sink, E: Sink>(
     ensures quiet { result ≡ Status.Done → E.contents err.new ≡ E.contents err.old }
     ensures said { result ≢ Status.Done → IsFaultSaid (E.contents err.old) (E.contents err.new) (E.failed err.old) (E.failed err.new) }
     ensures example { words.now ≡ [] → result ≡ Status.Done → IsExample ARCH.now NET.now PLACE.now (O.contents out.old) (O.contents out.new) }
-    ensures done { result ≡ Status.Done → IsTold (O.contents out.old) (O.contents out.new) ⊎ (IsExample ARCH.now NET.now PLACE.now (O.contents out.old) (O.contents out.new) ⊎ (IsChecked (F.held files.old) (O.contents out.old) (O.contents out.new) ⊎ IsPlaced (F.held files.old) (F.held files.new) (O.contents out.old) (O.contents out.new))) }
+    ensures done { result ≡ Status.Done → IsTold (O.contents out.old) (O.contents out.new) ⊎ (IsExample ARCH.now NET.now PLACE.now (O.contents out.old) (O.contents out.new) ⊎ (IsChecked (F.held files.old) (O.contents out.old) (O.contents out.new) ⊎ (IsPlaced (F.held files.old) (F.held files.new) (O.contents out.old) (O.contents out.new) ⊎ IsResumed (F.held files.old) (F.held files.new) (O.contents out.old) (O.contents out.new)))) }
 {
     let alloc = rt.alloc();
     match parse_words(alloc, words) {
         Ok(Asked::Example) => { check_texts(alloc, ARCH, NET, PLACE, out, err) }
         Ok(Asked::Check(names)) => check_files(alloc, &names, &*files, out, err),
         Ok(Asked::Place(words)) => place_files(rt, &words, files, out, err),
+        Ok(Asked::Resume(words)) => resume_files(rt, &words, files, out, err),
         Err(error) => tell(alloc, &error, out, err),
     }
 }
@@ -101,8 +103,9 @@ pub fn program<R: AllocGlobal + Threads + Wait + Sync, F: NamedFiles, O: Sink, E
     ensures example { words.now ≡ [] → result ≡ 0 → IsExample ARCH.now NET.now PLACE.now (O.contents out.old) (O.contents out.new) }
 
     // In all, 0 says that what was asked for went out: help or the version, the report of the built-in check or of one of named files,
-    // or the report of a run of named files, whose placement then lies at the out name.
-    ensures done { result ≡ 0 → IsTold (O.contents out.old) (O.contents out.new) ⊎ (IsExample ARCH.now NET.now PLACE.now (O.contents out.old) (O.contents out.new) ⊎ (IsChecked (F.held files.old) (O.contents out.old) (O.contents out.new) ⊎ IsPlaced (F.held files.old) (F.held files.new) (O.contents out.old) (O.contents out.new))) }
+    // or the report of a run of named files or of one that goes on from a named checkpoint, whose placement then lies at the out name,
+    // or where it stopped a checkpoint at the save name.
+    ensures done { result ≡ 0 → IsTold (O.contents out.old) (O.contents out.new) ⊎ (IsExample ARCH.now NET.now PLACE.now (O.contents out.old) (O.contents out.new) ⊎ (IsChecked (F.held files.old) (O.contents out.old) (O.contents out.new) ⊎ (IsPlaced (F.held files.old) (F.held files.new) (O.contents out.old) (O.contents out.new) ⊎ IsResumed (F.held files.old) (F.held files.new) (O.contents out.old) (O.contents out.new)))) }
 {
     run(rt, words, files, out, err).code()
 }

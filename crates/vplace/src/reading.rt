@@ -31,3 +31,23 @@ pub fn read_role<F: NamedFiles, E: Sink>(
         Err(ReadFault::NoMemory) => Err(messages::no_memory(err)),
     }
 }
+
+/// Reads the two files that mean a design: the architecture, and then the netlist.
+pub fn read_arch_and_net<F: NamedFiles, E: Sink>(
+    alloc: Global,
+    files: &F,
+    arch_name: &[u8],
+    net_name: &[u8],
+    err: &mut E,
+) -> Result<(Vec<u8>, Vec<u8>), Status>
+    ensures arch { IfOk result (λ texts. Gives (F.held files.now) arch_name.now texts.0.items) }
+    ensures net { IfOk result (λ texts. Gives (F.held files.now) net_name.now texts.1.items) }
+    ensures read { OnOk result (E.contents err.new ≡ E.contents err.old) }
+    ensures still { OnOk result (E.failed err.new ≡ E.failed err.old) }
+    ensures said { OnErr result (IsFaultSaid (E.contents err.old) (E.contents err.new) (E.failed err.old) (E.failed err.new)) }
+    ensures fault { IfErr result (λ status. (status ≡ Status.Device) ⊎ (status ≡ Status.NoMemory)) }
+{
+    let arch = read_role(alloc, files, Role::Arch, arch_name, err)?;
+    let net = read_role(alloc, files, Role::Net, net_name, err)?;
+    Ok((arch, net))
+}

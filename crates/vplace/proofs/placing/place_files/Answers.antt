@@ -1,5 +1,8 @@
 use Rattle.std.proofs.Common.{◌∙◌, inr, rules}
+use Rattle.vplace.specs.Leaving.{tried_of}
+use Rattle.vplace.specs.Placing.{save_name}
 use Rattle.vplace.proofs.Heard.{said_since}
+use Rattle.vplace.proofs.Stopping.{did_place, put_texts}
 use Rattle.vplace.proofs.placing.place_files.Goals as goal
 
 pub returns-clause-refused : goal.returns-clause-refused
@@ -13,4 +16,14 @@ pub returns-in-Ok-place_texts-clause-said : goal.returns-in-Ok-place_texts-claus
 returns-in-Ok-place_texts-clause-said g c h =
     let quiet = c.in-Ok-place_texts.ensures.quiet ∙ c.in-Ok-read_texts.ensures.quiet in
     let still = c.in-Ok-place_texts.ensures.still ∙ c.in-Ok-read_texts.ensures.still in
-    said_since _ _ _ _ _ _ quiet still (c.put_text.ensures.said h)
+    said_since _ _ _ _ _ _ quiet still (c.leave.ensures.said h)
+
+pub returns-in-Ok-place_texts-clause-placed : goal.returns-in-Ok-place_texts-clause-placed
+returns-in-Ok-place_texts-clause-placed g c done =
+    let w = c.args.words.now in
+    let h = c.in-Ok-place_texts.ensures.placed in
+    let left = c.in-Ok-place_texts.left in
+    let named = c.in-Ok-read_texts.ensures.gives in
+    let put = put_texts (g.F.NamedFiles.held c.args.files.now) (g.F.NamedFiles.held c.leave.new.files) w.out.items (tried_of w.out.items (save_name w)) _ _ left.place.items left.point (search rules) (search rules) (c.leave.ensures.put done) in
+    did_place w (g.F.NamedFiles.held c.args.files.now) (g.F.NamedFiles.held c.leave.new.files) (g.O.Sink.contents c.args.out.now) (g.O.Sink.contents c.place_texts.new.out)
+    _ c.in-Ok.options h.0 left.place.items _ h.1 h.2 put (search (rules, named)) c.in-Ok.ensures.value

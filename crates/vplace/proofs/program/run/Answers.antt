@@ -1,7 +1,8 @@
-use Rattle.std.proofs.Common.{inr}
+use Rattle.std.proofs.Common.{inl, inr}
 use Rattle.vplace.proofs.program.run.Goals as goal
 
 pub returns-in-Ok-Place-clause-done : goal.returns-in-Ok-Place-clause-done
-returns-in-Ok-Place-clause-done g c h =
-    let p = c.place_files.ensures.placed h in
-    inr (inr (inr (c.in-Ok-Place.words, p.0, p.1, p.2, p.3, p.4, p.5, p.6)))
+returns-in-Ok-Place-clause-done g c h = inr (inr (inr (inl (c.in-Ok-Place.words, c.place_files.ensures.placed h))))
+
+pub returns-in-Ok-Resume-clause-done : goal.returns-in-Ok-Resume-clause-done
+returns-in-Ok-Resume-clause-done g c h = inr (inr (inr (inr (c.in-Ok-Resume.words, c.resume_files.ensures.placed h))))

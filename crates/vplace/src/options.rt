@@ -1,0 +1,165 @@
+//! The options of a subcommand: what each takes, and what it was given.
+
+ghost use Rattle.std.specs.Prelude.{◌≡◌, IfOk};
+ghost use Rattle.clap.specs.Words.{found_of};
+ghost use Rattle.vplace.specs.Given.{GivesDefault, GivesNumber, GivesText};
+
+use crate::words::as_bytes;
+use clap::{Arg, ArgAction, ArgMatches, Command, value_parser};
+use std::alloc::{AllocError, Global};
+
+/// What an option takes.
+#[derive(Clone, Copy)]
+pub enum Takes {
+    /// The name of a file; the option is needed.
+    NeededFile,
+    /// The name of a file.
+    File,
+    /// A side of the array.
+    Side,
+    /// A whole number, perhaps with a default.
+    Whole(Option<&'static str>),
+    /// A decimal number, with its default.
+    Decimal(&'static str),
+}
+
+/// An option: its name, what it takes, and its help.
+pub type OptionRow = (&'static str, Takes, &'static str);
+
+// Options of more than one subcommand.
+
+pub const ARCH: OptionRow = (
+    "arch",
+    Takes::NeededFile,
+    "The architecture: pads for each position, and the pins of a logic block",
+);
+
+pub const NET: OptionRow = (
+    "net",
+    Takes::NeededFile,
+    "The netlist: the blocks, and the nets on their pins",
+);
+
+pub const OUT: OptionRow = (
+    "out",
+    Takes::NeededFile,
+    "Where the placement is written, once the run is over",
+);
+
+pub const BATCH: OptionRow = (
+    "batch",
+    Takes::Whole(Some("64")),
+    "How many moves are judged ahead at a time, 1 to 4096; the placement does not depend on it",
+);
+
+pub const WORKERS: OptionRow = (
+    "workers",
+    Takes::Whole(Some("4")),
+    "How many threads judge moves, 1 to 64; the placement does not depend on it",
+);
+
+pub const STOP: OptionRow = (
+    "stop",
+    Takes::Whole(None),
+    "After how many moves of the whole run it stops, where any are left then; with --save",
+);
+
+pub const SAVE: OptionRow = (
+    "save",
+    Takes::File,
+    "Where a run that stops writes its checkpoint, with --stop",
+);
+
+// An option with one value.
+fn option_with_value<'a>(
+    alloc: Global,
+    name: &'a str,
+    value_name: &'a str,
+    help: &'a str,
+) -> Arg<'a> {
+    Arg::new(alloc, name)
+        .long(name)
+        .value_name(value_name)
+        .action(ArgAction::Set)
+        .help(help)
+}
+
+fn option_of<'a>(alloc: Global, name: &'a str, takes: Takes, help: &'a str) -> Arg<'a> {
+    match takes {
+        Takes::NeededFile => option_with_value(alloc, name, "FILE", help).required(true),
+        Takes::File => option_with_value(alloc, name, "FILE", help),
+        Takes::Side => {
+            option_with_value(alloc, name, "NUMBER", help).value_parser(value_parser!(u16))
+        }
+        Takes::Whole(None) => {
+            option_with_value(alloc, name, "NUMBER", help).value_parser(value_parser!(u64))
+        }
+        Takes::Whole(Some(default)) => option_with_value(alloc, name, "NUMBER", help)
+            .value_parser(value_parser!(u64))
+            .default_value(default),
+        Takes::Decimal(default) => {
+            option_with_value(alloc, name, "NUMBER", help).default_value(default)
+        }
+    }
+}
+
+/// A subcommand with these options, which its help shows in this order.
+pub fn with_options<'a>(
+    alloc: Global,
+    mut command: Command<'a>,
+    options: &[OptionRow],
+) -> Result<Command<'a>, AllocError> {
+    for (name, takes, help) in options {
+        command = command.arg(option_of(alloc, name, *takes, help))?;
+    }
+    Ok(command)
+}
+
+/// The file name that an option was given; an empty one where it was not.
+pub fn file_name(
+    alloc: Global,
+    matches: &ArgMatches<'_>,
+    option: &str,
+) -> Result<Vec<u8>, AllocError> {
+    as_bytes(alloc, matches.get_str(option).unwrap_or(""))
+}
+
+/// The file name that an option was given, if it was.
+pub fn optional_name(
+    alloc: Global,
+    matches: &ArgMatches<'_>,
+    option: &str,
+) -> Result<Option<Vec<u8>>, AllocError> {
+    if matches.get_str(option).is_none() {
+        return Ok(None);
+    }
+    Ok(Some(file_name(alloc, matches, option)?))
+}
+
+/// The number of an option.
+pub fn whole(matches: &ArgMatches<'_>, option: &str) -> Option<u64>
+    ensures { GivesNumber 64 (found_of matches.now) option.now result }
+{
+    matches.get_one::<u64>(option)
+}
+
+/// The number of an option that counts columns or rows.
+pub fn side(matches: &ArgMatches<'_>, option: &str) -> Option<u16>
+    ensures { GivesNumber 16 (found_of matches.now) option.now result }
+{
+    matches.get_one::<u16>(option)
+}
+
+/// The number of an option that has a default.
+pub fn number(matches: &ArgMatches<'_>, option: &str) -> u64
+    ensures { GivesDefault (found_of matches.now) option.now result }
+{
+    whole(matches, option).unwrap_or(0)
+}
+
+/// The text of an option that has a default.
+pub fn text(alloc: Global, matches: &ArgMatches<'_>, option: &str) -> Result<Vec<u8>, AllocError>
+    ensures { IfOk result (λ text. GivesText (found_of matches.now) option.now text.items) }
+{
+    Vec::from_slice(alloc, matches.get_str(option).unwrap_or("").as_bytes())
+}

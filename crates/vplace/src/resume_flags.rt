@@ -1,0 +1,66 @@
+//! The subcommand `resume` on the command line: its options, and what they say.
+
+ghost use Rattle.std.specs.Prelude.{IfOk};
+ghost use Rattle.clap.specs.Words.{found_of};
+ghost use Rattle.vplace.specs.Given.{AreGivenToResume};
+
+use crate::asked::ResumeWords;
+use crate::options::{
+    ARCH, BATCH, NET, OUT, OptionRow, SAVE, STOP, Takes, WORKERS, file_name, number, optional_name,
+    whole, with_options,
+};
+use clap::{ArgMatches, Command};
+use std::alloc::{AllocError, Global};
+
+const ABOUT: &str = "Go on with a run from a checkpoint, and write its placement";
+
+const AFTER: &str =
+    "A checkpoint is what `vplace place` or `vplace resume` wrote at its --save name when it stopped. It holds the seed, the
+array, the schedule, and where each block stands and which are fixed; give it the same architecture and netlist.
+Prints the rest of the report: the lines of the stages that end from here on, and the final cost. The reports of the
+pieces of a run, joined as by cat, are the report of the unbroken run, and the last piece writes its placement.
+
+With --stop and --save the run stops again after so many moves, counted from its very first move, and writes a
+checkpoint in place of the placement.
+
+Examples:
+  vplace resume --arch small.arch --net small.net --point small.point --out small.place
+  vplace resume --arch small.arch --net small.net --point a.point --out small.place --stop 200000 --save b.point";
+
+// The options by name, in the order of the help.
+const OPTIONS: [OptionRow; 8] = [
+    ARCH,
+    NET,
+    (
+        "point",
+        Takes::NeededFile,
+        "The checkpoint that the run goes on from",
+    ),
+    OUT,
+    BATCH,
+    WORKERS,
+    STOP,
+    SAVE,
+];
+
+/// The subcommand.
+pub fn resume_command<'a>(alloc: Global) -> Result<Command<'a>, AllocError> {
+    let command = Command::new(alloc, "resume").about(ABOUT).after_help(AFTER);
+    with_options(alloc, command, OPTIONS.as_slice())
+}
+
+/// What the options say.
+pub fn resume_words(alloc: Global, matches: &ArgMatches<'_>) -> Result<ResumeWords, AllocError>
+    ensures { IfOk result (AreGivenToResume (found_of matches.now)) }
+{
+    Ok(ResumeWords {
+        arch: file_name(alloc, matches, "arch")?,
+        net: file_name(alloc, matches, "net")?,
+        point: file_name(alloc, matches, "point")?,
+        out: file_name(alloc, matches, "out")?,
+        batch: number(matches, "batch"),
+        workers: number(matches, "workers"),
+        stop: whole(matches, "stop"),
+        save: optional_name(alloc, matches, "save")?,
+    })
+}
