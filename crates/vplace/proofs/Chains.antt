@@ -24,7 +24,7 @@ use Rattle.vplace.specs.Files.{Held}
 use Rattle.vplace.specs.Leaving.{IsPut}
 use Rattle.vplace.specs.Placing.{GivesPads, name_of, save_name}
 use Rattle.vplace.specs.Resuming.{save_name as saves_at}
-use Rattle.vplace.specs.FileChains.{AreBehind, ArePieces, AskTheSame, IsOneRun, IsUnbroken, LastOf, PiecesAreOneRun, PlaceCall, ResumeCall, UnbrokenCallsAreTold, given_at, last_of, reports_of, without_stop}
+use Rattle.vplace.specs.FileChains.{AreBehind, AskTheSame, LastOf, PiecesAreOneRun, PlaceCall, ResumeCall, UnbrokenCallsAreTold, given_at, last_of, reports_of, without_stop}
 
 -- the calls as those of runs
 
@@ -53,7 +53,7 @@ SavesPoint t seed (Stopped q) saved = (text : List ℕ) × (saved ≡ Some text)
 saves_point : (before after : Held) (out : List ℕ) (save : Option (List ℕ)) (t : Texts) (seed : ℕ) (e : Ending) (place : List ℕ) → IsPut (Some before) (Some after) out save t seed e place → SavesPoint t seed e (given_at save after)
 saves_point before after out save t seed Finished place put = tt
 saves_point before after out save t seed (Stopped q) place put =
-    (put.1, ap (λ s. given_at s after) put.2 ∙ put.4.0, put.3)
+    (put.1, ap (λ s. given_at s after) put.2 ∙ put.4.0, record { design = put.3.design; mean = put.3.mean; stands = put.3.stands })
 
 -- a text of a point stands for one seed
 same_seed : (t : Texts) (text : List ℕ) (seed : ℕ) (q : Point) (s : Going) → IsTextOfPoint t seed q text → HasPoint t text s → s.seed ≡ seed

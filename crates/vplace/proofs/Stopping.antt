@@ -1,5 +1,5 @@
 -- Runs that stop: a stop was asked for with a name to save at, and what is left goes to its name.
-use Rattle.std.proofs.Common.{ℕ, ◌≡◌, ◌+◌, ◌⊎◌, inl, inr, ◌∙◌, ap, refl, sym, subst, List, [], Option, Some, None, option_map, Vec, Global}
+use Rattle.std.proofs.Common.{ℕ, ◌≡◌, ◌+◌, inl, inr, ◌∙◌, ap, refl, sym, subst, List, [], Option, Some, None, option_map, Vec, Global}
 use Rattle.std.specs.Prelude.{MatchOption, Result, Ok, Err, IfOk}
 use Rattle.fab_arch.specs.Grid.{GridShape, Holds}
 use Rattle.fab_net.specs.Netlist.{Netlist, logic_count, pad_count}
@@ -67,9 +67,9 @@ pub did_place : (w : PlaceWords) (held held_new : Option Held) (old new : Option
 did_place w held held_new old new t o a place left placed checkpoint put named asked =
     let name : (q : Point) → a.ending ≡ Stopped q → (name : List ℕ) × (save_name w ≡ Some name) =
     λ q is.
-        let stop = stop_of_stopped placed.0 placed.2.told.moves a q placed.2.told.annealed is in
-        let save = save_of_stop w.stop w.save o.stop stop.0 asked.stop (ap (λ (p : Piece). p.stop) (sym placed.1.2) ∙ stop.1) in
-        (save.0.items, ap (λ (s : Option (Vec ℕ Global)). option_map (λ (v : Vec ℕ Global). v.items) s) save.1)
+    let stop = stop_of_stopped placed.0 placed.2.told.moves a q placed.2.told.annealed is in
+    let save = save_of_stop w.stop w.save o.stop stop.0 asked.stop (ap (λ (p : Piece). p.stop) (sym placed.1.2) ∙ stop.1) in
+    (save.0.items, ap (λ (s : Option (Vec ℕ Global)). option_map (λ (v : Vec ℕ Global). v.items) s) save.1)
     in
     record {
       texts = t;
@@ -90,9 +90,9 @@ pub did_resume : (w : ResumeWords) (held held_new : Option Held) (old new : Opti
 did_resume w held held_new old new t point stop s a place left read placed checkpoint put named asked =
     let name : (q : Point) → a.ending ≡ Stopped q → (name : List ℕ) × (saves_at w ≡ Some name) =
     λ q is.
-        let stops = stop_of_stopped placed.0 placed.2.told.moves a q placed.2.told.annealed is in
-        let save = save_of_stop w.stop w.save stop stops.0 asked (ap (λ (p : Piece). p.stop) (sym placed.1.2) ∙ stops.1) in
-        (save.0.items, ap (λ (s : Option (Vec ℕ Global)). option_map (λ (v : Vec ℕ Global). v.items) s) save.1)
+    let stops = stop_of_stopped placed.0 placed.2.told.moves a q placed.2.told.annealed is in
+    let save = save_of_stop w.stop w.save stop stops.0 asked (ap (λ (p : Piece). p.stop) (sym placed.1.2) ∙ stops.1) in
+    (save.0.items, ap (λ (s : Option (Vec ℕ Global)). option_map (λ (v : Vec ℕ Global). v.items) s) save.1)
     in
     record {
       texts = t;

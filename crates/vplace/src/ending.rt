@@ -5,7 +5,7 @@ ghost use Rattle.fab_text.specs.Lines.{lines};
 ghost use Rattle.fab_net.specs.Netlist.{Netlist};
 ghost use Rattle.fab_run.specs.Check.{MeanDesign};
 ghost use Rattle.fab_run.specs.PointMeaning.{StandsForPoint};
-ghost use Rattle.fab_run.specs.PointText.{IsWritable};
+ghost use Rattle.fab_run.specs.PointText.{IsWritable, point_text};
 ghost use Rattle.fab_run.specs.declared.fault.RunFault.TheVariants.{NoMemory};
 ghost use Rattle.vplace.specs.Files.{Puts};
 ghost use Rattle.vplace.specs.Leaving.{tried_name};
@@ -120,7 +120,8 @@ pub fn text_of_point(
     point: &Point,
 ) -> Result<Vec<u8>, AllocError>
     requires { IsWritable design.now grid.now point.now }
-    ensures { IfOk result (λ text. StandsForPoint grid.now.io_rat design.now (lines text.items) seed grid.now point.now) }
+    ensures exact { IfOk result (λ text. text.items ≡ point_text seed design.now grid.now point.now) }
+    ensures back { IfOk result (λ text. StandsForPoint grid.now.io_rat design.now (lines text.items) seed grid.now point.now) }
 {
     let mut text = Counted::new(Vec::new(alloc));
     match write_point(alloc, &mut text, seed, design, grid, point) {

@@ -5,7 +5,6 @@ ghost use Rattle.std.specs.Prelude.{◌≡◌, ◌≢◌, ◌⊎◌, OnOk, OnErr
 ghost use Rattle.fab_text.specs.Failures.{grown};
 ghost use Rattle.fab_commit.specs.Points.{IsPoint};
 ghost use Rattle.fab_run.specs.Check.{report_failed_with};
-ghost use Rattle.fab_run.specs.Chains.{IsTextOfPoint};
 ghost use Rattle.fab_run.specs.Ends.{Answer};
 ghost use Rattle.fab_run.specs.Placed.{AskFor, IsPlaced, IsReportBegun};
 ghost use Rattle.fab_run.specs.Setting.{IsSetting, Setting, Texts, texts_of};
@@ -15,7 +14,7 @@ ghost use Rattle.fab_run.specs.declared.fault.RunFault.{RunFault as RunFaultOf};
 ghost use Rattle.fab_run.specs.declared.fault.RunFault.TheVariants.{NoMemory};
 ghost use Rattle.vplace.specs.Status.{IsRefused, status_of};
 ghost use Rattle.vplace.specs.Asked.{AreAsked, IsWordFault};
-ghost use Rattle.vplace.specs.Leaving.{AreLeft, IsCheckpoint, tried_name};
+ghost use Rattle.vplace.specs.Leaving.{AreLeft, IsCheckpoint, IsPointText, tried_name};
 ghost use Rattle.vplace.specs.Said.{IsFaultSaid};
 ghost use Rattle.vplace.specs.Placing.{AreNamed, DidPlace, GivesPads, name_of};
 ghost use Rattle.vplace.specs.declared.asked.WordFault.{WordFault as WordFaultOf};
@@ -96,7 +95,7 @@ fn checkpoint(
     point: &Point,
 ) -> Result<Vec<u8>, RunFault>
     requires { (s : Setting) × IsSetting (texts_of inputs.now) options.now s × IsPoint s.design s.grid point.now }
-    ensures text { IfOk result (λ text. IsTextOfPoint (texts_of inputs.now) options.now.seed point.now text.items) }
+    ensures text { IfOk result (λ text. IsPointText (texts_of inputs.now) options.now.seed point.now text.items) }
     ensures memory { IfErr result (λ e. e ≡ NoMemory) }
 {
     let (arch, design) = read_design(alloc, inputs)?;

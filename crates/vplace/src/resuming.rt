@@ -5,7 +5,6 @@ ghost use Rattle.std.specs.Prelude.{◌≡◌, ◌≢◌, ◌⊎◌, ℕ, List, 
 ghost use Rattle.fab_text.specs.Failures.{grown};
 ghost use Rattle.fab_commit.specs.Points.{IsPoint};
 ghost use Rattle.fab_run.specs.Check.{report_failed_with};
-ghost use Rattle.fab_run.specs.Chains.{IsTextOfPoint};
 ghost use Rattle.fab_run.specs.Ends.{Answer};
 ghost use Rattle.fab_run.specs.Going.{Going, HasPoint, IsGoing, IsGoingFault};
 ghost use Rattle.fab_run.specs.Placed.{AskToGoOn, IsPlaced, IsReportBegun};
@@ -15,7 +14,7 @@ ghost use Rattle.fab_run.specs.declared.fault.RunFault.{RunFault as RunFaultOf};
 ghost use Rattle.fab_run.specs.declared.fault.RunFault.TheVariants.{NoMemory};
 ghost use Rattle.vplace.specs.Status.{IsRefused, status_of};
 ghost use Rattle.vplace.specs.Asked.{IsResumeFault};
-ghost use Rattle.vplace.specs.Leaving.{AreLeft, IsCheckpoint, tried_name};
+ghost use Rattle.vplace.specs.Leaving.{AreLeft, IsCheckpoint, IsPointText, tried_name};
 ghost use Rattle.vplace.specs.Said.{IsFaultSaid};
 ghost use Rattle.vplace.specs.Resuming.{AreNamedToResume, DidResume};
 ghost use Rattle.vplace.specs.declared.asked.WordFault.{WordFault as WordFaultOf};
@@ -87,7 +86,7 @@ fn checkpoint(
     point: &Point,
 ) -> Result<Vec<u8>, RunFault>
     requires { (s : Going) × HasPoint (texts_of inputs.now) begun.now s × IsPoint s.design s.grid point.now }
-    ensures text { IfOk result (λ text. (s : Going) × HasPoint (texts_of inputs.now) begun.now s × IsTextOfPoint (texts_of inputs.now) s.seed point.now text.items) }
+    ensures text { IfOk result (λ text. (s : Going) × HasPoint (texts_of inputs.now) begun.now s × IsPointText (texts_of inputs.now) s.seed point.now text.items) }
     ensures memory { IfErr result (λ e. e ≡ NoMemory) }
 {
     let (arch, design) = read_design(alloc, inputs)?;

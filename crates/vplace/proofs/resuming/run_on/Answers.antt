@@ -1,4 +1,4 @@
-use Rattle.std.proofs.Common.{subst, sym, inr}
+use Rattle.std.proofs.Common.{subst, inr}
 use Rattle.std.proofs.lemmas.Result.{err_from_is_err_and}
 use Rattle.fab_run.specs.RunChecks.{IsRefusal}
 use Rattle.fab_run.proofs.Whole.{begun_whole}
