@@ -1,5 +1,4 @@
 pub mod Ends
 pub mod Heard
-pub mod Names
 pub mod Stopping
 pub mod Chains
