@@ -150,9 +150,10 @@ impl<E, J: Naming> Front<E, J> {
         }
     }
 
-    /// Whether the two are as long as each other. Then they are the same.
+    /// Whether the two are the same: of two beginnings of one list, those that are as long as each other.
     pub fn is_same(&self, other: &Front<E, J>) -> bool
-        ensures { result ≡ true → self.now ≡ other.now }
+        ensures same { result ≡ true → self.now ≡ other.now }
+        ensures told { self.now ≡ other.now → result ≡ true }
     {
         let mut both = self.seen.again();
         both.learn(&other.seen);

@@ -4,8 +4,8 @@ use mathlib.Core.List.{IsPrefix}
 use Rattle.fab_board.proofs.Fronts.{prefix_shorter, prefix_whole}
 use Rattle.fab_board.proofs.past.Front.is_same.Goals as goal
 
-pub returns : goal.returns
-returns g c = λ is.
+pub returns-clause-same : goal.returns-clause-same
+returns-clause-same g c = λ is.
     let both = c.learn.new.self.log in
     let this : IsPrefix c.self.inside.seen.log both = subst (λ (l : List g.row.E.Denot). IsPrefix l both) (ap (λ s. s.log) c.again-both.ensures) c.learn.ensures.2 in
     let e : c.self.inside.count ≡ c.other.inside.count = grind (arith, is, nat_tests) in
