@@ -4,7 +4,7 @@ runs, by what an independent slow placer makes of each.
     python3 tests/tables/turns.py REFERENCE > crates/fab_commit/src/turn_tables.rt
 
 REFERENCE is the folder of that placer. It shares no code with this repository, and adds up all nets for each move.
-Standard error tells the constants of turn_tests.rt, by the same placer.
+Standard error tells the constants of turn_tests.rt and shown_tests.rt, by the same placer.
 """
 
 import contextlib
@@ -20,7 +20,7 @@ with contextlib.redirect_stdout(io.StringIO()), contextlib.redirect_stderr(io.St
 
 from random import Random
 
-from placer.anneal import BATCH_BEFORE, redone, run_piece
+from placer.anneal import BATCH_BEFORE, redone, run_piece, shown
 from placer.schedule import Schedule
 
 ENDS = 20
@@ -80,6 +80,7 @@ def eight_blocks():
     print("EIGHT:", repr(net), "\nend:", told(piece), "\nredone in batches of 16:", len(twice),
           "\nnot redone:", *sorted(set(range(piece.end.n)) - set(twice)),
           "\nredone in batches of 4, 1, 3, 2:", len(redone_in(setting, piece, [4, 1, 3, 2])),
+          "\nreadings in batches of 64:", shown(setting, piece, (0, 0, piece.costs[0]), 64),
           file=sys.stderr)
 
 

@@ -24,3 +24,4 @@ pub mod ByTurns
 pub mod RunBases
 pub mod RunLaws
 pub mod Standings
+pub mod Showing

@@ -41,7 +41,7 @@ pub part_next : (m first n : ℕ) → 0 < m → first ≤ n → part_of m first 
 part_next m first n pos low = (let e = end_mod n m pos in omega (arith, e, low))
 
 -- a turn that begins at n begins there for each of its moves
-cut_at : (m first batch n cuts i : ℕ) → n ≡ part_of m first n + cuts * batch → i < batch → n % m + i < m → cut_of m first batch (n + i) ≡ n
+pub cut_at : (m first batch n cuts i : ℕ) → n ≡ part_of m first n + cuts * batch → i < batch → n % m + i < m → cut_of m first batch (n + i) ≡ n
 cut_at m first batch n cuts i at low h =
     let part = part_of m first n in
     let e : n + i - part ≡ cuts * batch + i = past n part (cuts * batch) i at in

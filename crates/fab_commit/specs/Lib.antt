@@ -19,3 +19,4 @@ pub mod StampTables
 pub mod Owners
 pub mod Workers
 pub mod Points
+pub mod Readings

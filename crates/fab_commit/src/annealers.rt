@@ -10,6 +10,7 @@ ghost use Rattle.fab_commit.specs.declared.verdicts.Verdict.{Verdict as Judged};
 ghost use Rattle.fab_commit.specs.Serial.{IsStanding, at_start, from, stage_of};
 ghost use Rattle.fab_commit.specs.Commits.{IsSound, run, run_for, run_of, standing_of};
 ghost use Rattle.fab_commit.specs.Points.{IsPoint, TellsPoint, going_on, standing_at};
+ghost use Rattle.fab_commit.specs.Readings.{IsShown, reading_at};
 ghost use Rattle.fab_commit.specs.Turned.{IsTurned};
 
 use crate::pipelines::{Pipeline, first_pipeline, turn};
@@ -20,6 +21,7 @@ use crate::workers::Workers;
 use fab_arch::Grid;
 use fab_board::{Gate, Naming};
 use fab_cost::WireCost;
+use fab_dial::{Dial, Reading, Shower};
 use fab_move::Verdict;
 use fab_net::Design;
 use fab_sched::{Schedule, Stage};
@@ -225,6 +227,17 @@ impl<'a, W: Words + Drop> Anneal<'a, W> {
     {
         self.pipeline.owner.redone
     }
+
+    /// How far the run has come.
+    fn reading(&self) -> Reading
+        ensures { result ≡ reading_at (run_of W.moves self.now) self.now.standing }
+    {
+        Reading {
+            moves: self.done(),
+            accepted: self.total(),
+            cost: self.cost(),
+        }
+    }
 }
 
 impl<'a, W: Words + Sync + Drop> Anneal<'a, W> {
@@ -280,5 +293,52 @@ impl<'a, W: Words + Sync + Drop> Anneal<'a, W> {
     {
         let mut workers = Workers::<'_, '_, W, G, Brand>::started(workers, gate);
         self.turn_by(rt, batch, &mut workers)
+    }
+
+    /// Makes a turn as `turn_by` does, and shows on the dial how far the run has come then: the moves made, those accepted among them
+    /// and the cost, in ten-thousandths. The shower is one of this dial by condition. Nothing is shown where memory is short, also
+    /// where the turn made moves, or where no move was left.
+    pub fn turn_shown_by<'g, G: Gate, J: Naming, R: Threads + Wait + Sync>(
+        &mut self,
+        rt: &R,
+        batch: u64,
+        workers: &mut Workers<'a, 'g, W, G, J>,
+        dial: &Dial,
+        shower: &mut Shower,
+    ) -> Result<Turn, AllocError>
+        requires batch { (1 ≤ batch) × (batch ≤ 4096) }
+        requires own { shower.old.dial ≡ dial.now }
+        ensures turned { IsTurned W.moves batch self.old self.new result }
+        ensures dial { shower.new.dial ≡ shower.old.dial }
+        ensures shown { IsShown W.moves self.old self.new result shower.old.shown shower.new.shown }
+    {
+        let before = self.done();
+        let turn = self.turn_by(rt, batch, workers)?;
+        if before < self.done() {
+            dial.show(rt, shower, self.reading());
+        }
+        Ok(turn)
+    }
+
+    /// Makes a turn as `turn` does, and shows on the dial how far the run has come then, as `turn_shown_by` does. The shower is one
+    /// of this dial by condition.
+    pub fn turn_shown<G: Gate, R: Threads + Wait + Sync>(
+        &mut self,
+        rt: &R,
+        batch: u64,
+        workers: u64,
+        gate: &G,
+        dial: &Dial,
+        shower: &mut Shower,
+    ) -> Result<Turn, AllocError>
+        requires batch { (1 ≤ batch) × (batch ≤ 4096) }
+        requires workers { (1 ≤ workers) × (workers ≤ 64) }
+        requires own { shower.old.dial ≡ dial.now }
+        ensures turned { IsTurned W.moves batch self.old self.new result }
+        ensures dial { shower.new.dial ≡ shower.old.dial }
+        ensures shown { IsShown W.moves self.old self.new result shower.old.shown shower.new.shown }
+    {
+        let mut workers = Workers::<'_, '_, W, G, Brand>::started(workers, gate);
+        self.turn_shown_by(rt, batch, &mut workers, dial, shower)
     }
 }

@@ -64,15 +64,15 @@ fn owned_as<'a, J: Naming + Send + Sync, O: Owner, R: Threads + Wait + Sync>(
     })
 }
 
-// What the owner collects of a crew of so many workers.
+// What the owner collects of a crew of so many workers, whose judgements are counted.
 fn owned<O: Owner, R: Threads + Wait + Sync>(
     rt: &R,
     alloc: Global,
+    judged: &AtomicU64,
     workers: u64,
     owner: &O,
 ) -> Result<Vec<Vec<u64>>, AllocError> {
-    let judged = AtomicU64::new(0);
-    owned_as::<Brand, O, R>(rt, alloc, Opened::new(), &judged, workers, owner)
+    owned_as::<Brand, O, R>(rt, alloc, Opened::new(), judged, workers, owner)
 }
 
 // Three jobs, one after another: a large one, a small one and one without numbers.
@@ -105,7 +105,10 @@ impl Owner for Three {
 #[test]
 fn three_jobs_one_after_another(rt: HostRuntime) -> Result<(), Fail> {
     for workers in [0, 1, 2] {
-        let turns = owned(&rt, rt.alloc(), workers, &Three)?;
+        let judged = AtomicU64::new(0);
+        let turns = owned(&rt, rt.alloc(), &judged, workers, &Three)?;
+        // Each number once.
+        assert_eq!(rt; judged.load(Ordering::SeqCst), 1003);
         assert_eq!(rt; turns.len(), 3);
         assert_eq!(rt; turns[0].len(), 1000);
         for (sum, expected) in turns[0].iter().zip(7..1007u64) {
@@ -147,7 +150,8 @@ impl Owner for Hasty {
 
 #[test]
 fn a_second_job_takes_the_place_of_the_first(rt: HostRuntime) -> Result<(), Fail> {
-    let turns = owned(&rt, rt.alloc(), 2, &Hasty)?;
+    let judged = AtomicU64::new(0);
+    let turns = owned(&rt, rt.alloc(), &judged, 2, &Hasty)?;
     assert_eq!(rt; turns.len(), 2);
     assert_eq!(rt; turns[0].as_slice(), [100, 101, 102, 103].as_slice());
     assert_eq!(rt; turns[1].len(), 0);
@@ -189,7 +193,9 @@ impl Owner for Waits<'_> {
 
 #[test]
 fn a_worker_judges_while_the_owner_does_something_else(rt: HostRuntime) -> Result<(), Fail> {
-    let turns = owned(&rt, rt.alloc(), 1, &Waits { clock: &rt })?;
+    let judged = AtomicU64::new(0);
+    let turns = owned(&rt, rt.alloc(), &judged, 1, &Waits { clock: &rt })?;
+    assert_eq!(rt; judged.load(Ordering::SeqCst), 2);
     assert_eq!(rt; turns.len(), 1);
     assert_eq!(rt; turns[0].as_slice(), [20, 21].as_slice());
     Ok(())
@@ -227,7 +233,8 @@ impl Owner for Refused {
 #[test]
 fn what_a_thread_had_no_memory_for_is_judged_again(rt: HostRuntime) -> Result<(), Fail> {
     for workers in [0, 2] {
-        let turns = owned(&rt, rt.alloc(), workers, &Refused { refusals: 1 })?;
+        let judged = AtomicU64::new(0);
+        let turns = owned(&rt, rt.alloc(), &judged, workers, &Refused { refusals: 1 })?;
         assert_eq!(rt; turns.len(), 2);
         assert_eq!(rt;
             turns[0].as_slice(),
@@ -241,7 +248,8 @@ fn what_a_thread_had_no_memory_for_is_judged_again(rt: HostRuntime) -> Result<()
         );
     }
     // Refused twice, the owner gives an error and no answers. The next job is answered as ever.
-    let turns = owned(&rt, rt.alloc(), 0, &Refused { refusals: 2 })?;
+    let judged = AtomicU64::new(0);
+    let turns = owned(&rt, rt.alloc(), &judged, 0, &Refused { refusals: 2 })?;
     assert_eq!(rt; turns.len(), 2);
     assert_eq!(rt; turns[0].len(), 0);
     assert_eq!(rt; turns[1].as_slice(), [60, 61, 62].as_slice());

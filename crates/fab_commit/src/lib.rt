@@ -15,6 +15,8 @@ mod pipelines;
 #[cfg(test)]
 mod point_tests;
 pub mod points;
+#[cfg(test)]
+mod shown_tests;
 mod stamp_tables;
 mod states;
 #[cfg(test)]

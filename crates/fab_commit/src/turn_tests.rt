@@ -203,7 +203,7 @@ fn the_move_behind_a_turn_is_judged_on_the_placement_before_it(
 
 // Eight logic blocks with three pads. What is wanted of their runs was told by the slow placer in Python, by
 // tests/tables/turns.py.
-const EIGHT: &[u8] = b".input p0\npinlist: i0\n.input p1\npinlist: i1\n\
+pub(crate) const EIGHT: &[u8] = b".input p0\npinlist: i0\n.input p1\npinlist: i1\n\
     .clb b0\npinlist: n3 n5 n0\n.clb b1\npinlist: n6 n2 n1\n.clb b2\npinlist: n3 n0 n2\n\
     .clb b3\npinlist: n1 n2 n3\n.clb b4\npinlist: n3 i0 n4\n.clb b5\npinlist: n3 n6 n5\n\
     .clb b6\npinlist: open n0 n6\n.clb b7\npinlist: n7 n7 n7\n.output q0\npinlist: n7\n";
@@ -220,7 +220,7 @@ const EIGHT_ASKED: &str = "redone 420 asked 920 other 0 commits 500 disordered 0
     434 438 440 447 448 449 468 472 478 486";
 
 /// The run of the eight blocks.
-fn eight<'a, W: Words + Drop>(
+pub(crate) fn eight<'a, W: Words + Drop>(
     alloc: Global,
     of: &'a Setting,
     words: W,

@@ -1,0 +1,97 @@
+ghost use Rattle.std.specs.Prelude.{◌≡◌};
+
+use crate::tests::{Pace, annealer, read_setting};
+use crate::turn_tests::{EIGHT, eight};
+use crate::world_tests::ARCH;
+use crate::{Anneal, Turn};
+use fab_board::NoGate;
+use fab_dial::{Dial, Reading, Shower};
+use fab_move::StreamWords;
+use fab_site::Words;
+use std::alloc::Global;
+use std::sync::Wait;
+use std::test::*;
+use std::thread::Threads;
+
+/// Adds a reading to a text.
+fn put_reading(alloc: Global, text: &mut String, reading: Reading) -> Result<(), Fail> {
+    let Reading {
+        moves,
+        accepted,
+        cost,
+    } = reading;
+    text.push_str(format!(in alloc; " {moves},{accepted},{cost}")?.as_str())?;
+    Ok(())
+}
+
+/// A turn at this pace, which has to be one that turns take, is shown.
+fn shown_turn<W: Words + Sync + Drop, R: Threads + Wait + Sync>(
+    rt: &R,
+    anneal: &mut Anneal<'_, W>,
+    pace: Pace,
+    dial: &Dial,
+    shower: &mut Shower,
+) -> Result<Turn, Fail>
+    requires { shower.old.dial ≡ dial.now }
+    ensures { shower.new.dial ≡ shower.old.dial }
+{
+    if pace.batch < 1 || 4096 < pace.batch || pace.workers < 1 || 64 < pace.workers {
+        return Err(Fail::from("no pace of turns"));
+    }
+    Ok(anneal.turn_shown(rt, pace.batch, pace.workers, &NoGate, dial, shower)?)
+}
+
+/// What a watcher reads before each turn of a run, and what is gathered at its end.
+fn readings<W: Words + Sync + Drop, R: Threads + Wait + Sync>(
+    rt: &R,
+    alloc: Global,
+    anneal: &mut Anneal<'_, W>,
+    pace: Pace,
+) -> Result<String, Fail> {
+    let first = Reading {
+        moves: 7,
+        accepted: 7,
+        cost: 7,
+    };
+    let (dial, mut shower, mut watchers) = Dial::new(rt, alloc, 1, first)?;
+    let Some(mut watcher) = watchers.pop() else {
+        return Err(Fail::from("no watcher"));
+    };
+    let mut text = String::new(alloc);
+    for _turn in 0..1000u64 {
+        put_reading(alloc, &mut text, dial.read(rt, &mut watcher))?;
+        let turn = shown_turn(rt, anneal, pace, &dial, &mut shower)?;
+        if turn == Turn::Finished {
+            break;
+        }
+    }
+    put_reading(alloc, &mut text, dial.gather(rt, shower, watchers))?;
+    Ok(text)
+}
+
+// Told by the slow placer in Python, by tests/tables/turns.py; the first is that of the dial.
+const EIGHT_READINGS: &str =
+    " 7,7,7 64,46,399336 100,75,434184 164,110,412528 200,124,361700 264,142,339336 300,152,350872 \
+    364,166,339336 400,173,340872 464,193,339336 500,205,339336";
+
+/// The same of the eight blocks.
+fn eight_readings<R: Threads + Wait + Sync>(
+    rt: &R,
+    alloc: Global,
+    workers: u64,
+) -> Result<String, Fail> {
+    let of = read_setting(alloc, ARCH, EIGHT)?;
+    let mut anneal = eight(alloc, &of, StreamWords::new(8))?;
+    readings(rt, alloc, &mut anneal, Pace { batch: 64, workers })
+}
+
+#[test]
+fn each_turn_shows_where_it_led(rt: HostRuntime) -> Result<(), Fail> {
+    for workers in [1, 3] {
+        assert_eq!(rt;
+            eight_readings(&rt, rt.alloc(), workers)?.as_str(),
+            EIGHT_READINGS
+        );
+    }
+    Ok(())
+}
