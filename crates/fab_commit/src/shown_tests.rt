@@ -1,11 +1,11 @@
-ghost use Rattle.std.specs.Prelude.{◌≡◌};
+ghost use Rattle.std.specs.Prelude.{◌≡◌, IfOk};
 
 use crate::tests::{Pace, annealer, read_setting};
 use crate::turn_tests::{EIGHT, eight};
 use crate::world_tests::ARCH;
 use crate::{Anneal, Turn};
 use fab_board::NoGate;
-use fab_dial::{Dial, Reading, Shower};
+use fab_dial::{Dial, Reading, Shower, Watcher};
 use fab_move::StreamWords;
 use fab_site::Words;
 use std::alloc::Global;
@@ -41,6 +41,32 @@ fn shown_turn<W: Words + Sync + Drop, R: Threads + Wait + Sync>(
     Ok(anneal.turn_shown(rt, pace.batch, pace.workers, &NoGate, dial, shower)?)
 }
 
+/// Makes the turns of a run, and adds what a watcher reads before each.
+fn put_readings<W: Words + Sync + Drop, R: Threads + Wait + Sync>(
+    rt: &R,
+    alloc: Global,
+    anneal: &mut Anneal<'_, W>,
+    pace: Pace,
+    dial: &Dial,
+    mut shower: Shower,
+    mut watcher: Watcher,
+    text: &mut String,
+) -> Result<Shower, Fail>
+    requires shower { shower.dial ≡ dial.now }
+    requires watcher { watcher.dial ≡ dial.now }
+    ensures { IfOk result (λ s. s.dial ≡ dial.now) }
+{
+    for _turn in 0..1000u64 {
+        let reading = dial.read(rt, &mut watcher);
+        put_reading(alloc, text, reading)?;
+        let turn = shown_turn(rt, anneal, pace, dial, &mut shower)?;
+        if turn == Turn::Finished {
+            break;
+        }
+    }
+    Ok(shower)
+}
+
 /// What a watcher reads before each turn of a run, and what is gathered at its end.
 fn readings<W: Words + Sync + Drop, R: Threads + Wait + Sync>(
     rt: &R,
@@ -53,18 +79,12 @@ fn readings<W: Words + Sync + Drop, R: Threads + Wait + Sync>(
         accepted: 7,
         cost: 7,
     };
-    let (dial, mut shower, mut watchers) = Dial::new(rt, alloc, 1, first)?;
-    let Some(mut watcher) = watchers.pop() else {
+    let (dial, shower, mut watchers) = Dial::new(rt, alloc, 1, first)?;
+    let Some(watcher) = watchers.pop() else {
         return Err(Fail::from("no watcher"));
     };
     let mut text = String::new(alloc);
-    for _turn in 0..1000u64 {
-        put_reading(alloc, &mut text, dial.read(rt, &mut watcher))?;
-        let turn = shown_turn(rt, anneal, pace, &dial, &mut shower)?;
-        if turn == Turn::Finished {
-            break;
-        }
-    }
+    let shower = put_readings(rt, alloc, anneal, pace, &dial, shower, watcher, &mut text)?;
     put_reading(alloc, &mut text, dial.gather(rt, shower, watchers))?;
     Ok(text)
 }
