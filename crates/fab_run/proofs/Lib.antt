@@ -24,3 +24,5 @@ pub mod PointSpoken
 pub mod PointStages
 pub mod PointWhole
 pub mod Chaining
+pub mod Showing
+pub mod Watching

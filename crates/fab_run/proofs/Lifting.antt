@@ -11,7 +11,7 @@ use Rattle.fab_run.specs.declared.fault.RunFault.{RunFault}
 use Rattle.fab_run.specs.declared.fault.RunFault.TheVariants.{Place, Report, NoMemory}
 use Rattle.fab_run.specs.declared.inputs.Outcome.{Outcome}
 
-abbrev Answered : Type 0
+abbrev pub Answered : Type 0
 Answered = Result Outcome RunFault
 
 pub made_asked : (Asked : Piece → Type 0) (t : Texts) (p : Piece) (r : Answered) (report_old report_new place_old place_new : Option (List ℕ)) → Asked p

@@ -42,10 +42,10 @@ begun_of P p old new t = (t.0, t.2, (t.1, t.3))
 short_of : (P : Type 0) (p : Piece) (old new : Option (List ℕ)) → IsToldTo P p old new → P → IsReportCutOf p old new
 short_of P p old new t q = (t.0, t.2, (t.1, t.4 q, t.3))
 
-none_within : (r : Run) (x : Standing) (stop : Option ℕ) → IsWithin r x stop 0
+pub none_within : (r : Run) (x : Standing) (stop : Option ℕ) → IsWithin r x stop 0
 none_within r x stop m here going = omega arith
 
-within_by : (r : Run) (x : Standing) (stop : Option ℕ) (n : ℕ) → IsPiece r x stop n → IsWithin r x stop n
+pub within_by : (r : Run) (x : Standing) (stop : Option ℕ) (n : ℕ) → IsPiece r x stop n → IsWithin r x stop n
 within_by r x stop n (inl s) m here going =
     let both : Some (x.done + n) ≡ Some (x.done + m) = sym s.here ∙ here in
     let same : x.done + n ≡ x.done + m = (let k = both in cc) in

@@ -20,3 +20,5 @@ pub mod PointReading
 pub mod PointText
 pub mod PointExamples
 pub mod Chains
+pub mod Shown
+pub mod Watched

@@ -1,50 +1,46 @@
 //! The stages of a piece of a run, whose moves a crew judges ahead that stands from the first to the last.
 
-ghost use Rattle.std.specs.Prelude.{◌≡◌, ◌≤◌, OnOk, IfErr};
-ghost use Rattle.fab_sched.specs.Annealing.{IsLawful};
-ghost use Rattle.fab_commit.specs.Commits.{IsSameRun, run_of};
-ghost use Rattle.fab_run.specs.Placed.{IsReportFault};
-ghost use Rattle.fab_run.specs.Stages.{AreCut, AreMade};
+ghost use Rattle.std.specs.Prelude.{◌≡◌, ◌≤◌};
+ghost use Rattle.std.specs.Fn.{CalledAtMut};
 ghost use Rattle.std.specs.Thread.{IsSync};
-ghost use Rattle.fab_move.specs.Stream.{stream_moves};
+ghost use Rattle.fab_sched.specs.Annealing.{IsLawful};
+ghost use Rattle.fab_run.specs.Stages.{IsMadeBeside};
 
 use crate::fault::RunFault;
 use crate::stages::{Pace, anneal_all};
-use fab_board::{Naming, NoGate, Shared, work_all};
-use fab_commit::{Anneal, Work, Workers};
-use fab_move::{StreamWords, Verdict};
+use fab_board::{Gate, Naming, Shared, Task, work_all};
+use fab_commit::{Anneal, Workers};
+use fab_dial::{Dial, Shower};
+use fab_site::Words;
 use fab_text::Sink;
 use std::alloc::Global;
-use std::sync::Wait;
+use std::sync::{Arc, Wait};
 use std::thread::{Threads, join_mut};
-
-/// What a crew of a run is handed.
-pub(crate) type Ahead<'a> = Work<'a, 'a, StreamWords, NoGate>;
 
 /// An annealer, the workers that judge ahead of it, and the cost at the start and after each stage that ended.
 #[derive(Drop)]
-pub(crate) struct Course<'a, J: Naming> {
-    pub(crate) anneal: Anneal<'a, StreamWords>,
-    pub(crate) workers: Workers<'a, 'a, StreamWords, NoGate, J>,
+pub(crate) struct Course<'a, 'g, V: Words + Drop, G: Gate, J: Naming> {
+    pub(crate) anneal: Anneal<'a, V>,
+    pub(crate) workers: Workers<'a, 'g, V, G, J>,
     pub(crate) costs: Vec<u64>,
 }
 
 /// Makes the moves of a piece, each stage told as it ends, and sends the crew home.
-fn end_course<J: Naming, W: Sink, R: Threads + Wait + Sync>(
+fn end_course<V: Words + Sync + Drop, G: Gate, J: Naming, W: Sink, R: Threads + Wait + Sync>(
     rt: &R,
     alloc: Global,
-    course: &mut Course<'_, J>,
+    course: &mut Course<'_, '_, V, G, J>,
     pace: &Pace,
+    dial: &Dial,
+    shower: &mut Shower,
     report: &mut W,
 ) -> Result<(), RunFault>
     requires moves { pace.now.moves ≡ course.old.anneal.plan.moves }
     requires plan { IsLawful course.old.anneal.plan }
     requires limits { (1 ≤ pace.now.batch) × (pace.now.batch ≤ 4096) }
-    ensures same { IsSameRun course.old.anneal course.new.anneal }
-    ensures made { OnOk result (AreMade stream_moves pace.now.stop pace.now.batch course.old.anneal course.new.anneal course.old.costs.items course.new.costs.items (W.contents report.old) (W.contents report.new)) }
-    ensures cut { IfErr result (AreCut (run_of stream_moves course.old.anneal) course.old.anneal.standing pace.now.stop (W.contents report.old) (W.contents report.new)) }
-    ensures sound { OnOk result (W.failed report.new ≡ W.failed report.old) }
-    ensures fault { IfErr result (IsReportFault (W.failed report.old) (W.failed report.new)) }
+    requires own { shower.old.dial ≡ dial.now }
+    ensures dial { shower.new.dial ≡ shower.old.dial }
+    ensures made { IsMadeBeside V.moves pace.now.stop pace.now.batch course.old.anneal course.new.anneal course.old.costs.items course.new.costs.items shower.old.shown shower.new.shown (W.contents report.old) (W.contents report.new) (W.failed report.old) (W.failed report.new) result }
 {
     let told = anneal_all(
         rt,
@@ -52,6 +48,8 @@ fn end_course<J: Naming, W: Sink, R: Threads + Wait + Sync>(
         &mut course.anneal,
         pace,
         &mut course.workers,
+        dial,
+        shower,
         report,
         &mut course.costs,
     );
@@ -59,38 +57,78 @@ fn end_course<J: Naming, W: Sink, R: Threads + Wait + Sync>(
     told
 }
 
-/// Makes the moves of a piece, each stage told as it ends, beside a crew that judges ahead.
-pub(crate) fn anneal_beside<J: Naming + Send + Sync, W: Sink, R: Threads + Wait + Sync>(
-    rt: &R,
-    alloc: Global,
-    crew: &Shared<Ahead<'_>, Verdict, J>,
-    course: &mut Course<'_, J>,
-    pace: &Pace,
-    report: &mut W,
+// A closure that calls another one at a borrowed argument gets no proof; this function does.
+fn called<O, F: FnMut(&mut O) -> Result<(), RunFault>>(
+    make: &mut F,
+    owner: &mut O,
 ) -> Result<(), RunFault>
-    requires moves { pace.now.moves ≡ course.old.anneal.plan.moves }
-    requires plan { IsLawful course.old.anneal.plan }
-    requires limits { (1 ≤ pace.now.batch) × (pace.now.batch ≤ 4096) }
-    ensures same { IsSameRun course.old.anneal course.new.anneal }
-    ensures made { OnOk result (AreMade stream_moves pace.now.stop pace.now.batch course.old.anneal course.new.anneal course.old.costs.items course.new.costs.items (W.contents report.old) (W.contents report.new)) }
-    ensures cut { IfErr result (AreCut (run_of stream_moves course.old.anneal) course.old.anneal.standing pace.now.stop (W.contents report.old) (W.contents report.new)) }
-    ensures sound { OnOk result (W.failed report.new ≡ W.failed report.old) }
-    ensures fault { IfErr result (IsReportFault (W.failed report.old) (W.failed report.new)) }
+    requires { (x : _) → x.now ≡ owner.old → F.pre make.old x }
+    ensures { CalledAtMut F.FnMut make.old owner.old result make.new owner.new }
 {
-    let workers = pace.workers;
+    make(owner)
+}
+
+// What an owner does, while a crew works. The owner's type is a parameter: the threads' closures do not cover one that borrows and has
+// parameters too.
+fn beside<
+    E: Task<T> + Send + Sync,
+    T: Drop + Send,
+    J: Naming + Send + Sync,
+    O,
+    F: FnMut(&mut O) -> Result<(), RunFault>,
+    R: Threads + Wait + Sync,
+>(rt: &R, crew: &Shared<E, T, J>, workers: u64, owner: &mut O, make: &mut F) -> Result<(), RunFault>
+    requires { (x : _) → x.now ≡ owner.old → F.pre make.old x }
+    ensures { CalledAtMut F.FnMut make.old owner.old result make.new owner.new }
+{
     let (_, told) = join_mut(
         rt,
         &mut || -> ()
             requires { IsSync R.row }
         { work_all(rt, crew, workers) },
         &mut || -> Result<(), RunFault>
-            requires { (pace.now.moves ≡ course.now.anneal.plan.moves) × (IsLawful course.now.anneal.plan) × ((1 ≤ pace.now.batch) × (pace.now.batch ≤ 4096)) }
-            ensures same { IsSameRun course.entry.now.anneal course.exit.now.anneal }
-            ensures made { OnOk result (AreMade stream_moves pace.entry.now.stop pace.entry.now.batch course.entry.now.anneal course.exit.now.anneal course.entry.now.costs.items course.exit.now.costs.items (W.contents report.entry.now) (W.contents report.exit.now)) }
-            ensures cut { IfErr result (AreCut (run_of stream_moves course.entry.now.anneal) course.entry.now.anneal.standing pace.entry.now.stop (W.contents report.entry.now) (W.contents report.exit.now)) }
-            ensures sound { OnOk result (W.failed report.exit.now ≡ W.failed report.entry.now) }
-            ensures fault { IfErr result (IsReportFault (W.failed report.entry.now) (W.failed report.exit.now)) }
-        { end_course(rt, alloc, course, pace, report) },
+            requires { (x : _) → x.now ≡ owner.now → F.pre make.now x }
+            ensures { CalledAtMut F.FnMut make.entry.now owner.entry.now result make.exit.now owner.exit.now }
+        { called(make, owner) },
     );
     told
+}
+
+/// Makes the moves of a piece, each stage told as it ends, beside a crew that judges ahead.
+pub(crate) fn anneal_beside<
+    E: Task<T> + Send + Sync,
+    T: Drop + Send,
+    V: Words + Sync + Drop,
+    G: Gate,
+    J: Naming + Send + Sync,
+    W: Sink,
+    R: Threads + Wait + Sync,
+>(
+    rt: &R,
+    alloc: Global,
+    crew: Arc<Shared<E, T, J>>,
+    course: &mut Course<'_, '_, V, G, J>,
+    pace: &Pace,
+    dial: &Dial,
+    shower: &mut Shower,
+    report: &mut W,
+) -> Result<(), RunFault>
+    requires moves { pace.now.moves ≡ course.old.anneal.plan.moves }
+    requires plan { IsLawful course.old.anneal.plan }
+    requires limits { (1 ≤ pace.now.batch) × (pace.now.batch ≤ 4096) }
+    requires own { shower.old.dial ≡ dial.now }
+    ensures dial { shower.new.dial ≡ shower.old.dial }
+    ensures made { IsMadeBeside V.moves pace.now.stop pace.now.batch course.old.anneal course.new.anneal course.old.costs.items course.new.costs.items shower.old.shown shower.new.shown (W.contents report.old) (W.contents report.new) (W.failed report.old) (W.failed report.new) result }
+{
+    beside(
+        rt,
+        &*crew,
+        pace.workers,
+        course,
+        &mut |c: &mut Course<'_, '_, V, G, J>| -> Result<(), RunFault>
+            requires { IsSync R.row × (pace.now.moves ≡ c.old.anneal.plan.moves) × IsLawful c.old.anneal.plan × ((1 ≤ pace.now.batch) × (pace.now.batch ≤ 4096)) × (shower.now.dial ≡ dial.now) }
+            ensures dial { shower.exit.now.dial ≡ shower.entry.now.dial }
+            ensures made { IsMadeBeside V.moves pace.entry.now.stop pace.entry.now.batch c.old.anneal c.new.anneal c.old.costs.items c.new.costs.items shower.entry.now.shown shower.exit.now.shown (W.contents report.entry.now) (W.contents report.exit.now) (W.failed report.entry.now) (W.failed report.exit.now) result }
+        { end_course(rt, alloc, c, pace, dial, shower, report) },
+    )
 }

@@ -2,6 +2,9 @@
 
 ghost use Rattle.fab_run.specs.Chains.{CallsAreRuns, ChainsAreRuns, ResumedCallsAreRuns};
 ghost use Rattle.fab_run.specs.SameAnswers.{AnswersAreTold, RedoneIsTold, ResumedAreTold, ResumedRedoneIsTold};
+ghost use Rattle.fab_run.specs.Watched.{PiecesShowStandings, TurnsShowStandings, WatchersReadInOrder, WatchersReadStandings};
+
+use fab_site::Words;
 
 /// The law that texts and numbers alone tell what a run answers: two runs of the same texts whose seed, size, schedule, moves and stop
 /// are the same end alike, and have the same placement, accepted moves, costs, report and place text, whatever their batches and numbers
@@ -28,4 +31,14 @@ pub fn chains_are_runs()
 pub fn calls_are_runs()
     ensures placed { CallsAreRuns }
     ensures resumed { ResumedCallsAreRuns }
+{}
+
+/// The law of a dial on which turns and pieces of runs alone show, as `Anneal::turn_shown` and `place_run_shown` do. What each shows is
+/// of standings of its run, in the order of their moves, also where it is not answered. So each reading that a watcher read, until it is
+/// gathered, is the first one of the dial or that of a standing; and where one run alone showed, they are in the order of its moves.
+pub fn watchers_read_standings<W: Words>()
+    ensures turns { TurnsShowStandings W.moves }
+    ensures pieces { PiecesShowStandings }
+    ensures watched { WatchersReadStandings }
+    ensures order { WatchersReadInOrder }
 {}

@@ -27,13 +27,15 @@ pub mod resuming;
 mod run_tests;
 pub mod setting;
 mod stages;
+#[cfg(test)]
+mod watched_tests;
 
 pub use check::check_run;
 pub use fab_commit::Point;
 pub use fault::{RunFault, fault_line};
 pub use inputs::{Ending, Inputs, Moves, Options, Outcome};
-pub use laws::{answers_are_told, calls_are_runs, chains_are_runs};
-pub use placing::place_run;
+pub use laws::{answers_are_told, calls_are_runs, chains_are_runs, watchers_read_standings};
+pub use placing::{place_run, place_run_shown};
 pub use point_fault::{PointFault, PointField};
 pub use point_reading::{point_texts_mean_or_fault, read_point};
 pub use point_writing::{write_point, written_points_read_back};

@@ -10,26 +10,28 @@ ghost use Rattle.fab_run.specs.Piece.{end_line};
 ghost use Rattle.fab_run.specs.Ends.{AreRedone, EndsAs, IsBegun, IsReportCutOf, IsReportOf, IsToldPiece, answer_of, piece_of};
 ghost use Rattle.fab_run.specs.Setting.{texts_of};
 ghost use Rattle.fab_run.specs.Placed.{IsDeviceFault, IsMade, IsPlaceFault, IsPlaceOut, IsReportFault, IsTextCut, IsUnreadyFor};
+ghost use Rattle.fab_run.specs.Shown.{AreShown, AreShownInPart};
 ghost use Rattle.fab_run.specs.Stages.{IsNew};
 ghost use Rattle.fab_run.specs.declared.fault.RunFault.TheVariants.{Place, Report};
 ghost use Rattle.fab_file.specs.declared.fault.PlaceFault.TheVariants.{Write};
 ghost use Rattle.fab_file.specs.Written.{IsCut, are_labels};
 
-use crate::crews::{Ahead, Course, anneal_beside};
+use crate::crews::{Course, anneal_beside};
 use crate::fault::RunFault;
 use crate::inputs::{Ending, Inputs, Outcome};
 use crate::report::final_line;
 use crate::stages::Pace;
 use fab_arch::Grid;
-use fab_board::{Naming, NoGate, Opened, found};
-use fab_commit::{Anneal, Workers};
+use fab_board::{Gate, Naming, Opened, Shared, Task, found};
+use fab_commit::{Anneal, Work, Workers};
+use fab_dial::{Dial, Reading, Shower};
 use fab_file::{PlaceFault, write_place};
 use fab_move::{StreamWords, Verdict};
 use fab_net::Design;
 use fab_text::{Sink, write_whole};
 use std::alloc::{AllocError, Global};
 use std::marker::Brand;
-use std::sync::Wait;
+use std::sync::{Arc, Wait};
 use std::thread::Threads;
 
 /// A piece that is asked for, beside the annealer that is to make it.
@@ -43,6 +45,19 @@ pub(crate) struct Piece<'d, 'g> {
     pub(crate) head: Vec<u8>,
     /// How the piece is made.
     pub(crate) pace: Pace,
+}
+
+/// A dial that nobody watches, for a run that is shown to nobody.
+pub(crate) fn unwatched<R: Wait>(rt: &R, alloc: Global) -> Result<(Dial, Shower), AllocError>
+    ensures { IfOk result (λ r. r.1.dial ≡ r.0) }
+{
+    let first = Reading {
+        moves: 0,
+        accepted: 0,
+        cost: 0,
+    };
+    let (dial, shower, _watchers) = Dial::new(rt, alloc, 0, first)?;
+    Ok((dial, shower))
 }
 
 /// How the piece of an annealer ended.
@@ -108,6 +123,28 @@ fn tell_start<W: Sink, P: Sink>(
     Ok(costs)
 }
 
+/// The same while a crew waits, which is answered too. Where the start was not told, the crew is let go here.
+fn start_beside<E: Task<T>, T: Drop, J: Naming, W: Sink, P: Sink>(
+    alloc: Global,
+    crew: Arc<Shared<E, T, J>>,
+    cost: u64,
+    head: &[u8],
+    report: &mut W,
+    place: &mut P,
+) -> Result<(Arc<Shared<E, T, J>>, Vec<u64>), RunFault>
+    ensures costs { IfOk result (λ r. r.1.items ≡ cost ∷ []) }
+    ensures told { OnOk result (Appends (W.contents report.old) (W.contents report.new) head.now) }
+    ensures cut { OnErr result (IsBegun (W.contents report.old) (W.contents report.new) head.now) }
+    ensures short { IfErr result (λ e. e ≡ Report → IsCut head.now (W.contents report.old) (W.contents report.new)) }
+    ensures unready { IfErr result (λ e. e ≡ Place Write → Appends (W.contents report.old) (W.contents report.new) head.now) }
+    ensures place { P.contents place.new ≡ P.contents place.old }
+    ensures sound { OnOk result ((W.failed report.new ≡ W.failed report.old) × (P.failed place.new ≡ P.failed place.old)) }
+    ensures fault { IfErr result (IsDeviceFault (W.failed report.old) (W.failed report.new) (P.failed place.old) (P.failed place.new)) }
+{
+    let costs = tell_start(alloc, cost, head, report, place)?;
+    Ok((crew, costs))
+}
+
 /// The last line of a report goes out, where no move is left.
 fn tell_last<W: Sink>(
     alloc: Global,
@@ -153,17 +190,29 @@ fn tell_end<W: Sink>(
     Ok(outcome)
 }
 
-/// Makes the moves of a piece beside a crew, and tells of it.
-fn anneal_told<'a, J: Naming + Send + Sync, W: Sink, P: Sink, R: Threads + Wait + Sync>(
+/// Makes the moves of a piece beside a crew, and tells of it. The gate is called beside each judgement and each commit.
+fn anneal_told<
+    'a,
+    'g,
+    G: Gate,
+    J: Naming + Send + Sync,
+    W: Sink,
+    P: Sink,
+    R: Threads + Wait + Sync,
+>(
     rt: &R,
     alloc: Global,
-    opened: Opened<Ahead<'a>>,
+    opened: Opened<Work<'a, 'g, StreamWords, G>>,
     anneal: Anneal<'a, StreamWords>,
     piece: &Piece<'_, '_>,
+    gate: &'g G,
+    dial: &Dial,
+    shower: &mut Shower,
     report: &mut W,
     place: &mut P,
 ) -> Result<Outcome, RunFault>
     requires book { opened ≡ J.book }
+    requires own { shower.old.dial ≡ dial.now }
     requires fresh { IsNew anneal }
     requires moves { piece.now.pace.moves ≡ anneal.plan.moves }
     requires plan { IsLawful anneal.plan }
@@ -176,17 +225,24 @@ fn anneal_told<'a, J: Naming + Send + Sync, W: Sink, P: Sink, R: Threads + Wait 
     ensures place { P.contents place.new ≡ P.contents place.old }
     ensures sound { OnOk result ((W.failed report.new ≡ W.failed report.old) × (P.failed place.new ≡ P.failed place.old)) }
     ensures fault { IfErr result (IsDeviceFault (W.failed report.old) (W.failed report.new) (P.failed place.old) (P.failed place.new)) }
+    ensures dial { shower.new.dial ≡ shower.old.dial }
+    ensures shown { OnOk result (AreShown (piece_of stream_moves anneal.entry piece.now.head.items piece.now.pace.stop) piece.now.pace.batch shower.old.shown shower.new.shown) }
+    ensures shown_cut { OnErr result (AreShownInPart (piece_of stream_moves anneal.entry piece.now.head.items piece.now.pace.stop) piece.now.pace.batch shower.old.shown shower.new.shown) }
 {
     let pace = piece.pace;
-    let (crew, lead) = found::<Ahead<'a>, Verdict, J>(alloc, opened, pace.workers)?;
-    let workers = Workers::standing(lead, pace.workers, &NoGate);
-    let costs = tell_start(alloc, anneal.cost(), &piece.head, report, place)?;
+    let (crew, lead) = found::<Work<'a, 'g, StreamWords, G>, Verdict, J>(
+        alloc,
+        opened,
+        pace.workers,
+    )?;
+    let workers = Workers::standing(lead, pace.workers, gate);
+    let (crew, costs) = start_beside(alloc, crew, anneal.cost(), &piece.head, report, place)?;
     let mut course = Course {
         anneal,
         workers,
         costs,
     };
-    anneal_beside(rt, alloc, &crew, &mut course, &pace, report)?;
+    anneal_beside(rt, alloc, crew, &mut course, &pace, dial, shower, report)?;
     let Course {
         anneal,
         workers: _,
@@ -222,14 +278,19 @@ fn tell_placement<P: Sink>(
 
 /// Makes a piece. The lines of its report go out as its stages end, and the place text once the report is whole, where the piece finishes
 /// the run. Before the first move, when the head of the report has gone out, the writer of the place text is asked whether it is ready.
-pub(crate) fn run_piece<R: AllocGlobal + Threads + Wait + Sync, W: Sink, P: Sink>(
+/// The gate is called beside each judgement and each commit, and the dial shows how far the run has come, once for each turn.
+pub(crate) fn run_piece<G: Gate, R: AllocGlobal + Threads + Wait + Sync, W: Sink, P: Sink>(
     rt: &R,
     anneal: Anneal<'_, StreamWords>,
     inputs: &Inputs,
     piece: &Piece<'_, '_>,
+    gate: &G,
+    dial: &Dial,
+    shower: &mut Shower,
     report: &mut W,
     place: &mut P,
 ) -> Result<Outcome, RunFault>
+    requires own { shower.old.dial ≡ dial.now }
     requires fresh { IsNew anneal }
     requires design { piece.now.design.now ≡ anneal.design }
     requires grid { piece.now.grid.now ≡ anneal.grid }
@@ -245,14 +306,20 @@ pub(crate) fn run_piece<R: AllocGlobal + Threads + Wait + Sync, W: Sink, P: Sink
     ensures place_cut { IfErr result (λ e. e ≡ Place Write → IsUnreadyFor (piece_of stream_moves anneal.entry piece.now.head.items piece.now.pace.stop) (W.contents report.old) (W.contents report.new) (P.contents place.old) (P.contents place.new) ⊎ IsTextCut (texts_of inputs.now) (piece_of stream_moves anneal.entry piece.now.head.items piece.now.pace.stop) (W.contents report.old) (W.contents report.new) (P.contents place.old) (P.contents place.new)) }
     ensures sound { OnOk result ((W.failed report.new ≡ W.failed report.old) × (P.failed place.new ≡ P.failed place.old)) }
     ensures fault { IfErr result (IsDeviceFault (W.failed report.old) (W.failed report.new) (P.failed place.old) (P.failed place.new)) }
+    ensures dial { shower.new.dial ≡ shower.old.dial }
+    ensures shown { OnOk result (AreShown (piece_of stream_moves anneal.entry piece.now.head.items piece.now.pace.stop) piece.now.pace.batch shower.old.shown shower.new.shown) }
+    ensures shown_cut { OnErr result (AreShownInPart (piece_of stream_moves anneal.entry piece.now.head.items piece.now.pace.stop) piece.now.pace.batch shower.old.shown shower.new.shown) }
 {
     let alloc = rt.alloc();
-    let outcome = anneal_told::<Brand, W, P, R>(
+    let outcome = anneal_told::<G, Brand, W, P, R>(
         rt,
         alloc,
         Opened::new(),
         anneal,
         piece,
+        gate,
+        dial,
+        shower,
         report,
         place,
     )?;

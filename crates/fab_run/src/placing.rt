@@ -8,18 +8,21 @@ ghost use Rattle.fab_run.specs.Check.{report_failed_with};
 ghost use Rattle.fab_run.specs.Ends.{AreRedone, Piece as PieceAsked, answer_of};
 ghost use Rattle.fab_run.specs.Setting.{IsSetting, Setting, setting_of, texts_of};
 ghost use Rattle.fab_run.specs.RunChecks.{IsRefusal, IsRunFault, place_failed_with};
+ghost use Rattle.fab_run.specs.Shown.{HaveShown, HaveShownInPart};
 ghost use Rattle.fab_run.specs.Placed.{AskFor, IsPlaceCut, IsPlaced, IsReportBegun, IsReportCut, head_by, start_by};
 ghost use Rattle.fab_run.specs.declared.fault.RunFault.TheVariants.{Place, Report};
 ghost use Rattle.fab_file.specs.declared.fault.PlaceFault.TheVariants.{Write};
 
 use crate::fault::RunFault;
 use crate::inputs::{Inputs, Options, Outcome};
-use crate::piece::{Piece, run_piece};
+use crate::piece::{Piece, run_piece, unwatched};
 use crate::report::head_lines;
 use crate::setting::read_setting;
 use crate::stages::Pace;
 use fab_arch::Grid;
+use fab_board::{Gate, NoGate};
 use fab_commit::Anneal;
+use fab_dial::{Dial, Shower};
 use fab_move::StreamWords;
 use fab_net::Design;
 use fab_sched::Schedule;
@@ -66,6 +69,70 @@ fn begin<'a>(
     Ok((anneal, head))
 }
 
+/// Places the design of a run as `place_run` does, and shows on the dial how far it has come: the moves made, those accepted among them
+/// and the cost, in ten-thousandths. There is one reading for each turn that is answered: where each turn but the first begins, and
+/// where the last ends. Turns are of `batch` moves, counted from the first move of each stage, and the last one of a stage or of a
+/// stopped run may be shorter. The shower is one of this dial by condition.
+///
+/// The gate is called before and after each judgement of a worker, and before each commit. What is placed and written is that of
+/// `place_run`, whatever the gate does, if its calls return.
+pub fn place_run_shown<G: Gate, R: AllocGlobal + Threads + Wait + Sync, W: Sink, P: Sink>(
+    rt: &R,
+    inputs: &Inputs,
+    options: &Options,
+    gate: &G,
+    dial: &Dial,
+    shower: &mut Shower,
+    report: &mut W,
+    place: &mut P,
+) -> Result<Outcome, RunFault>
+    requires own { shower.old.dial ≡ dial.now }
+    // The headline: placement, accepted moves, costs, report, ending and place text are those of annealing one move at a time.
+    ensures headline { IfOk result (λ out. IsPlaced (AskFor (texts_of inputs.now) options.now) (texts_of inputs.now) (answer_of out) (W.contents report.old) (W.contents report.new) (P.contents place.old) (P.contents place.new)) }
+    // How many moves were judged again is told by setting, seed, stop and batch, and not by the number of workers.
+    ensures redone { IfOk result (λ out. (p : PieceAsked) × AskFor (texts_of inputs.now) options.now p × AreRedone p options.now.batch out.redone) }
+    // Where no check fails, it is answered, unless memory or a writer fails.
+    ensures only { (s : Setting) → IsSetting (texts_of inputs.now) options.now s → IfErr result (λ e. ¬ IsRefusal e) }
+    // An error is the first check that fails, or want of memory, or that of the writer that failed.
+    ensures fault { IfErr result (IsRunFault (texts_of inputs.now) options.now) }
+    // A run that is refused writes nothing; at any other fault a beginning of the report may have gone out.
+    ensures silent { IfErr result (λ e. IsRefusal e → W.contents report.new ≡ W.contents report.old) }
+    ensures cut { OnErr result ((W.contents report.new ≡ W.contents report.old) ⊎ IsReportBegun (AskFor (texts_of inputs.now) options.now) (W.contents report.old) (W.contents report.new)) }
+    ensures report_cut { IfErr result (λ e. e ≡ Report → IsReportCut (AskFor (texts_of inputs.now) options.now) (W.contents report.old) (W.contents report.new)) }
+    // The place text goes out behind the whole report, and only its own writer can cut it off. Where that is not ready, no move is
+    // made.
+    ensures unplaced { IfErr result (λ e. e ≢ Place Write → P.contents place.new ≡ P.contents place.old) }
+    ensures place_cut { IfErr result (λ e. e ≡ Place Write → IsPlaceCut (AskFor (texts_of inputs.now) options.now) (texts_of inputs.now) (W.contents report.old) (W.contents report.new) (P.contents place.old) (P.contents place.new)) }
+    // A writer failed only where the answer says so.
+    ensures sound { OnOk result ((W.failed report.new ≡ W.failed report.old) × (P.failed place.new ≡ P.failed place.old)) }
+    ensures failed { IfErr result (λ e. (W.failed report.new ≡ report_failed_with e (W.failed report.old)) × (P.failed place.new ≡ place_failed_with e (P.failed place.old))) }
+    // Shown is how far the run had come where each turn but the first began, and at its end.
+    ensures shown { OnOk result (HaveShown (AskFor (texts_of inputs.now) options.now) options.now.batch shower.old.shown shower.new.shown) }
+    // A run that is refused shows nothing, and any other fault leaves a beginning of that.
+    ensures unshown { IfErr result (λ e. IsRefusal e → shower.new.shown ≡ shower.old.shown) }
+    ensures shown_cut { OnErr result ((shower.new.shown ≡ shower.old.shown) ⊎ HaveShownInPart (AskFor (texts_of inputs.now) options.now) options.now.batch shower.old.shown shower.new.shown) }
+    ensures dial { shower.new.dial ≡ shower.old.dial }
+{
+    let alloc = rt.alloc();
+    let (design, grid, pins, schedule) = read_setting(alloc, inputs, options)?;
+    let pace = Pace {
+        moves: schedule.moves(),
+        batch: options.batch,
+        workers: options.workers,
+        stop: options.stop,
+    };
+    let (anneal, head) = begin(alloc, &design, &grid, pins, schedule, options.seed)?;
+    let piece = Piece {
+        design: &design,
+        grid: &grid,
+        head,
+        pace,
+    };
+    run_piece(
+        rt, anneal, inputs, &piece, gate, dial, shower, report, place,
+    )
+}
+
 /// Places the design of a run: anneals it from a start placement, by random words of the seed, to the last move or to the stop.
 /// Workers judge moves ahead, and moves are committed in order of number, so that the answer is that of one move after another. The
 /// report's lines go out as their stages end, and the place text once the report is whole; a run that stops writes no place text, and
@@ -103,20 +170,15 @@ pub fn place_run<R: AllocGlobal + Threads + Wait + Sync, W: Sink, P: Sink>(
     ensures sound { OnOk result ((W.failed report.new ≡ W.failed report.old) × (P.failed place.new ≡ P.failed place.old)) }
     ensures failed { IfErr result (λ e. (W.failed report.new ≡ report_failed_with e (W.failed report.old)) × (P.failed place.new ≡ place_failed_with e (P.failed place.old))) }
 {
-    let alloc = rt.alloc();
-    let (design, grid, pins, schedule) = read_setting(alloc, inputs, options)?;
-    let pace = Pace {
-        moves: schedule.moves(),
-        batch: options.batch,
-        workers: options.workers,
-        stop: options.stop,
-    };
-    let (anneal, head) = begin(alloc, &design, &grid, pins, schedule, options.seed)?;
-    let piece = Piece {
-        design: &design,
-        grid: &grid,
-        head,
-        pace,
-    };
-    run_piece(rt, anneal, inputs, &piece, report, place)
+    let (dial, mut shower) = unwatched(rt, rt.alloc())?;
+    place_run_shown(
+        rt,
+        inputs,
+        options,
+        &NoGate,
+        &dial,
+        &mut shower,
+        report,
+        place,
+    )
 }

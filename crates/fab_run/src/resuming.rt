@@ -7,6 +7,7 @@ ghost use Rattle.fab_run.specs.Ends.{AreRedone, Piece as PieceAsked, answer_of};
 ghost use Rattle.fab_run.specs.Going.{Going, HasPoint, IsGoing, IsGoingFault, IsGoingNumberFault, IsGoingTextFault};
 ghost use Rattle.fab_run.specs.Setting.{Within, texts_of};
 ghost use Rattle.fab_run.specs.RunChecks.{IsRefusal, place_failed_with};
+ghost use Rattle.fab_run.specs.Shown.{HaveShown, HaveShownInPart};
 ghost use Rattle.fab_run.specs.Placed.{AskToGoOn, IsPlaceCut, IsPlaced, IsReportBegun, IsReportCut};
 ghost use Rattle.fab_run.specs.declared.fault.RunFault.TheVariants.{NoMemory, Place, Report};
 ghost use Rattle.fab_file.specs.declared.fault.PlaceFault.TheVariants.{Write};
@@ -14,12 +15,14 @@ ghost use Rattle.fab_file.specs.declared.fault.PlaceFault.TheVariants.{Write};
 use crate::designs::read_design;
 use crate::fault::RunFault;
 use crate::inputs::{Inputs, Outcome};
-use crate::piece::{Piece, run_piece};
+use crate::piece::{Piece, run_piece, unwatched};
 use crate::point_reading::point_for;
 use crate::setting::check_threads;
 use crate::stages::Pace;
 use fab_arch::Grid;
+use fab_board::{Gate, NoGate};
 use fab_commit::{Anneal, Point};
+use fab_dial::{Dial, Shower};
 use fab_file::{PlaceFault, are_labels};
 use fab_move::StreamWords;
 use fab_net::Design;
@@ -75,6 +78,57 @@ fn read_going(
     Ok((design, seed, grid, point))
 }
 
+/// Goes on with a run as `resume_run` does, and shows on the dial how far it has come, as `place_run_shown` does.
+pub(crate) fn resume_run_shown<G: Gate, R: AllocGlobal + Threads + Wait + Sync, W: Sink, P: Sink>(
+    rt: &R,
+    inputs: &Inputs,
+    point: &[u8],
+    batch: u64,
+    workers: u64,
+    stop: Option<u64>,
+    gate: &G,
+    dial: &Dial,
+    shower: &mut Shower,
+    report: &mut W,
+    place: &mut P,
+) -> Result<Outcome, RunFault>
+    requires own { shower.old.dial ≡ dial.now }
+    ensures headline { IfOk result (λ out. IsPlaced (AskToGoOn (texts_of inputs.now) point.now batch workers stop) (texts_of inputs.now) (answer_of out) (W.contents report.old) (W.contents report.new) (P.contents place.old) (P.contents place.new)) }
+    ensures redone { IfOk result (λ out. (p : PieceAsked) × AskToGoOn (texts_of inputs.now) point.now batch workers stop p × AreRedone p batch out.redone) }
+    ensures only { (s : Going) → IsGoing (texts_of inputs.now) point.now batch workers s → IfErr result (λ e. ¬ IsRefusal e) }
+    ensures fault { IfErr result (IsGoingFault (texts_of inputs.now) point.now batch workers) }
+    ensures silent { IfErr result (λ e. IsRefusal e → W.contents report.new ≡ W.contents report.old) }
+    ensures cut { OnErr result ((W.contents report.new ≡ W.contents report.old) ⊎ IsReportBegun (AskToGoOn (texts_of inputs.now) point.now batch workers stop) (W.contents report.old) (W.contents report.new)) }
+    ensures report_cut { IfErr result (λ e. e ≡ Report → IsReportCut (AskToGoOn (texts_of inputs.now) point.now batch workers stop) (W.contents report.old) (W.contents report.new)) }
+    ensures unplaced { IfErr result (λ e. e ≢ Place Write → P.contents place.new ≡ P.contents place.old) }
+    ensures place_cut { IfErr result (λ e. e ≡ Place Write → IsPlaceCut (AskToGoOn (texts_of inputs.now) point.now batch workers stop) (texts_of inputs.now) (W.contents report.old) (W.contents report.new) (P.contents place.old) (P.contents place.new)) }
+    ensures sound { OnOk result ((W.failed report.new ≡ W.failed report.old) × (P.failed place.new ≡ P.failed place.old)) }
+    ensures failed { IfErr result (λ e. (W.failed report.new ≡ report_failed_with e (W.failed report.old)) × (P.failed place.new ≡ place_failed_with e (P.failed place.old))) }
+    ensures shown { OnOk result (HaveShown (AskToGoOn (texts_of inputs.now) point.now batch workers stop) batch shower.old.shown shower.new.shown) }
+    ensures unshown { IfErr result (λ e. IsRefusal e → shower.new.shown ≡ shower.old.shown) }
+    ensures shown_cut { OnErr result ((shower.new.shown ≡ shower.old.shown) ⊎ HaveShownInPart (AskToGoOn (texts_of inputs.now) point.now batch workers stop) batch shower.old.shown shower.new.shown) }
+    ensures dial { shower.new.dial ≡ shower.old.dial }
+{
+    let alloc = rt.alloc();
+    let (design, seed, grid, point) = read_going(alloc, inputs, point, batch, workers)?;
+    let pace = Pace {
+        moves: point.schedule.moves(),
+        batch,
+        workers,
+        stop,
+    };
+    let anneal = Anneal::from_point(alloc, &design, &grid, point, StreamWords::new(seed))?;
+    let piece = Piece {
+        design: &design,
+        grid: &grid,
+        head: Vec::new(alloc),
+        pace,
+    };
+    run_piece(
+        rt, anneal, inputs, &piece, gate, dial, shower, report, place,
+    )
+}
+
 /// Goes on with a run from a checkpoint text, to its last move or to the stop: what it answers and writes is that of annealing one move
 /// at a time from there. The report goes on behind that of the run before: it has no first two lines, and the line of the running stage
 /// counts the moves before the stop too. `inputs.pads` is not read: fixed blocks are those of the point.
@@ -111,20 +165,18 @@ pub fn resume_run<R: AllocGlobal + Threads + Wait + Sync, W: Sink, P: Sink>(
     ensures sound { OnOk result ((W.failed report.new ≡ W.failed report.old) × (P.failed place.new ≡ P.failed place.old)) }
     ensures failed { IfErr result (λ e. (W.failed report.new ≡ report_failed_with e (W.failed report.old)) × (P.failed place.new ≡ place_failed_with e (P.failed place.old))) }
 {
-    let alloc = rt.alloc();
-    let (design, seed, grid, point) = read_going(alloc, inputs, point, batch, workers)?;
-    let pace = Pace {
-        moves: point.schedule.moves(),
+    let (dial, mut shower) = unwatched(rt, rt.alloc())?;
+    resume_run_shown(
+        rt,
+        inputs,
+        point,
         batch,
         workers,
         stop,
-    };
-    let anneal = Anneal::from_point(alloc, &design, &grid, point, StreamWords::new(seed))?;
-    let piece = Piece {
-        design: &design,
-        grid: &grid,
-        head: Vec::new(alloc),
-        pace,
-    };
-    run_piece(rt, anneal, inputs, &piece, report, place)
+        &NoGate,
+        &dial,
+        &mut shower,
+        report,
+        place,
+    )
 }

@@ -1,18 +1,21 @@
 //! The stages of a run, one after another, each told as it ends.
 
-ghost use Rattle.std.specs.Prelude.{◌≡◌, ℕ, ◌+◌, ◌<◌, ◌≤◌, ◌++◌, Some, OnOk, IfOk, IfErr, MatchOption};
+ghost use Rattle.std.specs.Prelude.{◌≡◌, ℕ, ◌+◌, ◌-◌, ◌<◌, ◌≤◌, ◌++◌, Some, OnOk, OnErr, IfOk, IfErr, MatchOption};
 ghost use Rattle.fab_sched.specs.Annealing.{IsLawful};
 ghost use Rattle.fab_commit.specs.Serial.{accepted_among, from, moves_left, stage_of};
 ghost use Rattle.fab_commit.specs.ByTurns.{LeadsByTurns};
 ghost use Rattle.fab_commit.specs.Commits.{IsSameRun, run_of};
+ghost use Rattle.fab_commit.specs.Readings.{readings};
 ghost use Rattle.fab_run.specs.Piece.{stage_costs, stage_lines};
 ghost use Rattle.fab_run.specs.Placed.{IsReportFault};
+ghost use Rattle.fab_run.specs.Shown.{AreShownBegun, EndsShown, LeadsShown, LeadsShownWithin};
 ghost use Rattle.fab_run.specs.Stages.{AreCountedOn, AreCut, AreMade};
 
 use crate::fault::RunFault;
 use crate::report::stage_line;
-use fab_board::{Naming, NoGate};
+use fab_board::{Gate, Naming};
 use fab_commit::{Anneal, Workers};
+use fab_dial::{Dial, Shower};
 use fab_sched::Stage;
 use fab_site::Words;
 use fab_text::{Sink, write_whole};
@@ -34,25 +37,31 @@ pub(crate) struct Pace {
 }
 
 /// Makes the moves that are left in the running stage, by turns of a batch.
-fn make_stage<'a, V: Words + Sync + Drop, J: Naming, R: Threads + Wait + Sync>(
+fn make_stage<'a, V: Words + Sync + Drop, G: Gate, J: Naming, R: Threads + Wait + Sync>(
     rt: &R,
     anneal: &mut Anneal<'a, V>,
     left: u64,
     batch: u64,
-    workers: &mut Workers<'a, '_, V, NoGate, J>,
+    workers: &mut Workers<'a, '_, V, G, J>,
+    dial: &Dial,
+    shower: &mut Shower,
 ) -> Result<(), AllocError>
     requires left { left ≡ moves_left (run_of V.moves anneal.old) anneal.old.standing }
+    requires own { shower.old.dial ≡ dial.now }
     requires limits { (1 ≤ batch) × (batch ≤ 4096) }
     ensures same { IsSameRun anneal.old anneal.new }
     ensures ok { OnOk result (anneal.new.standing.done ≡ anneal.old.standing.done + left) }
     ensures stands { OnOk result (anneal.new.standing ≡ from (run_of V.moves anneal.old) anneal.old.standing left) }
     ensures accepted { OnOk result (anneal.new.accepted ≡ anneal.old.accepted ++ accepted_among (run_of V.moves anneal.old) anneal.old.standing left) }
     ensures turns { OnOk result (LeadsByTurns (run_of V.moves anneal.old) batch anneal.old anneal.new) }
+    ensures dial { shower.new.dial ≡ shower.old.dial }
+    ensures shown { OnOk result (LeadsShown (run_of V.moves anneal.old) batch anneal.old.standing anneal.new.standing shower.old.shown shower.new.shown) }
+    ensures shown_cut { OnErr result (LeadsShownWithin (run_of V.moves anneal.old) batch anneal.old.standing left shower.old.shown shower.new.shown) }
 {
     let mut made = 0;
     while made < left {
         let before = anneal.done();
-        anneal.turn_by(rt, batch, workers)?;
+        anneal.turn_shown_by(rt, batch, workers, dial, shower)?;
         made += anneal.done() - before;
     }
     Ok(())
@@ -78,49 +87,58 @@ fn moves_before(stop: Option<u64>, done: u64, left: u64) -> Option<u64>
 
 /// Makes the next moves of the running stage, fewer than are left in it: by turns of a batch, and a shorter one at the end where some
 /// are left over.
-fn make_part<'a, V: Words + Sync + Drop, J: Naming, R: Threads + Wait + Sync>(
+fn make_part<'a, V: Words + Sync + Drop, G: Gate, J: Naming, R: Threads + Wait + Sync>(
     rt: &R,
     anneal: &mut Anneal<'a, V>,
     count: u64,
     batch: u64,
-    workers: &mut Workers<'a, '_, V, NoGate, J>,
+    workers: &mut Workers<'a, '_, V, G, J>,
+    dial: &Dial,
+    shower: &mut Shower,
 ) -> Result<(), AllocError>
     requires part { count < moves_left (run_of V.moves anneal.old) anneal.old.standing }
+    requires own { shower.old.dial ≡ dial.now }
     requires limits { (1 ≤ batch) × (batch ≤ 4096) }
     ensures same { IsSameRun anneal.old anneal.new }
     ensures done { OnOk result (anneal.new.standing.done ≡ anneal.old.standing.done + count) }
     ensures stands { OnOk result (anneal.new.standing ≡ from (run_of V.moves anneal.old) anneal.old.standing count) }
     ensures accepted { OnOk result (anneal.new.accepted ≡ anneal.old.accepted ++ accepted_among (run_of V.moves anneal.old) anneal.old.standing count) }
     ensures counted { OnOk result (AreCountedOn (run_of V.moves anneal.old) batch anneal.old anneal.new) }
+    ensures dial { shower.new.dial ≡ shower.old.dial }
+    ensures shown { OnOk result (EndsShown (run_of V.moves anneal.old) batch anneal.old.standing anneal.new.standing shower.old.shown shower.new.shown) }
+    ensures shown_cut { OnErr result (LeadsShownWithin (run_of V.moves anneal.old) batch anneal.old.standing count shower.old.shown shower.new.shown) }
 {
     let mut made = 0;
     while batch <= count - made {
         let before = anneal.done();
-        anneal.turn_by(rt, batch, workers)?;
+        anneal.turn_shown_by(rt, batch, workers, dial, shower)?;
         made += anneal.done() - before;
     }
     if made == count {
         return Ok(());
     }
-    anneal.turn_by(rt, count - made, workers)?;
+    anneal.turn_shown_by(rt, count - made, workers, dial, shower)?;
     Ok(())
 }
 
 /// Makes the moves that are left in the running stage. The answer is the line that tells of the stage; its cost stands
 /// last among the costs.
-fn end_stage<'a, V: Words + Sync + Drop, J: Naming, R: Threads + Wait + Sync>(
+fn end_stage<'a, V: Words + Sync + Drop, G: Gate, J: Naming, R: Threads + Wait + Sync>(
     rt: &R,
     alloc: Global,
     anneal: &mut Anneal<'a, V>,
     stage: Stage,
     moves: u64,
     batch: u64,
-    workers: &mut Workers<'a, '_, V, NoGate, J>,
+    workers: &mut Workers<'a, '_, V, G, J>,
+    dial: &Dial,
+    shower: &mut Shower,
     costs: &mut Vec<u64>,
 ) -> Result<Vec<u8>, AllocError>
     requires stage { Some stage ≡ stage_of (run_of V.moves anneal.old) anneal.old.standing }
     requires moves { moves ≡ anneal.old.plan.moves }
     requires some { 1 ≤ moves }
+    requires own { shower.old.dial ≡ dial.now }
     requires limits { (1 ≤ batch) × (batch ≤ 4096) }
     ensures same { IsSameRun anneal.old anneal.new }
     ensures turns { OnOk result (LeadsByTurns (run_of V.moves anneal.old) batch anneal.old anneal.new) }
@@ -129,10 +147,13 @@ fn end_stage<'a, V: Words + Sync + Drop, J: Naming, R: Threads + Wait + Sync>(
     ensures accepted { OnOk result (anneal.new.accepted ≡ anneal.old.accepted ++ accepted_among (run_of V.moves anneal.old) anneal.old.standing (moves_left (run_of V.moves anneal.old) anneal.old.standing)) }
     ensures costs { OnOk result (costs.new.items ≡ costs.old.items ++ stage_costs (run_of V.moves anneal.old) anneal.old.standing (moves_left (run_of V.moves anneal.old) anneal.old.standing)) }
     ensures line { IfOk result (λ v. v.items ≡ stage_lines (run_of V.moves anneal.old) anneal.old.standing (moves_left (run_of V.moves anneal.old) anneal.old.standing)) }
+    ensures dial { shower.new.dial ≡ shower.old.dial }
+    ensures shown { OnOk result (LeadsShown (run_of V.moves anneal.old) batch anneal.old.standing anneal.new.standing shower.old.shown shower.new.shown) }
+    ensures shown_cut { OnErr result (LeadsShownWithin (run_of V.moves anneal.old) batch anneal.old.standing (moves_left (run_of V.moves anneal.old) anneal.old.standing) shower.old.shown shower.new.shown) }
 {
     let before = anneal.total();
     let _begun = anneal.done();
-    make_stage(rt, anneal, moves - stage.done, batch, workers)?;
+    make_stage(rt, anneal, moves - stage.done, batch, workers, dial, shower)?;
     let _made = anneal.done();
     let cost = anneal.cost();
     let accepted = stage.accepted + (anneal.total() - before);
@@ -149,31 +170,46 @@ fn end_stage<'a, V: Words + Sync + Drop, J: Naming, R: Threads + Wait + Sync>(
 }
 
 /// Makes the moves of a piece, up to its stop or to the last one, each stage told as it ends.
-pub(crate) fn anneal_all<'a, V: Words + Sync + Drop, W: Sink, J: Naming, R: Threads + Wait + Sync>(
+pub(crate) fn anneal_all<
+    'a,
+    V: Words + Sync + Drop,
+    G: Gate,
+    W: Sink,
+    J: Naming,
+    R: Threads + Wait + Sync,
+>(
     rt: &R,
     alloc: Global,
     anneal: &mut Anneal<'a, V>,
     pace: &Pace,
-    workers: &mut Workers<'a, '_, V, NoGate, J>,
+    workers: &mut Workers<'a, '_, V, G, J>,
+    dial: &Dial,
+    shower: &mut Shower,
     report: &mut W,
     costs: &mut Vec<u64>,
 ) -> Result<(), RunFault>
     requires moves { pace.now.moves ≡ anneal.old.plan.moves }
     requires plan { IsLawful anneal.old.plan }
+    requires own { shower.old.dial ≡ dial.now }
     requires limits { (1 ≤ pace.now.batch) × (pace.now.batch ≤ 4096) }
     ensures same { IsSameRun anneal.old anneal.new }
     ensures made { OnOk result (AreMade V.moves pace.now.stop pace.now.batch anneal.old anneal.new costs.old.items costs.new.items (W.contents report.old) (W.contents report.new)) }
     ensures cut { IfErr result (AreCut (run_of V.moves anneal.old) anneal.old.standing pace.now.stop (W.contents report.old) (W.contents report.new)) }
     ensures sound { OnOk result (W.failed report.new ≡ W.failed report.old) }
     ensures fault { IfErr result (IsReportFault (W.failed report.old) (W.failed report.new)) }
+    ensures dial { shower.new.dial ≡ shower.old.dial }
+    ensures shown { OnOk result (shower.new.shown ≡ shower.old.shown ++ readings (run_of V.moves anneal.old) anneal.old.standing pace.now.batch (anneal.new.standing.done - anneal.old.standing.done)) }
+    ensures shown_cut { OnErr result (AreShownBegun (run_of V.moves anneal.old) anneal.old.standing pace.now.stop pace.now.batch shower.old.shown shower.new.shown) }
 {
     let moves = pace.moves;
     while let Some(stage) = anneal.stage() {
         if let Some(rest) = moves_before(pace.stop, anneal.done(), moves - stage.done) {
-            make_part(rt, anneal, rest, pace.batch, workers)?;
+            make_part(rt, anneal, rest, pace.batch, workers, dial, shower)?;
             return Ok(());
         }
-        let line = end_stage(rt, alloc, anneal, stage, moves, pace.batch, workers, costs)?;
+        let line = end_stage(
+            rt, alloc, anneal, stage, moves, pace.batch, workers, dial, shower, costs,
+        )?;
         write_whole(report, &line)?;
     }
     Ok(())

@@ -5,6 +5,7 @@ use Rattle.fab_move.specs.Stream.{stream_moves}
 use Rattle.fab_run.specs.Ends.{IsReportOf, answer_of, piece_of}
 use Rattle.fab_run.specs.Setting.{texts_of}
 use Rattle.fab_run.proofs.Whole.{begun_whole, text_cut}
+use Rattle.fab_run.proofs.Showing.{part_whole}
 use Rattle.fab_run.proofs.piece.run_piece.Goals as goal
 
 pub tell_placement-requires-clause-legal : goal.tell_placement-requires-clause-legal
@@ -31,3 +32,9 @@ returns-in_err-tell_placement-clause-place_cut g c =
     (g.W.Sink.contents c.args.report.now) (g.W.Sink.contents c.anneal_told.new.report) (g.P.Sink.contents c.args.place.now) (g.P.Sink.contents c.anneal_told.new.place) (g.P.Sink.contents c.tell_placement.new.place)
     (g.P.Sink.failed c.anneal_told.new.place) (g.P.Sink.failed c.tell_placement.new.place) c.in_err-tell_placement.field-0.0
     c.requires.design c.requires.grid c.in_ok-outcome.ensures.annealed c.in_ok-outcome.ensures.place c.in_err-tell_placement.ensures.fault q))
+
+pub returns-in_err-tell_placement-clause-shown_cut : goal.returns-in_err-tell_placement-clause-shown_cut
+returns-in_err-tell_placement-clause-shown_cut g c =
+    let p = piece_of stream_moves c.args.anneal c.args.piece.now.head.items c.args.piece.now.pace.stop in
+    let fact = part_whole p c.args.piece.now.pace.batch c.args.shower.now.shown c.anneal_told.new.shower.shown c.in_ok-outcome.ensures.shown in
+    search (rules, fact)

@@ -5,7 +5,8 @@ use Rattle.fab_run.specs.Placed.{AskFor, piece_by}
 use Rattle.fab_run.specs.RunChecks.{IsRefusal, IsRunFault}
 use Rattle.fab_run.specs.Setting.{IsSetting, setting_of, texts_of}
 use Rattle.fab_run.proofs.Lifting.{cut_asked, failed_of_device, fault_of_device, made_asked, place_cut_asked, redone_asked, report_cut_asked}
-use Rattle.fab_run.proofs.placing.place_run.Goals as goal
+use Rattle.fab_run.proofs.Showing.{part_asked, shown_asked}
+use Rattle.fab_run.proofs.placing.place_run_shown.Goals as goal
 
 pub returns-clause-headline : goal.returns-clause-headline
 returns-clause-headline g c =
@@ -75,3 +76,26 @@ returns-clause-silent g c = fault_of_device (λ f. IsRefusal f → g.W.Sink.cont
 
 pub returns-clause-failed : goal.returns-clause-failed
 returns-clause-failed g c = failed_of_device _ _ _ _ c.run_piece.result c.run_piece.ensures.fault
+
+pub returns-clause-shown : goal.returns-clause-shown
+returns-clause-shown g c =
+    let t = texts_of c.args.inputs.now in
+    let o = c.args.options.now in
+    let s = setting_of c.in_ok-design.design c.in_ok-design.grid c.in_ok-design.pins.fixed c.in_ok-design.pins.begun c.in_ok-design.schedule in
+    let given : IsSetting t o s = c.in_ok-design.ensures.found in
+    let p = piece_of stream_moves c.in_ok-anneal.anneal c.in_ok-anneal.head.items o.stop in
+    let e : p ≡ piece_by s o.seed o.stop = λ i. piece_of stream_moves (c.in_ok-anneal.ensures.stands i) (c.in_ok-anneal.ensures.head i) o.stop in
+    shown_asked (AskFor t o) p o.batch c.run_piece.result c.args.shower.now.shown c.run_piece.new.shower.shown (s, given, e) c.run_piece.ensures.shown
+
+pub returns-clause-shown_cut : goal.returns-clause-shown_cut
+returns-clause-shown_cut g c =
+    let t = texts_of c.args.inputs.now in
+    let o = c.args.options.now in
+    let s = setting_of c.in_ok-design.design c.in_ok-design.grid c.in_ok-design.pins.fixed c.in_ok-design.pins.begun c.in_ok-design.schedule in
+    let given : IsSetting t o s = c.in_ok-design.ensures.found in
+    let p = piece_of stream_moves c.in_ok-anneal.anneal c.in_ok-anneal.head.items o.stop in
+    let e : p ≡ piece_by s o.seed o.stop = λ i. piece_of stream_moves (c.in_ok-anneal.ensures.stands i) (c.in_ok-anneal.ensures.head i) o.stop in
+    part_asked (AskFor t o) p o.batch c.run_piece.result c.args.shower.now.shown c.run_piece.new.shower.shown (s, given, e) c.run_piece.ensures.shown_cut
+
+pub returns-clause-unshown : goal.returns-clause-unshown
+returns-clause-unshown g c = fault_of_device (λ f. IsRefusal f → c.run_piece.new.shower.shown ≡ c.args.shower.now.shown) _ _ _ _ c.run_piece.result (λ h. absurd h) (λ h. absurd h) (λ h. absurd h) c.run_piece.ensures.fault

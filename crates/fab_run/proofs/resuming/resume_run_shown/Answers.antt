@@ -8,7 +8,8 @@ use Rattle.fab_run.specs.RunChecks.{IsRefusal}
 use Rattle.fab_run.specs.Setting.{texts_of}
 use Rattle.std.proofs.lemmas.Result.{err_from_is_err_and}
 use Rattle.fab_run.proofs.Lifting.{cut_asked, failed_of_device, fault_of_device, made_asked, place_cut_asked, redone_asked, report_cut_asked}
-use Rattle.fab_run.proofs.resuming.resume_run.Goals as goal
+use Rattle.fab_run.proofs.Showing.{part_asked, shown_asked}
+use Rattle.fab_run.proofs.resuming.resume_run_shown.Goals as goal
 
 pub returns-clause-headline : goal.returns-clause-headline
 returns-clause-headline g c =
@@ -95,3 +96,30 @@ pub returns-in_err-design-clause-only : goal.returns-in_err-design-clause-only
 returns-in_err-design-clause-only g c s k =
     let p = err_from_is_err_and c.from_residual.result c.from_residual.ensures.1 in
     rw (p.1, p.2) (subst (λ f. ¬ (IsRefusal f)) (sym (c.in_err-design.ensures.only s k)) (λ h. h))
+
+pub returns-clause-shown : goal.returns-clause-shown
+returns-clause-shown g c =
+    let t = texts_of c.args.inputs.now in
+    let point = c.args.point.now in
+    let batch = c.args.batch in
+    let workers = c.args.workers in
+    let s : Going = record { design = c.in_ok-design.design; grid = c.in_ok-design.grid; seed = c.in_ok-design.seed; point = c.in_ok-design.point } in
+    let given : IsGoing t point batch workers s = c.in_ok-design.ensures.found in
+    let p = piece_of stream_moves c.in_ok-anneal.anneal c.new-2.result.items c.args.stop in
+    let e : p ≡ piece_from s c.args.stop = (λ i. piece_of stream_moves (c.in_ok-anneal.ensures i) (c.new-2.ensures.items i) c.args.stop) ∙ ap (λ w. piece_of stream_moves (going_on s.design s.grid s.point w) [] c.args.stop) c.new.ensures in
+    shown_asked (AskToGoOn t point batch workers c.args.stop) p batch c.run_piece.result c.args.shower.now.shown c.run_piece.new.shower.shown (s, given, e) c.run_piece.ensures.shown
+
+pub returns-clause-shown_cut : goal.returns-clause-shown_cut
+returns-clause-shown_cut g c =
+    let t = texts_of c.args.inputs.now in
+    let point = c.args.point.now in
+    let batch = c.args.batch in
+    let workers = c.args.workers in
+    let s : Going = record { design = c.in_ok-design.design; grid = c.in_ok-design.grid; seed = c.in_ok-design.seed; point = c.in_ok-design.point } in
+    let given : IsGoing t point batch workers s = c.in_ok-design.ensures.found in
+    let p = piece_of stream_moves c.in_ok-anneal.anneal c.new-2.result.items c.args.stop in
+    let e : p ≡ piece_from s c.args.stop = (λ i. piece_of stream_moves (c.in_ok-anneal.ensures i) (c.new-2.ensures.items i) c.args.stop) ∙ ap (λ w. piece_of stream_moves (going_on s.design s.grid s.point w) [] c.args.stop) c.new.ensures in
+    part_asked (AskToGoOn t point batch workers c.args.stop) p batch c.run_piece.result c.args.shower.now.shown c.run_piece.new.shower.shown (s, given, e) c.run_piece.ensures.shown_cut
+
+pub returns-clause-unshown : goal.returns-clause-unshown
+returns-clause-unshown g c = fault_of_device (λ f. IsRefusal f → c.run_piece.new.shower.shown ≡ c.args.shower.now.shown) _ _ _ _ c.run_piece.result (λ h. absurd h) (λ h. absurd h) (λ h. absurd h) c.run_piece.ensures.fault

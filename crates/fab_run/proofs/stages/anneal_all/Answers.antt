@@ -1,4 +1,4 @@
-use Rattle.std.proofs.Common.{◌≡◌, ℕ, ◌+◌, ◌-◌, ◌<◌, ◌≤◌, ◌++◌, Option, Some, None, length, refl, sym, ap, subst, ◌∙◌, arith, inl, inr, true, is_some}
+use Rattle.std.proofs.Common.{◌≡◌, ℕ, ◌+◌, ◌-◌, ◌<◌, ◌≤◌, ◌++◌, Option, Some, None, length, refl, sym, ap, subst, ◌∙◌, arith, inl, inr, true, is_some, rules}
 use Rattle.std.specs.Io.KnownBytes.{Appends}
 use Rattle.std.proofs.lemmas.List.{append-nil}
 use Rattle.std.proofs.lemmas.Result.{err_from_is_err_and}
@@ -14,6 +14,9 @@ use Rattle.fab_run.specs.Piece.{IsOver, stage_costs, stage_lines}
 use Rattle.fab_run.proofs.Pieces.{left_is, left_there, no_costs, no_lines, over_later}
 use Rattle.fab_run.proofs.Turning.{counted_by_turns, counted_then}
 use Rattle.fab_run.proofs.Telling.{HasTold, appends_none, warmth, colder_by_stage, cut_between, cut_within, short_within, same_run, same_twice, told_on}
+use Rattle.fab_commit.proofs.Showing.{shown_first}
+use Rattle.fab_run.specs.Shown.{AreShownBegun, EndsShown, LeadsShown, LeadsShownWithin}
+use Rattle.fab_run.proofs.Showing.{begun_within, shown_all}
 use Rattle.fab_run.proofs.stages.anneal_all.Goals as goal
 
 -- where there is no stage, nothing is warm
@@ -117,7 +120,11 @@ loop-stage-preserved g c =
     let left = left_is (run_of g.V.Words.moves c.loop-stage.anneal) y c.in-Some.stage c.args.pace.now.moves c.in-Some.ensures moves_are in
     let same_left : moves_left (run_of g.V.Words.moves c.loop-stage.anneal) y ≡ m = (λ i. moves_left (same i) y) in
     let count : n + m ≡ z.done - x.done = omega (arith, done, low) in
+    let before = c.args.shower.now.shown in
+    let leads = subst (λ q. LeadsShown q c.args.pace.now.batch y z c.loop-stage.shower.shown c.end_stage.new.shower.shown) same made.shown in
     record {
+      dial = made.dial ∙ inv.dial;
+      shown = leads.on x before inv.shown;
       turns = by_turns_then r c.args.pace.now.batch c.args.anneal.now c.loop-stage.anneal c.end_stage.new.anneal inv.turns (subst (λ q. LeadsByTurns q c.args.pace.now.batch c.loop-stage.anneal c.end_stage.new.anneal) same made.turns);
       same = same_twice c.args.anneal.now c.loop-stage.anneal c.end_stage.new.anneal inv.same made.same;
       at = subst (λ k. HasTold r x z c.args.anneal.now.accepted c.end_stage.new.anneal.accepted c.args.costs.now.items c.end_stage.new.costs.items (g.W.Sink.contents c.args.report.now) (g.W.Sink.contents c.write_whole.new.out) k) count on;
@@ -173,3 +180,82 @@ returns-in-Some-moves_before-clause-made g c =
       told = on.told;
       counted = counted_then r c.args.pace.now.batch c.args.anneal.now c.loop-stage.anneal c.make_part.new.anneal inv.turns (subst (λ q. AreCountedOn q c.args.pace.now.batch c.loop-stage.anneal c.make_part.new.anneal) same made.counted);
     }
+
+pub returns-clause-shown : goal.returns-clause-shown
+returns-clause-shown g c =
+    let r = run_of g.V.Words.moves c.args.anneal.now in
+    shown_all r c.args.pace.now.batch c.args.anneal.now.standing c.args.shower.now.shown c.loop-stage.anneal.standing c.loop-stage.shower.shown c.loop-stage.invariant.shown
+
+pub returns-in-Some-moves_before-clause-shown : goal.returns-in-Some-moves_before-clause-shown
+returns-in-Some-moves_before-clause-shown g c =
+    let inv = c.loop-stage.invariant in
+    let same = same_run g.V.Words.moves c.args.anneal.now c.loop-stage.anneal inv.same in
+    let y = c.loop-stage.anneal.standing in
+    let z = c.make_part.new.anneal.standing in
+    let ends = subst (λ q. EndsShown q c.args.pace.now.batch y z c.loop-stage.shower.shown c.make_part.new.shower.shown) same c.in_ok-make_part.ensures.shown in
+    ends.on c.args.anneal.now.standing c.args.shower.now.shown inv.shown
+
+pub returns-in_err-make_part-clause-shown_cut : goal.returns-in_err-make_part-clause-shown_cut
+returns-in_err-make_part-clause-shown_cut g c =
+    let r = run_of g.V.Words.moves c.args.anneal.now in
+    let x = c.args.anneal.now.standing in
+    let y = c.loop-stage.anneal.standing in
+    let inv = c.loop-stage.invariant in
+    let same = same_run g.V.Words.moves c.args.anneal.now c.loop-stage.anneal inv.same in
+    let rest = c.in-Some-moves_before.rest in
+    let part = subst (λ q. LeadsShownWithin q c.args.pace.now.batch y rest c.loop-stage.shower.shown c.make_part.new.shower.shown) same c.in_err-make_part.ensures.shown_cut in
+    let at = c.done.ensures.value in
+    let low = inv.done in
+    let within : IsWithin r x c.args.pace.now.stop (y.done - x.done + rest) =
+    λ m here going. (
+    let both : Some (c.done.result + rest) ≡ Some (x.done + m) = sym c.in-Some-moves_before.ensures.0 ∙ here in
+    let one : c.done.result + rest ≡ x.done + m = (let k = both in cc) in
+    omega (arith, one, at, low)
+    ) in
+    let fact = begun_within r c.args.pace.now.batch x c.args.shower.now.shown y c.loop-stage.shower.shown rest c.args.pace.now.stop c.make_part.new.shower.shown inv.shown part within in
+    search (rules, fact)
+
+pub returns-in_err-line-clause-shown_cut : goal.returns-in_err-line-clause-shown_cut
+returns-in_err-line-clause-shown_cut g c =
+    let r = run_of g.V.Words.moves c.args.anneal.now in
+    let x = c.args.anneal.now.standing in
+    let y = c.loop-stage.anneal.standing in
+    let inv = c.loop-stage.invariant in
+    let same = same_run g.V.Words.moves c.args.anneal.now c.loop-stage.anneal inv.same in
+    let m = moves_left r y in
+    let n = y.done - x.done in
+    let part = subst (λ q. LeadsShownWithin q c.args.pace.now.batch y (moves_left q y) c.loop-stage.shower.shown c.end_stage.new.shower.shown) same c.in_err-line.ensures.shown_cut in
+    let moves_are = c.requires.moves ∙ sym (ap (λ p. p.moves) inv.same.plan) in
+    let done = c.done.ensures.value in
+    let low = inv.done in
+    let none = rw c.in_default-moves_before.is at c.moves_before.ensures in
+    let left = left_is (run_of g.V.Words.moves c.loop-stage.anneal) y c.in-Some.stage c.args.pace.now.moves c.in-Some.ensures moves_are in
+    let same_left : moves_left (run_of g.V.Words.moves c.loop-stage.anneal) y ≡ m = (λ i. moves_left (same i) y) in
+    let within : IsWithin r x c.args.pace.now.stop (n + m) =
+    λ j here going. (let before = inv.passed j here in let there : c.args.pace.now.stop ≡ Some (c.done.result + (j - n)) = here ∙ ap (λ i. Some i) (omega (arith, done, before, low)) in let far = none (j - n) there in omega (arith, before, far, left, same_left)) in
+    let fact = begun_within r c.args.pace.now.batch x c.args.shower.now.shown y c.loop-stage.shower.shown m c.args.pace.now.stop c.end_stage.new.shower.shown inv.shown part within in
+    search (rules, fact)
+
+pub returns-in_err-write_whole-clause-shown_cut : goal.returns-in_err-write_whole-clause-shown_cut
+returns-in_err-write_whole-clause-shown_cut g c =
+    let r = run_of g.V.Words.moves c.args.anneal.now in
+    let x = c.args.anneal.now.standing in
+    let y = c.loop-stage.anneal.standing in
+    let z = c.end_stage.new.anneal.standing in
+    let inv = c.loop-stage.invariant in
+    let same = same_run g.V.Words.moves c.args.anneal.now c.loop-stage.anneal inv.same in
+    let m = moves_left r y in
+    let n = y.done - x.done in
+    let leads = subst (λ q. LeadsShown q c.args.pace.now.batch y z c.loop-stage.shower.shown c.end_stage.new.shower.shown) same c.in_ok-line.ensures.shown in
+    let made : z.done ≡ y.done + m = c.in_ok-line.ensures.done ∙ (λ i. y.done + moves_left (same i) y) in
+    let part : LeadsShownWithin r c.args.pace.now.batch y m c.loop-stage.shower.shown c.end_stage.new.shower.shown = record { there = z; near = omega (arith, made); leads = leads } in
+    let moves_are = c.requires.moves ∙ sym (ap (λ p. p.moves) inv.same.plan) in
+    let done = c.done.ensures.value in
+    let low = inv.done in
+    let none = rw c.in_default-moves_before.is at c.moves_before.ensures in
+    let left = left_is (run_of g.V.Words.moves c.loop-stage.anneal) y c.in-Some.stage c.args.pace.now.moves c.in-Some.ensures moves_are in
+    let same_left : moves_left (run_of g.V.Words.moves c.loop-stage.anneal) y ≡ m = (λ i. moves_left (same i) y) in
+    let within : IsWithin r x c.args.pace.now.stop (n + m) =
+    λ j here going. (let before = inv.passed j here in let there : c.args.pace.now.stop ≡ Some (c.done.result + (j - n)) = here ∙ ap (λ i. Some i) (omega (arith, done, before, low)) in let far = none (j - n) there in omega (arith, before, far, left, same_left)) in
+    let fact = begun_within r c.args.pace.now.batch x c.args.shower.now.shown y c.loop-stage.shower.shown m c.args.pace.now.stop c.end_stage.new.shower.shown inv.shown part within in
+    search (rules, fact)

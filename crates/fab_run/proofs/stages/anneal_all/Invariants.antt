@@ -1,6 +1,7 @@
 use Rattle.std.proofs.Common.{◌≡◌, ℕ, ◌+◌, ◌-◌, ◌≤◌, Some}
 use Rattle.fab_commit.specs.ByTurns.{LeadsByTurns}
 use Rattle.fab_commit.specs.Commits.{IsSameRun, run_of}
+use Rattle.fab_commit.specs.Readings.{HasShown}
 use Rattle.fab_run.proofs.Telling.{HasTold, warmth}
 use Rattle.fab_run.proofs.stages.anneal_all.Given as goal
 
@@ -11,6 +12,8 @@ invariant-loop-stage g l =
       same : IsSameRun l.initial.anneal l.anneal;
       turns : LeadsByTurns (run_of g.V.Words.moves l.initial.anneal) l.pace.batch l.initial.anneal l.anneal;
       at : HasTold (run_of g.V.Words.moves l.initial.anneal) x l.anneal.standing l.initial.anneal.accepted l.anneal.accepted l.initial.costs.items l.costs.items (g.W.Sink.contents l.initial.report) (g.W.Sink.contents l.report) (l.anneal.standing.done - x.done);
+      dial : l.shower.dial ≡ l.initial.shower.dial;
+      shown : HasShown (run_of g.V.Words.moves l.initial.anneal) l.pace.batch x l.initial.shower.shown l.anneal.standing l.shower.shown;
       done : x.done ≤ l.anneal.standing.done;
       passed : (m : ℕ) → l.pace.stop ≡ Some (x.done + m) → l.anneal.standing.done - x.done ≤ m;
       sound : g.W.Sink.failed l.report ≡ g.W.Sink.failed l.initial.report;

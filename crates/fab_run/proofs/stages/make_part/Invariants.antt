@@ -2,6 +2,7 @@ use Rattle.std.proofs.Common.{◌≡◌, ◌+◌, ◌-◌, ◌≤◌, ◌++◌}
 use Rattle.fab_commit.specs.ByTurns.{LeadsByTurns}
 use Rattle.fab_commit.specs.Commits.{IsSameRun, run_of}
 use Rattle.fab_commit.specs.Serial.{accepted_among, from}
+use Rattle.fab_run.specs.Shown.{LeadsShown}
 use Rattle.fab_run.proofs.stages.make_part.Given as goal
 
 abbrev pub invariant-loop-made : goal.invariant-loop-made
@@ -14,6 +15,8 @@ invariant-loop-made g l =
       done : l.anneal.standing.done ≡ x.done + l.made;
       stands : l.anneal.standing ≡ from r x l.made;
       accepted : l.anneal.accepted ≡ l.initial.anneal.accepted ++ accepted_among r x l.made;
+      dial : l.shower.dial ≡ l.initial.shower.dial;
+      shown : LeadsShown r l.batch x l.anneal.standing l.initial.shower.shown l.shower.shown;
       turns : LeadsByTurns r l.batch l.initial.anneal l.anneal;
     }
 

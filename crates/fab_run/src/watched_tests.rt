@@ -1,0 +1,220 @@
+// Runs that are watched, and gates that hold a crew's judgements back.
+ghost use Rattle.std.specs.Prelude.{◌≡◌, All, IfOk};
+
+use crate::run_tests::{INPUTS, OPTIONS, PLACE, REPORT, writer_with};
+use crate::{Moves, Options, RunFault, place_run_shown};
+use fab_board::{Gate, NoGate};
+use fab_dial::{Dial, Reading, Shower, Watcher};
+use std::alloc::{AllocError, Global};
+use std::process::Abort;
+use std::sync::Wait;
+use std::sync::atomic::{AtomicU64, Ordering};
+use std::test::*;
+use std::thread;
+use std::thread::Threads;
+use std::time::Duration;
+
+// The reading of the design of three blocks after so many moves: none is accepted, and the cost stays.
+fn after(moves: u64) -> Reading {
+    Reading {
+        moves,
+        accepted: 0,
+        cost: 40000,
+    }
+}
+
+// What is placed and written, as bytes, with a shower that goes on.
+fn shown_bytes<G: Gate, R: AllocGlobal + Threads + Wait + Sync>(
+    rt: &R,
+    options: &Options,
+    gate: &G,
+    dial: &Dial,
+    mut shower: Shower,
+) -> Result<(Shower, Vec<u8>), RunFault>
+    requires { shower.dial ≡ dial.now }
+    ensures { IfOk result (λ r. r.0.dial ≡ dial.now) }
+{
+    let alloc = rt.alloc();
+    let mut report = writer_with(alloc, 10_000);
+    let mut place = writer_with(alloc, 10_000);
+    place_run_shown(
+        rt,
+        &INPUTS,
+        options,
+        gate,
+        dial,
+        &mut shower,
+        &mut report,
+        &mut place,
+    )?;
+    let mut bytes = report.into_inner().taken;
+    bytes.extend_from_slice(&place.into_inner().taken)?;
+    Ok((shower, bytes))
+}
+
+// Reads until the run has ended: each reading is one of a turn of three moves, and none stands before the one read before it.
+fn watch<R: Wait + Abort>(rt: &R, dial: &Dial, mut watcher: Watcher) -> Watcher
+    requires { watcher.dial ≡ dial.now }
+    ensures { result.dial ≡ dial.now }
+{
+    let mut last = 0;
+    for _turn in 0..2_000_000u64 {
+        let seen = dial.read(rt, &mut watcher);
+        assert!(rt; seen.moves <= 15 && seen.moves % 3 == 0 && seen == after(seen.moves));
+        assert!(rt; last <= seen.moves);
+        last = seen.moves;
+        if last == 15 {
+            break;
+        }
+    }
+    watcher
+}
+
+// A run of turns of three moves, which two watchers read on threads of their own; the reading that is gathered, and what was written.
+fn watched<R: AllocGlobal + Threads + Wait + Abort + Sync>(
+    rt: &R,
+) -> Result<(Reading, Vec<u8>), RunFault> {
+    let alloc = rt.alloc();
+    let (dial, shower, watchers) = Dial::new(rt, alloc, 2, after(0))?;
+    let shown = &dial;
+    let options = Options {
+        batch: 3,
+        ..OPTIONS
+    };
+    let (answer, watchers) = thread::join(
+        rt,
+        move || -> Result<(Shower, Vec<u8>), RunFault>
+            requires { shower.dial ≡ shown.now }
+            ensures { IfOk result (λ r. r.0.dial ≡ shown.entry.now) }
+        { shown_bytes(rt, &options, &NoGate, shown, shower) },
+        move || -> Result<Vec<Watcher>, AllocError>
+            requires { All (λ w. w.dial ≡ shown.now) watchers.items }
+            ensures { IfOk result (λ v. All (λ w. w.dial ≡ shown.entry.now) v.items) }
+        {
+            thread::map_vec(
+                rt,
+                watchers,
+                &|w: Watcher| -> Watcher
+                    requires { w.dial ≡ shown.now }
+                    ensures { result.dial ≡ shown.entry.now }
+                { watch(rt, shown, w) },
+            )
+        },
+    );
+    let (shower, bytes) = answer?;
+    Ok((dial.gather(rt, shower, watchers?), bytes))
+}
+
+// What a whole run writes.
+fn whole(alloc: Global) -> Result<Vec<u8>, AllocError> {
+    let mut bytes = Vec::from_slice(alloc, REPORT)?;
+    bytes.extend_from_slice(PLACE)?;
+    Ok(bytes)
+}
+
+#[test]
+fn two_watchers_read_a_run_in_order(rt: HostRuntime) -> Result<(), Fail> {
+    let (last, bytes) = watched(&rt)?;
+    assert_eq!(rt; last, after(15));
+    assert!(rt; bytes == whole(rt.alloc())?);
+    Ok(())
+}
+
+// The last reading of a run of these options that nobody watches.
+fn last_shown<G: Gate, R: AllocGlobal + Threads + Wait + Sync>(
+    rt: &R,
+    options: &Options,
+    gate: &G,
+) -> Result<(Reading, Vec<u8>), RunFault> {
+    let alloc = rt.alloc();
+    let (dial, shower, watchers) = Dial::new(rt, alloc, 0, after(0))?;
+    let (shower, bytes) = shown_bytes(rt, options, gate, &dial, shower)?;
+    Ok((dial.gather(rt, shower, watchers), bytes))
+}
+
+#[test]
+fn a_stopped_run_shows_its_end(rt: HostRuntime) -> Result<(), Fail> {
+    for stop in [0, 5, 6, 15] {
+        let options = Options {
+            stop: Some(stop),
+            ..OPTIONS
+        };
+        assert_eq!(rt; last_shown(&rt, &options, &NoGate)?.0, after(stop));
+    }
+    Ok(())
+}
+
+// Holds the judgement of move 0 until that of move 1 is over, the commit of move 0 until a move of the next batch is judged, and the
+// judgement of move 4 until move 1 is committed. Each is held for at most ten seconds.
+#[derive(Drop)]
+struct Overlap<'a> {
+    rt: &'a HostRuntime,
+    one_judged: AtomicU64,
+    next_judged: AtomicU64,
+    one_committed: AtomicU64,
+    failed: AtomicU64,
+    judged: AtomicU64,
+}
+
+impl Overlap<'_> {
+    // Waits until this is no more 0.
+    fn hold(&self, until: &AtomicU64) {
+        for _turn in 0..10_000u64 {
+            if until.load(Ordering::SeqCst) != 0 {
+                return;
+            }
+            thread::sleep(self.rt, Duration::from_millis(1));
+        }
+        self.failed.store(1, Ordering::SeqCst);
+    }
+}
+
+impl Gate for Overlap<'_> {
+    fn before_judge(&self, k: u64) {
+        match k {
+            0 => self.hold(&self.one_judged),
+            4 => self.hold(&self.one_committed),
+            _ => {}
+        }
+    }
+
+    fn after_judge(&self, k: u64) {
+        self.judged.fetch_add(1, Ordering::SeqCst);
+        match k {
+            1 => self.one_judged.store(1, Ordering::SeqCst),
+            3..=5 => self.next_judged.store(1, Ordering::SeqCst),
+            _ => {}
+        }
+    }
+
+    fn before_commit(&self, k: u64) {
+        match k {
+            0 => self.hold(&self.next_judged),
+            1 => self.one_committed.store(1, Ordering::SeqCst),
+            _ => {}
+        }
+    }
+}
+
+#[test]
+fn a_crew_judges_the_next_batch_while_a_batch_is_committed(rt: HostRuntime) -> Result<(), Fail> {
+    let gate = Overlap {
+        rt: &rt,
+        one_judged: AtomicU64::new(0),
+        next_judged: AtomicU64::new(0),
+        one_committed: AtomicU64::new(0),
+        failed: AtomicU64::new(0),
+        judged: AtomicU64::new(0),
+    };
+    let options = Options {
+        moves: Moves::Given(6),
+        batch: 3,
+        workers: 2,
+        ..OPTIONS
+    };
+    assert_eq!(rt; last_shown(&rt, &options, &gate)?.0, after(30));
+    assert_eq!(rt; gate.failed.load(Ordering::SeqCst), 0);
+    // Each move is judged once.
+    assert_eq!(rt; gate.judged.load(Ordering::SeqCst), 30);
+    Ok(())
+}
