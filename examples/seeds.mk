@@ -1,13 +1,16 @@
-# Places one design with many seeds: make -j 4 -f seeds.mk ARCH=a.arch NET=a.net SEEDS="1 2 3". A report that is there is not made again.
+# Places one design with many seeds, for example: make -j 4 -f seeds.mk ARCH=a.arch NET=a.net SEEDS="1 2 3".
+# A report that is there is not made again, whatever FLAGS say: remove it to place again.
 ARCH = rs232_cl4.arch
 NET = rs232_cl4.net
 SEEDS = 1 2 3 4 5 6 7 8
 FLAGS =
 
-all: $(SEEDS:%=seed%.report)
+DESIGN = $(basename $(notdir $(NET)))
 
-seed%.report:
-	vplace place --arch $(ARCH) --net $(NET) --out seed$*.place --seed $* --workers 1 $(FLAGS) > $@.part
+all: $(SEEDS:%=$(DESIGN)_seed%.report)
+
+$(DESIGN)_seed%.report: $(ARCH) $(NET)
+	vplace place --arch $(ARCH) --net $(NET) --out $(DESIGN)_seed$*.place --seed $* --workers 1 $(FLAGS) > $@.part
 	mv $@.part $@
 
 .PHONY: all
