@@ -1,29 +1,30 @@
-# The commands of the repository. Each needs the Rattle kit's `rt` on the path.
+# The commands of the repository. Each needs `rt` of the Rattle kit on the path.
 
 .PHONY: test edits place bench program
 
-# Every proof from nothing, the must-fail edits, every test and program run, and the tests of the built program.
-# The last line of the output is `N passed, M failed`.
+# Makes every proof from scratch, and runs the must-fail edits, every test and program, and the tests of the built program. The last line of
+# the output is `N passed, M failed`.
 test:
 	@tests/all
 
-# The wrong bodies beyond those of the gate, which would take as long as all the rest: to be run before a contract changes.
+# Tries the further wrong bodies, which the gate leaves out because they take as long as everything else. Run this before a contract
+# changes.
 edits:
 	@tests/further_edits
 
-# Places a shipped circuit with its pads at given sites, prints the report, and says where the placement lies. Where the proved program
-# is not built yet, a checked build does it, in two minutes.
+# Places a shipped circuit with its pads at given sites, prints the report, and says where the placement is. If the proved program is not
+# built yet, a checked build does it, in two minutes.
 place:
 	@tests/place
 
-# Moves a second with one worker, at four sizes; with BASELINE=PROGRAM also those of another placer, in the same run. Then those
-# with 1, 2 and 4 workers and four batches, at two sizes.
+# Measures moves per second with one worker, at four sizes; with BASELINE=PROGRAM also those of another placer, in the same run. Then with
+# 1, 2 and 4 workers and four batches, at two sizes.
 bench: program
 	@bench/place.sh
 	@bench/turns.sh
 	@bench/point.sh
 
-# The program, proved and then compiled, at crates/vplace/out/vplace: some 25 minutes on four processors, with a line for each crate as it
-# is done. With no change since, nothing is made anew.
+# Proves and then compiles the program, at crates/vplace/out/vplace: about 25 minutes on four processors, with a line for each crate when it
+# is done. If nothing changed, nothing is made again.
 program:
 	@tests/program

@@ -1,6 +1,6 @@
 #!/usr/bin/env bash
-# What a batch costs that judges nothing: the time to start the workers, claim the numbers and join, by the number of workers.
-# Prints nanoseconds for a batch, and that time in hundredths of the time with one worker. Needs the kit's `rt` on the path.
+# The cost of a batch that judges nothing: the time to start the workers, claim the numbers and join, by the number of workers. Prints
+# nanoseconds per batch, and that time in hundredths of the time with one worker. Needs the kit's `rt` on the path.
 set -euo pipefail
 here="$(cd "$(dirname "$0")/.." && pwd)"
 room="$(mktemp -d)"

@@ -1,6 +1,7 @@
 #!/bin/sh
-# How long checking a placement takes, beside `wc -lw` on its netlist: the best of some runs of each, and the ratio.
-# usage: bench/check.sh [DESIGN], of examples; duo_ble where none is named. The program is the one that `make test` built.
+# How long checking a placement takes, compared with `wc -lw` on its netlist: the best of 31 runs of each, and the ratio.
+# usage: bench/check.sh [DESIGN]
+# DESIGN is one of examples, by default duo_ble. The program is the one that `make test` built.
 set -eu
 top=$(cd "$(dirname "$0")/.." && pwd)
 program=$top/crates/vplace/out/vplace

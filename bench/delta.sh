@@ -1,13 +1,13 @@
 #!/bin/sh
-# How long a `delta` takes on designs of 200 and of 9,583 blocks, with whole boxes and with edge counts, and the ratio
-# of the two designs. The swaps are of two blocks that are drawn, on the stored placements of examples; since the
-# blocks of the larger design have more nets, the time for each net of the two blocks is printed too.
+# How long a `delta` takes on designs of 200 and of 9,583 blocks, with whole boxes and with edge counts, and the ratio of the two designs.
+# The swaps are of two random blocks, on the stored placements of examples. Since the blocks of the larger design have more nets, the time
+# for each net of the two blocks is printed too.
 # usage: bench/delta.sh
 set -eu
 here=$(cd "$(dirname "$0")" && pwd)
 . "$here/scratch.sh"
 scratch_with bench_delta "fab_arch fab_net fab_site fab_file fab_cost anyhow" <<'MAIN'
-//! Times changes of cost on the designs of which it is given the names.
+//! Times changes of cost on the designs with the given names.
 #![tactic(auto)]
 
 ghost use Rattle.std.specs.Prelude.{◌≡◌, IfOk, IfSome, Some, length, slice_get};
@@ -24,7 +24,7 @@ use std::{env, fs, io};
 
 const DRAWS: u32 = 1_000_000;
 
-// Where a block stands, if there is one of this number.
+// The site of the block with this number, if there is one.
 fn site_of_block(placement: &Placement, block: BlockId) -> Option<fab_arch::Site>
     ensures { IfSome result (λ s. slice_get placement.now.sites block.0 ≡ Some s) }
 {
@@ -58,7 +58,7 @@ fn block_from(state: u64, blocks: usize) -> BlockId {
     BlockId(((state >> 33) % (blocks as u64).max(1)) as u32)
 }
 
-// The nanoseconds of the draws alone, and something of them, so that they are made.
+// The nanoseconds of only the draws, and a result of them, so that they are computed.
 fn drawing<R: Clock>(rt: &R, grid: &Grid, placement: &Placement) -> io::Result<(u128, u64)>
     requires { placement.now.grid ≡ grid.now }
 {
@@ -76,12 +76,12 @@ fn drawing<R: Clock>(rt: &R, grid: &Grid, placement: &Placement) -> io::Result<(
     Ok((begun.elapsed(rt)?.as_nanos(), sum))
 }
 
-// What the draws and the changes of cost of the swaps that they give took.
+// The time of the draws and of the changes of cost of the swaps that they give.
 #[derive(Clone, Copy)]
 struct Timed {
     nanoseconds: u128,
     changes: u64,
-    // Of all changes, so that they are computed.
+    // A sum of all changes, so that they are computed.
     sum: i64,
 }
 

@@ -36,7 +36,7 @@ fn reading(moves: u64) -> Reading {
     }
 }
 
-// Shows them all, and answers how many nanoseconds that took.
+// Shows them all, and returns how many nanoseconds that took.
 fn show_all<R: Wait + Clock>(rt: &R, dial: &Dial, mut shower: Shower) -> io::Result<u128>
     requires { shower.dial ≡ dial.now }
 {
@@ -47,7 +47,7 @@ fn show_all<R: Wait + Clock>(rt: &R, dial: &Dial, mut shower: Shower) -> io::Res
     Ok(start.elapsed(rt)?.as_nanos())
 }
 
-// Reads until it sees the last reading, and answers how often it read.
+// Reads until it sees the last reading, and returns how often it read.
 fn watch<R: Wait>(rt: &R, dial: &Dial, mut watcher: Watcher) -> u64
     requires { watcher.dial ≡ dial.now }
 {

@@ -1,5 +1,5 @@
 #!/bin/sh
-# How many moves are judged in a second on arrays of side 6, 98 and 1,000, and how far these are apart.
+# How many moves per second are judged on arrays of side 6, 98 and 1,000, and how far these are apart.
 # usage: bench/judge.sh
 set -eu
 here=$(cd "$(dirname "$0")" && pwd)
@@ -24,7 +24,7 @@ const ARCH: &[u8] =
     b"io_rat 1\ninpin class: 0 left\ninpin class: 0 top\ninpin class: 0 right\noutpin class: 1 bottom\n";
 const MOVES: u64 = 100_000;
 
-// A netlist of so many logic blocks, each of which reads the nets of three others, near it by number.
+// A netlist of this many logic blocks, each of which reads the nets of three others with near numbers.
 fn netlist(alloc: Global, blocks: u32) -> Result<Vec<u8>, AllocError> {
     let mut text = Vec::new(alloc);
     for block in 0..blocks {

@@ -1,10 +1,10 @@
 #!/bin/sh
-# How many moves a second `vplace place` makes with one worker and batches of 1,024 moves, on designs of 200, 770, 1,585 and 9,583 blocks, and the ratios
-# of these. Timed from outside: a run of many moves less a run of few, so that reading and writing cancel; the best of each.
+# How many moves per second `vplace place` makes with one worker and batches of 1,024 moves, on designs of 200, 770, 1,585 and 9,583 blocks,
+# and the ratios of these. Timed from outside: a run of many moves minus a run of few, so that reading and writing cancel; the best of each.
 # usage: [PROGRAM=PROGRAM] [BASELINE=PROGRAM] [MOVES=N] [RUNS=N] bench/place.sh [DESIGN..]
-# The designs are of examples. PROGRAM is the one that `make test` built, where none is named. BASELINE is another placer that
-# takes the same words: it makes the same moves in the same run, turn about. A stage has MOVES moves, 60,000 where none are
-# given, or one in the run of few; there are 11 stages. Each run is made RUNS times, 5 where none are given.
+# The designs are those of examples. PROGRAM is by default the one that `make test` built. BASELINE is another placer that takes the same
+# words: it makes the same moves in the same run, in turn with PROGRAM. A stage has MOVES moves, 60,000 by default, or one in the run of
+# few; there are 11 stages. Each run is made RUNS times, 5 by default.
 set -eu
 top=$(cd "$(dirname "$0")/.." && pwd)
 program=${PROGRAM:+$(realpath "$PROGRAM")}
@@ -39,7 +39,7 @@ for design in "$@"; do
         done
         run=$((run + 1))
     done
-    # The last runs made the same moves, if they end in the same bytes.
+    # The last runs made the same moves if they end in the same bytes.
     if [ -n "$baseline" ]; then
         cmp -s "$work/ours.place" "$work/theirs.place" && cmp -s "$work/ours.report" "$work/theirs.report" \
             || echo "differ $design"
@@ -54,7 +54,7 @@ awk -v many="$moves" '
         if (!($2 in blocks)) { order[++n] = $2; blocks[$2] = $6 }
         if ($1 == "theirs") compared = 1
     }
-    # Millions of moves a second.
+    # Millions of moves per second.
     function rate(who, name,    key) {
         key = who " " name
         return (made[key " many"] - made[key " few"]) / (least[key " many"] - least[key " few"])

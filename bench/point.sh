@@ -1,6 +1,7 @@
 #!/bin/sh
-# How long a checkpoint text of 60,000 blocks takes to read, beside a placement text of as many: the best of nine runs of each, and the
-# ratio. The placement is that of tests/large, made by the program that `make test` or `make program` built; the checkpoint text is made of it.
+# How long a checkpoint text of 60,000 blocks takes to read, compared with a placement text of as many: the best of nine runs of each, and
+# the ratio. The placement is that of tests/large, made by the program that `make test` or `make program` built; the checkpoint text is made
+# from it.
 # usage: [PROGRAM=PROGRAM] bench/point.sh
 set -eu
 here=$(cd "$(dirname "$0")" && pwd)

@@ -1,6 +1,6 @@
-# Sourced by the benches: a scratch copy of the repository with one more program, since a bench is no crate of ours.
-# scratch_with NAME DEPS sets $work, a temporary folder that goes at the end, with the copy in $work/repo; the
-# program comes on standard input.
+# Sourced by the benches: makes a scratch copy of the repository with one more program, since a bench is not one of its crates.
+# scratch_with NAME DEPS sets $work, a temporary folder that is removed at the end, with the copy in $work/repo; the program comes on
+# standard input.
 scratch_with() {
     work=$(mktemp -d)
     trap 'rm -rf "$work"' EXIT

@@ -16,7 +16,7 @@ use std::time::Instant;
 
 const ARCH: &[u8] = b"io_rat 1\noutpin class: 0 top\n";
 
-// A netlist of so many logic blocks, each of which drives a net of its own.
+// A netlist of this many logic blocks, each of which drives a net of its own.
 fn netlist(alloc: Global, blocks: u32) -> Result<Vec<u8>, AllocError> {
     let mut text = Vec::new(alloc);
     for block in 0..blocks {

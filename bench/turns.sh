@@ -1,7 +1,7 @@
 #!/bin/sh
-# How many moves a second `vplace place` makes with 1, 2 and 4 workers and batches of 64, 256, 1,024 and 4,096 moves, on designs of
-# 1,585 and 9,583 blocks, and which share of the moves is judged again. Timed from outside as in bench/place.sh: a run of many
-# moves less a run of few, the best of each. The share comes from a program over the same library.
+# How many moves per second `vplace place` makes with 1, 2 and 4 workers and batches of 64, 256, 1,024 and 4,096 moves, on designs of 1,585
+# and 9,583 blocks, and which share of the moves is judged again. Timed from outside as in bench/place.sh: a run of many moves minus a run
+# of few, the best of each. The share comes from a program over the same library.
 # usage: [PROGRAM=PROGRAM] [MOVES=N] [RUNS=N] [WORKERS=LIST] [BATCHES=LIST] bench/turns.sh [DESIGN..]
 set -eu
 here=$(cd "$(dirname "$0")" && pwd)
@@ -37,7 +37,7 @@ const LABELS: Labels<'static> = Labels {
     arch: b"arch",
 };
 
-// How many moves a run judges again, or nothing where it is refused.
+// How many moves a run judges again, or nothing if it is refused.
 fn redone<'x, R: AllocGlobal + Threads + Wait + Sync>(
     rt: &R,
     arch: &'x [u8],
@@ -89,7 +89,7 @@ fn main(rt: HostRuntime) -> anyhow::Result<()> {
     Ok(())
 }
 MAIN
-# The program is built by a run, which finds no files where it runs.
+# The program is built by running it, though that run finds no files.
 (cd "$work/repo/crates/bench_turns" && rt run >> "$work/log" 2>&1) || true
 cd "$top/examples"
 "$work/repo/crates/bench_turns/out/bench_turns" > "$work/again"

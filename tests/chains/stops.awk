@@ -1,6 +1,6 @@
 # Draws where the run of a design is stopped: awk -v number=17 -f stops.awk REPORT
-# From the report of the unbroken run it takes how many moves a stage has, and the run; what it prints are one to five numbers of moves below
-# those of the run, in order, with commas between. Some stand where a stage ends, some twice, some at the first or the last move.
+# The report is that of the unbroken run, and gives the number of moves of a stage and of the run. Prints one to five numbers of moves below
+# that of the run, in order, separated by commas. Some are at the end of a stage, some occur twice, some are at the first or the last move.
 
 function below(n) {
     state = state * 48271 % 2147483647

@@ -1,5 +1,5 @@
-# A netlist of so many pads and logic blocks, in which each block reads two nets; `comments` lines of comment stand before each block, and `globals`
-# names that no pin has stand behind .global, a hundred a line.
+# A netlist of `pads` pads and `logic` logic blocks, in which each logic block reads two nets. `comments` lines of comment come before each
+# block, and `globals` names that no pin has come after .global, a hundred on each line.
 BEGIN {
     for (at = 1; at <= globals; at++) printf "%s g%d%s", (at % 100 == 1 ? ".global" : ""), at, (at % 100 == 0 || at == globals ? "\n" : "")
     for (pad = 1; pad <= pads; pad++) {

@@ -1,7 +1,7 @@
 # Makes the random design of a number: awk -v number=17 -f design.awk
 # Into the current folder go an architecture, a netlist, perhaps a location file, and `words`, the words of the command
-# line, one a line. All is drawn from the number with whole numbers below 2^53, so each awk makes the same files.
-# Each fifth design is faulty; the last four have two faults. A run has at most some 2,000 moves.
+# line, one on each line. All is drawn from the number with whole numbers below 2^53, so each awk makes the same files.
+# Every fifth design is faulty; the last four of these have two faults. A run has at most about 2,000 moves.
 
 # A whole number from 0 to n - 1.
 function below(n) {
@@ -13,7 +13,7 @@ function chance(percent) {
     return below(100) < percent
 }
 
-# One of the words of a list with blanks between.
+# One of the words of a list that blanks separate.
 function one_of(list,    words) {
     return words[1 + below(split(list, words, " "))]
 }
@@ -56,7 +56,7 @@ function gap() {
     return chance(10) ? "  " : " "
 }
 
-# One line of a text, as the style of the design has it: cut in two at a gap, with a comment behind.
+# One line of a text in the style of the design: cut in two at a gap, with a comment after it.
 function line_of(line,    at, tail) {
     if (chance(joins) && (at = match(line, /[ \t]/))) {
         tail = chance(comments) ? " # goes on" : ""
@@ -67,7 +67,7 @@ function line_of(line,    at, tail) {
     return line line_end
 }
 
-# Between lines: now and then one that says nothing.
+# Between lines: sometimes a line without meaning.
 function idle_line() {
     if (chance(comments)) return "# " one_of("pads pins blocks") line_end
     return chance(5) ? line_end : ""
@@ -85,7 +85,7 @@ function sides(    text, i) {
     return text
 }
 
-# The pins of a logic block, and the lines that say so.
+# The pins of a logic block, and the lines that give them.
 function draw_pins(    text, i, inputs, outputs) {
     inputs = 1 + below(4)
     outputs = chance(8) ? 0 : 1 + below(2)
@@ -149,7 +149,7 @@ function driven_net() {
     return source[chance(25) ? 1 : 1 + below(sources)]
 }
 
-# What the pins read that drive nothing.
+# The nets of the pins that drive nothing.
 function draw_readers(    b, p) {
     for (b = 1; b <= blocks; b++) {
         if (kind[b] == "output" && sources > 0 && chance(90)) net_on[b, 1] = driven_net()
@@ -240,7 +240,7 @@ function give_size(    columns, rows) {
     give("ny", rows)
 }
 
-# Draws a lawful site that is not yet taken for a block: `site`.
+# Draws a lawful site, not yet taken, for a block: `site`.
 function draw_site(b,    tries, i) {
     for (tries = 0; tries < 100; tries++) {
         if (kind[b] == "clb") {
@@ -265,7 +265,7 @@ function like(b,    other) {
     return other
 }
 
-# Lines of a location file that are refused; they name the first block, which no line before has named.
+# Lines of a location file that are refused; they name the first block, which no earlier line names.
 function faulty_locations(    text, own) {
     draw_site(1)
     own = name[1] " " site
@@ -286,7 +286,7 @@ function header(    text) {
     return text line_of("Array size: " (nx + ("WrongSize" in faulty)) " x " ny " logic blocks")
 }
 
-# The location file: some blocks, in any order, fixed or only begun.
+# The location file: some blocks, in any order, fixed or only started.
 function draw_locations(    text, b, line, wants_fault, share) {
     wants_fault = ("BadHeader" in faulty) + ("WrongSize" in faulty) + ("UnknownBlock" in faulty) + ("Repeated" in faulty) \
         + ("NoSuchSite" in faulty) + ("WrongKind" in faulty) + ("Taken" in faulty) + ("BadLine" in faulty)
@@ -304,7 +304,7 @@ function draw_locations(    text, b, line, wants_fault, share) {
     give("pads", "t.pads")
 }
 
-# A number of `places` digits behind the point, in one of the ways to write it.
+# A number with `places` digits after the point, written in one of the possible ways.
 function decimal(value, unit,    whole, part) {
     whole = int(value / unit)
     part = substr(unit + value % unit, 2)
@@ -340,7 +340,7 @@ function draw_moves(    inner) {
     }
 }
 
-# The exit temperature after which so many hot stages stand, where there are so many.
+# The exit temperature that gives `hot` hot stages, if there are that many.
 function exit_after(hot, start, factor,    t, next_t) {
     if (hot == 0) return start + 1 + below(1000)
     t = start
@@ -389,7 +389,7 @@ function draw_options() {
     else if (chance(70)) give("workers", one_of("1 2 3 4 8 64"))
 }
 
-# An option of the command line goes to a place drawn among those before.
+# An option of the command line is inserted at a random place among those before.
 function give(option, value,    at) {
     at = below(++given) + 1
     options[given] = options[at]

@@ -49,14 +49,14 @@ abbrev pub number_of : ℕ → ℕ → ℕ → Option (List ℕ) → Result ℕ 
 number_of n low high None = Err (BadNumber n)
 number_of n low high (Some word) = within n low high (decimal_of word 0)
 
--- the pads for each position that a line gives
+-- the pads at each position that a line gives
 unfoldable pub ratio_of : TextLine → Result ℕ ArchFault
 ratio_of l = number_of l.number 1 64 (slice_get l.words 1)
 
 abbrev pub is_side : List ℕ → Bool
 is_side w = bytes_eq w (codes "top") || bytes_eq w (codes "bottom") || bytes_eq w (codes "left") || bytes_eq w (codes "right")
 
--- without a leading `global`, if there is one
+-- the words without a leading `global`
 abbrev pub without_global : List (List ℕ) → List (List ℕ)
 without_global [] = []
 without_global (w ∷ ws) = if bytes_eq w (codes "global") then ws else w ∷ ws
@@ -69,7 +69,7 @@ abbrev pub pin_fault_from : TextLine → Result ℕ ArchFault → Option ArchFau
 pin_fault_from l (Err e) = Some e
 pin_fault_from l (Ok class) = if are_sides (without_global (drop 3 l.words)) then None else Some (BadPinLine l.number)
 
--- what is wrong with a pin's line, whatever stands before it
+-- what is wrong with a pin's line, whatever lines come before it
 unfoldable pub pin_fault : TextLine → Option ArchFault
 pin_fault l = if is_word (slice_get l.words 1) (codes "class:") then pin_fault_from l (number_of l.number 0 65535 (slice_get l.words 2)) else Some (BadPinLine l.number)
 
@@ -77,7 +77,7 @@ abbrev pub err_of : {A : Type 0} → Result A ArchFault → Option ArchFault
 err_of (Ok value) = None
 err_of (Err e) = Some e
 
--- the first fault of a line, where an `io_rat` stands before it or not, and so many pins
+-- the first fault of a line after lines with `pins` pins, with or without an `io_rat` line among them
 unfoldable pub line_fault : Bool → ℕ → TextLine → Option ArchFault
 line_fault has_ratio pins l =
     if is_io_rat l then (if has_ratio then Some (RepeatedIoRat l.number) else err_of (ratio_of l))
@@ -88,7 +88,7 @@ line_fault has_ratio pins l =
 abbrev pub fault_of : List TextLine → TextLine → Option ArchFault
 fault_of before l = line_fault (list_any is_io_rat before) (count_by is_pin before) l
 
--- the fault of a whole text, whose lines have none
+-- the fault of a whole text whose lines have none
 abbrev pub text_fault : List TextLine → Option ArchFault
 text_fault ls = if not (list_any is_io_rat ls) then Some NoIoRat else if count_by is_pin ls == 0 then Some NoPins else None
 
@@ -100,7 +100,7 @@ fault_after before ls = fault_behind fault_of text_fault before ls
 abbrev pub first_fault : List TextLine → Option ArchFault
 first_fault ls = fault_of_all fault_of text_fault ls
 
--- what lines mean: one of them gives the pads for each position, every pin's line is lawful, and the pins are theirs
+-- what lines mean: one of them gives the pads at each position, every pin's line is lawful, and these are the pins
 pub record IsArch (ls : List TextLine) (ratio : ℕ) (pins : List PinKind) : Type 0 where
   pub line : TextLine
   pub one : filter is_io_rat ls ≡ line ∷ []
@@ -110,13 +110,13 @@ pub record IsArch (ls : List TextLine) (ratio : ℕ) (pins : List PinKind) : Typ
   pub some : 0 < length pins
   pub few : length pins ≤ 1024
 
--- a fault that was answered is this one, or want of memory, which may come for any text (that it comes only where
--- memory was really refused, no contract can say)
+-- a returned fault is this one, or out of memory, which may come for any text (no contract can say that it comes
+-- only where memory was really refused)
 abbrev pub FaultIs : ArchFault → Option ArchFault → Type 0
 FaultIs NoMemory fault = Unit {0}
 FaultIs e fault = fault ≡ Some e
 
--- the pads for each position that lines have given, after one more line without a fault
+-- the pads at each position that lines have given, after one more line without a fault
 abbrev pub ratio_after : Option ℕ → TextLine → Option ℕ
 ratio_after before l = if is_io_rat l then result_ok (ratio_of l) else before
 
@@ -124,7 +124,7 @@ ratio_after before l = if is_io_rat l then result_ok (ratio_of l) else before
 abbrev pub pins_in : TextLine → List PinKind
 pins_in l = if is_pin l then kind_of l ∷ [] else []
 
--- a text's lines mean an architecture, or have a first fault, and never both
+-- a text's lines either mean an architecture or have a first fault, never both
 abbrev pub MeansOrFaults : List TextLine → Type 0
 MeansOrFaults ls =
     ((ratio : ℕ) (pins : List PinKind) → IsArch ls ratio pins → first_fault ls ≡ None)

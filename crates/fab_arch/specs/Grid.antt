@@ -1,12 +1,12 @@
--- The array of sites, after the VPR manual: logic sites inside, pads round them, corners empty.
--- That a pad may take any sub of its position, gaps too, is our own.
+-- The array of sites, after the VPR manual: logic sites inside, pads around them, corners empty.
+-- That a pad may take any sub of its position, with gaps, is our own.
 use Rattle.std.specs.Prelude.{ℕ, ◌≡◌, ◌+◌, ◌*◌, ◌<◌, ◌≤◌, Bool, if◌then◌else◌, nat_lt, nat_le, ◌&&◌, ◌==◌, List, [], ◌∷◌, ◌++◌, map, reverse, Option, Some, None, refl}
 use Rattle.std.specs.List.{range_with_len, list_any}
 use Rattle.fab_arch.specs.declared.array.Site.{Site}
 use Rattle.fab_arch.specs.declared.array.SiteKind.{SiteKind}
 use Rattle.fab_arch.specs.declared.array.SiteKind.TheVariants.{Logic, Pad}
 
--- an array: its columns, its rows, and how many pads a position takes
+-- an array: its columns, its rows, and how many pads each position has
 pub record GridShape : Type 0 where
   pub nx : ℕ
   pub ny : ℕ
@@ -40,7 +40,7 @@ is_position s at = at.0 == s.x && at.1 == s.y
 abbrev pub is_pad_site : GridShape → Site → Bool
 is_pad_site g s = list_any (is_position s) (perimeter g) && nat_lt s.sub g.io_rat
 
--- the kind of a site, or none where the array has no such site
+-- the kind of a site, or none if the array has no such site
 abbrev pub kind_at : GridShape → Site → Option SiteKind
 kind_at g s = if is_logic_site g s then Some Logic else if is_pad_site g s then Some Pad else None
 
@@ -50,18 +50,18 @@ HasLogicSites g logic = logic ≤ g.nx * g.ny
 abbrev pub HasPadSites : GridShape → ℕ → Type 0
 HasPadSites g pads = pads ≤ 2 * (g.nx + g.ny) * g.io_rat
 
--- so many logic blocks and pads find a site each
+-- there is a site for each of `logic` logic blocks and `pads` pads
 abbrev pub Holds : GridShape → ℕ → ℕ → Type 0
 Holds g logic pads = HasLogicSites g logic × HasPadSites g pads
 
 abbrev pub square : ℕ → ℕ → GridShape
 square n io_rat = shape n n io_rat
 
--- no square holds them whose side is at least 1 and less than this
+-- no square with a side of at least 1 and less than `below` holds them
 abbrev pub NoSquareHolds : ℕ → ℕ → ℕ → ℕ → Type 0
 NoSquareHolds below logic pads io_rat = (n : ℕ) → 1 ≤ n → n < below → ¬ Holds (square n io_rat) logic pads
 
--- the least square array that holds so many logic blocks and pads
+-- the least square array with a site for each of `logic` logic blocks and `pads` pads
 pub record IsLeastSquare (g : GridShape) (logic pads io_rat : ℕ) : Type 0 where
   pub is_square : g ≡ square g.nx io_rat
   pub limits : AreLimits g.nx g.nx io_rat

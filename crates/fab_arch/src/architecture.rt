@@ -14,7 +14,7 @@ pub enum PinKind {
 /// An architecture.
 #[derive(Drop)]
 pub struct Arch {
-    /// How many pads a position at the edge of the array takes, 1 to 64.
+    /// How many pads each position at the edge of the array has, 1 to 64.
     pub io_rat: u16,
     /// The pins of a logic block, in order, 1 to 1,024 of them.
     pub pins: Vec<PinKind>,

@@ -1,4 +1,4 @@
-//! The array: logic sites in rows and columns, and pads round them.
+//! The array: logic sites in rows and columns, and pads around them.
 
 ghost use Rattle.std.specs.Prelude.{◌≡◌, ◌↔◌, ℕ, ◌+◌, ◌*◌, ◌<◌, ◌≤◌, ◌&&◌, ◌||◌, ◌==◌, nat_le, Ok, Err, IsTrue, IsOk, IfOk, IfErr, slice_get};
 ghost use Rattle.std.specs.List.{list_any};
@@ -8,12 +8,12 @@ ghost use Rattle.fab_arch.specs.declared.fault.GridFault.TheVariants.{TooFewLogi
 use crate::fault::GridFault;
 use std::marker::Model;
 
-/// A place for a block: column `x`, row `y`, and for a pad which of the pads of its position.
+/// A place for a block: column `x`, row `y`, and `sub`, the number of a pad at its position.
 #[derive(Clone, Copy, Debug, PartialEq, Eq)]
 pub struct Site {
     pub x: u16,
     pub y: u16,
-    /// 0 for a logic site.
+    /// From 0 for a pad; 0 for a logic site.
     pub sub: u16,
 }
 
@@ -24,9 +24,9 @@ pub enum SiteKind {
     Pad,
 }
 
-/// An array of `nx` columns and `ny` rows of logic sites, with `io_rat` pads at each position round it.
+/// An array of `nx` columns and `ny` rows of logic sites, with `io_rat` pads at each position around it.
 ///
-/// Logic sites are (1, 1) to (nx, ny) with sub 0. Pad positions stand at x = 0, x = nx + 1, y = 0 and
+/// Logic sites are (1, 1) to (nx, ny) with sub 0. Pad positions are at x = 0, x = nx + 1, y = 0 and
 /// y = ny + 1; the four corners are empty.
 #[derive(Clone, Copy, Debug, PartialEq, Eq)]
 pub struct Grid {
@@ -55,7 +55,7 @@ fn are_limits(nx: u16, ny: u16, io_rat: u16) -> bool
 }
 
 impl Grid {
-    /// An array of `nx` by `ny` logic sites, 1 to 1,000 each, with `io_rat` pads, 1 to 64, at a position.
+    /// An array of `nx` by `ny` logic sites, 1 to 1,000 each, with `io_rat` pads, 1 to 64, at each position.
     pub fn new(nx: u16, ny: u16, io_rat: u16) -> Result<Grid, GridFault>
         ensures grid { IfOk result (λ g. g ≡ shape nx ny io_rat) }
         ensures limits { IsOk result ↔ AreLimits nx ny io_rat }
@@ -68,8 +68,8 @@ impl Grid {
         }
     }
 
-    /// The least square array that so many logic blocks and pads find a site each on. `SizeOutOfRange` where
-    /// its side would be above 1,000, or where `io_rat` is outside 1 to 64.
+    /// The least square array with a site for each of `logic` logic blocks and `pads` pads. `SizeOutOfRange` if
+    /// its side would be above 1,000, or if `io_rat` is outside 1 to 64.
     pub fn fit(logic: usize, pads: usize, io_rat: u16) -> Result<Grid, GridFault>
         ensures least { IfOk result (λ g. IsLeastSquare g logic pads io_rat) }
         ensures fault { IfErr result (λ e. (e ≡ SizeOutOfRange) × ((1 ≤ io_rat) × (io_rat ≤ 64) → NoSquareHolds 1001 logic pads io_rat)) }
@@ -83,7 +83,7 @@ impl Grid {
         Err(GridFault::SizeOutOfRange)
     }
 
-    /// Whether so many logic blocks and pads find a site each, the logic blocks first.
+    /// Whether there is a site for each of `logic` logic blocks and `pads` pads. Logic blocks are checked first.
     pub fn holds(&self, logic: usize, pads: usize) -> Result<(), GridFault>
         ensures holds { IsOk result ↔ Holds self.now logic pads }
         ensures logic { (result ≡ Err TooFewLogicSites) ↔ (¬ HasLogicSites self.now logic) }
@@ -100,7 +100,7 @@ impl Grid {
         }
     }
 
-    /// How many columns of logic sites there are, 1 to 1,000.
+    /// The number of columns of logic sites, 1 to 1,000.
     pub fn nx(&self) -> u16
         ensures value { result ≡ self.now.nx }
         ensures limits { (1 ≤ result) × (result ≤ 1000) }
@@ -109,7 +109,7 @@ impl Grid {
         self.nx
     }
 
-    /// How many rows of logic sites there are, 1 to 1,000.
+    /// The number of rows of logic sites, 1 to 1,000.
     pub fn ny(&self) -> u16
         ensures value { result ≡ self.now.ny }
         ensures limits { (1 ≤ result) × (result ≤ 1000) }
@@ -117,7 +117,7 @@ impl Grid {
         self.ny
     }
 
-    /// How many pads a position takes, 1 to 64.
+    /// How many pads each position has, 1 to 64.
     pub fn io_rat(&self) -> u16
         ensures value { result ≡ self.now.io_rat }
         ensures limits { (1 ≤ result) × (result ≤ 64) }
@@ -125,14 +125,14 @@ impl Grid {
         self.io_rat
     }
 
-    /// The pad position of this number in perimeter order, from 0, or `None` from 2·(nx + ny) on.
+    /// Pad position `i` in perimeter order, from 0; `None` from 2·(nx + ny) on.
     pub fn pad_at(&self, i: usize) -> Option<(u16, u16)>
         ensures { result ≡ slice_get (perimeter self.now) i }
     {
         position_at(self.nx, self.ny, i)
     }
 
-    /// The kind of a site, or `None` where the array has no such site.
+    /// The kind of a site, or `None` if the array has no such site.
     pub fn has_site(&self, site: Site) -> Option<SiteKind>
         ensures { result ≡ kind_at self.now site }
     {
@@ -158,7 +158,7 @@ impl Grid {
     }
 }
 
-/// The position of this number round an array.
+/// Position `i` in perimeter order around an array.
 fn position_at(nx: u16, ny: u16, i: usize) -> Option<(u16, u16)>
     requires { (nx ≤ 1000) × (ny ≤ 1000) }
     ensures { (io_rat : ℕ) → result ≡ slice_get (perimeter (shape nx ny io_rat)) i }
@@ -178,14 +178,14 @@ fn position_at(nx: u16, ny: u16, i: usize) -> Option<(u16, u16)>
     }
 }
 
-/// Whether a coordinate is one of a side's.
+/// Whether a coordinate is from 1 to `side`.
 fn is_within(at: u16, side: u16) -> bool
     ensures { result ≡ (nat_le 1 at && nat_le at side) }
 {
     1 <= at && at <= side
 }
 
-/// Whether a coordinate is one of a side's while the other one is just outside the array.
+/// Whether one coordinate is from 1 to `side` and the other is just outside the array.
 fn is_beside(along: u16, side: u16, across: u16, depth: u16) -> bool
     requires { depth ≤ 1000 }
     ensures { result ≡ ((nat_le 1 along && nat_le along side) && (across == 0 || across == depth + 1)) }
@@ -193,7 +193,7 @@ fn is_beside(along: u16, side: u16, across: u16, depth: u16) -> bool
     is_within(along, side) && (across == 0 || across == depth + 1)
 }
 
-/// Whether a site's position is one of those round an array.
+/// Whether a site's position is one of those around an array.
 fn is_round(nx: u16, ny: u16, site: Site) -> bool
     requires { (nx ≤ 1000) × (ny ≤ 1000) }
     ensures { (io_rat : ℕ) → result ≡ list_any (is_position site) (perimeter (shape nx ny io_rat)) }

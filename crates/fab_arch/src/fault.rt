@@ -1,4 +1,4 @@
-//! Why a text is no architecture, and why an array is none or is too small.
+//! Why a text is no architecture, and why an array is not possible or too small.
 
 ghost use Rattle.std.specs.Prelude.{◌≡◌, Some};
 ghost use Rattle.fab_arch.specs.FaultTexts.{arch_fault_text, grid_fault_text};
@@ -8,22 +8,22 @@ use std::alloc::{AllocError, AllocFailed};
 use std::fmt;
 use thiserror::Error;
 
-/// Why a text is no architecture: its first fault. A number is that of the faulty line.
+/// Why a text is no architecture: its first fault. The number is that of the faulty line.
 #[derive(Clone, Copy, Debug, PartialEq, Eq, Error)]
 pub enum ArchFault {
-    /// No line gives the pads for each position.
+    /// No line gives the number of pads at each position.
     NoIoRat,
-    /// A second line gives them.
+    /// A second line gives the number of pads at each position.
     RepeatedIoRat(u64),
-    /// A number is missing, is 0 where it may not be, or has a bad digit.
+    /// A number is missing, is 0 where that is not allowed, or has a bad digit.
     BadNumber(u64),
-    /// A pin's line has another form.
+    /// A pin's line has a wrong form.
     BadPinLine(u64),
     /// No line gives a pin.
     NoPins,
-    /// More than 64 pads for each position, a class above 65,535, or a pin above the 1,024th.
+    /// More than 64 pads at each position, a class above 65,535, or a pin above the 1,024th.
     TooLarge(u64),
-    /// There was no memory to read on.
+    /// Memory ran out.
     NoMemory,
 }
 
@@ -59,14 +59,14 @@ impl<T: Drop> From<AllocFailed<T>> for ArchFault {
     }
 }
 
-/// Why there is no such array, or why blocks do not fit on one.
+/// Why an array is not possible, or why blocks do not fit on it.
 #[derive(Clone, Copy, Debug, PartialEq, Eq, Error)]
 pub enum GridFault {
     /// There are more logic blocks than logic sites.
     TooFewLogicSites,
     /// There are more pads than pad sites.
     TooFewPadSites,
-    /// A side outside 1 to 1,000, or pads for each position outside 1 to 64.
+    /// A side is outside 1 to 1,000, or the pads at each position are outside 1 to 64.
     SizeOutOfRange,
 }
 

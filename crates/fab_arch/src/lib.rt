@@ -1,4 +1,4 @@
-//! Architectures: what an architecture text says, and the array of sites that blocks are placed on.
+//! Architectures: what an architecture text says, and the array of sites for the blocks.
 #![tactic(auto)]
 
 pub mod architecture;

@@ -93,7 +93,7 @@ fn number_of(line: u64, low: u64, high: u64, word: Option<&[u8]>) -> Result<u64,
     }
 }
 
-/// The words behind a leading `global`.
+/// The words without a leading `global`.
 fn without_global<'a, 'b>(words: &'b [&'a [u8]]) -> &'b [&'a [u8]]
     ensures { map (λ w. w.now) result.now ≡ without_global (map (λ w. w.now) words.now) }
 {
@@ -109,7 +109,7 @@ fn without_global<'a, 'b>(words: &'b [&'a [u8]]) -> &'b [&'a [u8]]
     }
 }
 
-/// Whether a pin's line is lawful, whatever stands before it.
+/// Whether a pin's line is lawful, whatever lines come before it.
 #[tactic(auto, unfolding(crate::specs::Arch::pin_fault))]
 fn check_pin(line: &Line) -> Result<(), ArchFault>
     ensures { pin_fault (shown line.now) ≡ err_of result }
@@ -142,7 +142,7 @@ fn ratio_of(line: &Line) -> Result<u16, ArchFault>
 }
 
 impl Seen {
-    /// Whether a line is lawful behind those before it. That needs no memory, so a fault is always told as that fault.
+    /// Whether a line is lawful after those before it. Needs no memory, so a faulty line always gives its fault.
     #[tactic(auto, unfolding(crate::specs::Arch::line_fault))]
     fn check_line(&self, line: &Line) -> Result<(), ArchFault>
         ensures { line_fault (is_some self.now.io_rat) (length self.now.pins.items) (shown line.now) ≡ err_of result }
@@ -164,7 +164,7 @@ impl Seen {
         Ok(())
     }
 
-    /// Adds what a line says that is lawful. Nothing but want of memory can stop that.
+    /// Adds what a lawful line says. Fails only if memory runs out.
     fn add_line(&mut self, line: &Line) -> Result<(), AllocError>
         ensures io_rat { OnOk result (self.new.io_rat ≡ ratio_after self.old.io_rat (shown line.now)) }
         ensures pins { OnOk result (self.new.pins.items ≡ self.old.pins.items ++ pins_in (shown line.now)) }
@@ -180,14 +180,14 @@ impl Seen {
     }
 }
 
-/// The architecture that a text means, or its first fault: that of the first line with one, else that of the
-/// whole text.
+/// Reads the architecture that a text means, or returns its first fault: that of the first faulty line, else that
+/// of the whole text.
 pub fn read_arch(alloc: Global, bytes: &[u8]) -> Result<Arch, ArchFault>
     // What is read is what the lines mean.
     ensures found { IfOk result (λ a. IsArch (lines bytes.now) a.io_rat a.pins.items) }
     // What they mean is read, unless memory runs out.
     ensures only { (io_rat : ℕ) (pins : List PinKind) → IsArch (lines bytes.now) io_rat pins → MatchResult result (λ a. (a.io_rat ≡ io_rat) × (a.pins.items ≡ pins)) (λ e. e ≡ NoMemory) }
-    // An error is the first fault, or want of memory.
+    // An error is the first fault, or out of memory.
     ensures fault { IfErr result (λ e. FaultIs e (first_fault (lines bytes.now))) }
 {
     read(alloc, bytes)

@@ -1,4 +1,4 @@
--- Lists in which each number stands as often as in another.
+-- Lists in which each number occurs as often as in another.
 use Rattle.std.proofs.Common.{◌≡◌, ℕ, zero, suc, ◌+◌, ◌<◌, List, [], ◌∷◌, length, get_or, sum_by, refl, sym, ap, ◌∙◌, arith}
 use Rattle.std.specs.Prelude.{IsPermutation, remove, All}
 use Rattle.std.specs.List.{range_with_len}
@@ -13,7 +13,7 @@ use Rattle.fab_board.specs.Counts.{hit, times, once_below}
 use Rattle.fab_board.specs.Views.{SeatModel, all_numbers}
 use Rattle.fab_board.proofs.Sums.{times_append, once_more, hit_self, hit_other}
 
--- a number that is counted stands somewhere
+-- a number that is counted occurs somewhere
 abbrev At : ℕ → List ℕ → Type 0
 At x xs = (i : ℕ) × (i < length xs) × (get_or xs i x ≡ x)
 

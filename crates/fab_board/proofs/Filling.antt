@@ -37,7 +37,7 @@ pub length-filled : {T : Type 0} (slots : List (Option T)) (ps : List (ℕ × T)
 length-filled slots [] = refl
 length-filled slots (p ∷ ps) = length-set (filled slots ps) p.0 (Some p.1) ∙ length-filled slots ps
 
--- one answer that stands at the end is put in first
+-- the answer at the end is put in first
 pub filled-push : {T : Type 0} (slots : List (Option T)) (ps : List (ℕ × T)) (p : ℕ × T) → filled slots (ps ++ p ∷ []) ≡ filled (set slots p.0 (Some p.1)) ps
 filled-push slots [] p = refl
 filled-push {T} slots (q ∷ ps) p = ap (λ (l : List (Option T)). set l q.0 (Some q.1)) (filled-push slots ps p)

@@ -28,7 +28,7 @@ none_told k s r l = dite (ℕ_discrete (tellings s.views) 0) (λ e. e) (λ ne. l
 fair_set : (count : ℕ) (vs : List View) (id : ℕ) (w : View) → ((i : ℕ) (v : View) → get_elem? vs i ≡ some v → Fair count v) → Fair count w → (i : ℕ) (v : View) → get_elem? (set vs id w) i ≡ some v → Fair count v
 fair_set count vs id w others mine i v e = ⊎_elim (λ (t : (i ≡ id) × (w ≡ v)). subst (Fair count) t.1 mine) (λ (t : (i ≢ id) × (get_elem? vs i ≡ some v)). others i v t.1) (at_set vs id i w v e)
 
--- what one step by 1 owes, at the number n that it finds
+-- what is to prove of one step by 1 that finds the number n
 Goes : Size → St → ℕ → M → ℕ → Type 0
 Goes k s id me n = (w : View) × (a : Act (Unit {0})) × Valid s.homes me.1 a × Dealt k (stepped s 0 ((n + 1) % 2 ^ 64) id me.1 w a) × Claimed (step 0 0 1 0 none) me n (w, carried_after me.1 a)
 
@@ -180,7 +180,7 @@ closes k id v words xs word taken end found all is =
       λ h. taken_is ∙ r.all_given (omega arith),
     )
 
--- a sum over the seats, of which one is taken from the end
+-- a sum over the seats, with one seat taken from the end
 pub opens : (count seats : ℕ) → count ≤ 2 ^ 62 → seats ≤ 64 → Dealt (sized count seats) (opening (0 ∷ []) [] (opened (sized count seats)))
 opens count seats small few = record {
   word = refl;

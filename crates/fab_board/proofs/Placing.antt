@@ -10,7 +10,7 @@ latest_push [] e = refl
 latest_push (x ∷ []) e = refl
 latest_push (x ∷ y ∷ xs) e = latest_push (y ∷ xs) e
 
--- what stands at the end of a list, and before it
+-- what is at the end of a list, and before it
 here : {X : Type 0} (xs : List X) (x d : X) → get_or (xs ++ x ∷ []) (length xs) d ≡ x
 here [] x d = refl
 here (y ∷ ys) x d = here ys x d

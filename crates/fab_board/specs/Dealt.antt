@@ -1,5 +1,5 @@
--- The rule of the board's word. It is that of a shared ticket counter, which each taker moves on by one fetch_add; what the seats
--- know of it, and that a board's count ends it, is our own.
+-- The rule of the board's word. It is that of a shared ticket counter, which each taker advances with one fetch_add. What the seats
+-- know of it, and that it ends at the board's count, is our own.
 use Rattle.std.specs.Prelude.{◌≡◌, ℕ, ◌+◌, ◌-◌, ◌^◌, ◌<◌, ◌≤◌, List, [], ◌∷◌, ◌++◌, length, sum_by, All, MatchBool, nat_lt}
 use mathlib.Core.Option.{some}
 use lib.ListN.{get_elem?}
@@ -18,7 +18,7 @@ knows count parts list told = record { count = count; parts = parts; list = list
 abbrev pub given : List View → ℕ
 given vs = sum_by (λ v. length v.list) vs
 
--- how often a seat was told that there is none
+-- how often the seats were told that no number is left
 abbrev pub tellings : List View → ℕ
 tellings vs = sum_by (λ v. v.told) vs
 
@@ -30,12 +30,12 @@ drawn x vs = sum_by (λ v. times x v.list) vs
 abbrev pub parts : List View → ℕ
 parts vs = sum_by (λ v. v.parts) vs
 
--- a seat has as many parts as tellings or more; with no part it has no number, and with one it knows the board's count
+-- a seat has at least as many parts as tellings; without a part it has no number, and with one it knows the board's count
 abbrev pub Fair : ℕ → View → Type 0
 Fair count v = (v.told ≤ v.parts) × (v.parts ≡ 0 → v.list ≡ []) × (0 < v.parts → v.count ≡ count)
 
--- The word is the numbers given and the tellings together; the numbers given are the first ones, each once; a seat is told None
--- only where all are given; the parts are the board's seats, so the word never wraps.
+-- The word is the count of the numbers given plus the tellings. The numbers given are the first ones, each once. A seat is told
+-- None only once all are given. There are as many parts as the board has seats, so the word never wraps.
 pub record Dealt (k : Size) (s : State (Unit {0}) View) : Type 0 where
   pub word : s.words ≡ (given s.views + tellings s.views) ∷ []
   pub below : given s.views ≤ k.count
@@ -49,7 +49,7 @@ pub record Dealt (k : Size) (s : State (Unit {0}) View) : Type 0 where
 abbrev pub opened : Size → View
 opened k = knows k.count k.seats [] 0
 
--- what a fetch_add tells: the number found is a new one of the seat's, above its others, or all are given
+-- what a fetch_add tells: the number found is a new one for the seat, above its others; or all numbers are given
 abbrev pub Claimed : Step (Unit {0}) → Me (Unit {0}) View → ℕ → Me (Unit {0}) View → Type 0
 Claimed st v found w = (w.1 ≡ v.1) × MatchBool (nat_lt found v.0.count)
     ((w.0 ≡ knows v.0.count v.0.parts (v.0.list ++ found ∷ []) v.0.told) × All (λ x. x < found) v.0.list)

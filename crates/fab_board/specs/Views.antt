@@ -1,5 +1,5 @@
 -- What contracts see of a board and of a seat. Our own: a seat is the list of numbers that it was given, and whether it was told
--- that there is none.
+-- that none is left.
 use Rattle.std.specs.Prelude.{ℕ, List, Bool, flat_map}
 use Rattle.atomic_table.specs.Seated.{TableId}
 

@@ -10,7 +10,7 @@ use atomic_table::{Seat, Shared, Table};
 use std::alloc::{AllocError, Global};
 use std::marker::Model;
 
-/// The numbers below a count, each of which at most one seat claims. Threads share it by reference.
+/// The numbers below a count. At most one seat claims each number. Threads share the board by reference.
 #[derive(Drop)]
 pub struct Board {
     table: Table<(), View, Size, Deal, Global>,
@@ -26,8 +26,8 @@ impl Model for Board {
     ghost invariant = { λ b. (b.table.shared.table_id.words ≡ 1) × (b.table.shared.table_id.slots ≡ 0) × (b.table.shared.key ≡ sized b.count b.seats) × (0 < b.seats) };
 }
 
-/// The right of one thread to claim numbers of one board. To contracts it is the list of numbers that it was given, and whether
-/// it was told that none is left.
+/// The right of one thread to claim numbers of one board. Contracts see it as its board, the list of numbers that it was given, and
+/// whether it was told that none is left.
 #[derive(Drop)]
 pub struct ClaimSeat {
     seat: Seat<(), View>,
@@ -42,15 +42,15 @@ impl Model for ClaimSeat {
     ghost invariant = { λ s. (s.seat.me.1 ≡ []) × (s.seat.me.0.parts ≡ 1) × (s.seat.me.0.told ≡ cond s.told 1 0) };
 }
 
-/// What was claimed of a board that is closed.
+/// What was claimed from a board that is closed.
 #[derive(Clone, Copy, Debug, PartialEq, Eq)]
 pub struct Claims {
-    /// How many numbers were claimed: they are those below it.
+    /// How many numbers were claimed. They are the numbers below this count.
     pub taken: u64,
 }
 
 impl Board {
-    /// A board of the numbers below `count`, and its seats. An error comes only where memory ran out.
+    /// Creates a board of the numbers below `count`, at most 2^62, and its seats, from 1 to 64. An error means that memory ran out.
     pub fn new(alloc: Global, count: u64, seats: u64) -> Result<(Board, Vec<ClaimSeat>), AllocError>
         requires count { count ≤ 2 ^ 62 }
         requires seats { (0 < seats) × (seats ≤ 64) }
@@ -75,13 +75,13 @@ impl Board {
         Ok((board, all))
     }
 
-    /// The least number that no seat has claimed, or None once all are claimed. It takes one atomic step and never waits; a seat
-    /// that was told None takes no further step.
+    /// Claims the least number that no seat has claimed; `None` once all are claimed. It takes one atomic step and never waits. A seat
+    /// that was told `None` takes no further step.
     pub fn claim(&self, seat: &mut ClaimSeat) -> Option<u64>
         requires { seat.old.board ≡ self.now.name }
         ensures board { seat.new.board ≡ seat.old.board }
 
-        // The number goes to the end of the seat's list, above those that stand there.
+        // The number goes to the end of the seat's list, and is above those already there.
         ensures some { IfSome result (λ i. (seat.new.list ≡ seat.old.list ++ i ∷ []) × (seat.new.told ≡ false)) }
         ensures below { IfSome result (λ i. i < self.now.name.count) }
         ensures above { IfSome result (λ i. All (λ x. x < i) seat.old.list) }
@@ -101,7 +101,7 @@ impl Board {
         }
     }
 
-    /// Ends the board, given all its seats, and says how many numbers they claimed.
+    /// Closes the board, given all its seats, and returns how many numbers they claimed.
     pub fn close(self, seats: Vec<ClaimSeat>) -> Claims
         requires all { length seats.items ≡ self.seats }
         requires own { All (λ s. s.board ≡ self.name) seats.items }
@@ -120,14 +120,14 @@ impl Board {
         let closed = table.close_with(seat);
         let word = closed.word(0);
         closed.free();
-        // Each seat that was told None added 1 as well.
+        // Each seat that was told `None` added 1 as well.
         Claims {
             taken: word.min(count),
         }
     }
 }
 
-// Makes one seat of all, which knows what each of them knew.
+// Joins all seats into one, which knows what each of them knew.
 fn gather(shared: &Shared<(), View, Size, Deal>, mut seats: Vec<ClaimSeat>) -> Seat<(), View>
     requires some { 0 < length seats.items }
     requires table { shared.now.table_id.words ≡ 1 }

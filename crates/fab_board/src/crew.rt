@@ -1,4 +1,4 @@
-// A crew of threads that stands from turn to turn. Its owner posts a job, does something else while the crew judges the job's
+// A crew of threads that lasts from turn to turn. Its owner posts a job, does something else while the crew judges the job's
 // numbers, and collects an answer for each.
 ghost use Rattle.std.specs.Prelude.{◌≡◌, ℕ, ◌<◌, ◌≤◌, [], length, true, Option, Some, None, IfOk, OnOk, OnErr, IfSome};
 ghost use Rattle.std.specs.Arc.{arc_value};
@@ -14,7 +14,7 @@ use std::sync::{Arc, Mutex, RwLock, Wait};
 use std::thread::Threads;
 use std::{hint, thread};
 
-/// A job: what the judging reads, and how many numbers there are. The numbers are those below the count.
+/// A job: what its judgements read, and how many numbers there are. The numbers are those below the count.
 pub trait Task<T>: Drop {
     ghost count: { Self → ℕ };
 
@@ -24,14 +24,14 @@ pub trait Task<T>: Drop {
     fn count(&self) -> u64
         ensures { result ≡ count self.now };
 
-    /// An answer for the number. Threads call it side by side, and may ask for a number twice. An error comes only where memory
-    /// ran out.
+    /// Returns an answer for the number. Threads call it concurrently, and a number may be judged twice. An error means that memory ran
+    /// out.
     fn judge(&self, number: u64) -> Result<T, AllocError>
         requires { number < count self.now }
         ensures { IfOk result (λ x. answer self.now number x) };
 }
 
-// A job as all threads read it, and the front that ends in it.
+// A job as all threads read it, and the front whose last entry it is.
 #[derive(Drop)]
 struct Posted<E: Drop, J: Naming> {
     job: Arc<E>,
@@ -46,7 +46,7 @@ struct Judged<T: Drop> {
     answers: Vec<T>,
 }
 
-// What one thread answered, and the front that it was judged at.
+// What one thread answered, and the front that its job was posted with.
 #[derive(Drop)]
 struct Reply<E: Task<T>, T: Drop, J: Naming> {
     front: Front<E, J>,
@@ -65,17 +65,17 @@ impl<E: Task<T>, T: Drop, J: Naming> Model for Reply<E, T, J> {
     ghost invariant = { λ r. (e : E) → latest r.front ≡ Some e → Paired (E.answer e) r.judged.numbers.items r.judged.answers.items };
 }
 
-// No thread claims more numbers at once, so that none is left alone with many at the end.
+// The most numbers that a thread claims at once. More could leave one thread with many of them at the end.
 const MOST_AT_ONCE: u64 = 16;
 
-// How many numbers a thread claims at once: so few that each claims some sixteen times, and in a small batch one by one.
+// How many numbers a thread claims at once: few enough that each thread claims about sixteen times, and one in a small batch.
 fn chunk_of(count: u64, workers: u64) -> u64
     ensures { (0 < result) × (result ≤ 16) }
 {
     (count / 16 / workers.saturating_add(1)).min(MOST_AT_ONCE - 1) + 1
 }
 
-// Answers numbers that nobody has claimed, until there is none.
+// Claims numbers and answers them, until none is left.
 fn claim_all<E: Task<T>, T: Drop>(
     alloc: Global,
     job: &E,
@@ -86,7 +86,7 @@ fn claim_all<E: Task<T>, T: Drop>(
 {
     let count = job.count();
     let chunk = chunk_of(count, workers);
-    // One that comes when all is claimed asks for no memory.
+    // A thread that comes when all numbers are claimed allocates nothing.
     let late = next.load(Ordering::SeqCst) >= count;
     let room = if late {
         0
@@ -128,11 +128,11 @@ pub struct Shared<E: Task<T>, T: Drop, J: Naming> {
     alloc: Global,
     book: Book<E, J>,
     posted: RwLock<Option<Posted<E, J>>>,
-    // A place for each worker's reply.
+    // A slot for each worker's reply.
     boxes: Vec<Mutex<Option<Reply<E, T, J>>>>,
     // The next number that nobody has claimed.
     next: AtomicU64,
-    // How often a job was posted.
+    // How many jobs were posted, and one more once the crew is sent home.
     turn: AtomicU64,
     asleep: AtomicU64,
     // How many workers are at a job.
@@ -141,16 +141,16 @@ pub struct Shared<E: Task<T>, T: Drop, J: Naming> {
     stop: AtomicU64,
 }
 
-// A sleeping processor is slow to wake, up to a millisecond and more on a virtual machine, and a turn takes less. So a thread looks
-// for some microseconds and stays on its processor, then for some milliseconds and lends it to others, and only then sleeps.
+// A sleeping processor is slow to wake: a millisecond or more on a virtual machine, and a turn takes less. So a thread first spins for
+// some microseconds, then polls for some milliseconds and yields its processor to others, and only then sleeps.
 const SPINS: u64 = 4000;
 
 const YIELDS: u64 = 20000;
 
-// A number past those of each job.
+// A number beyond those of every job.
 const ALL_CLAIMED: u64 = 1 << 63;
 
-// Looks until the word is no longer `seen`, for a while.
+// Polls for a while, until the word is no longer `seen`. Returns the word.
 fn look_past(word: &AtomicU64, seen: u64) -> u64 {
     for _ in 0..SPINS {
         let now = word.load(Ordering::SeqCst);
@@ -169,7 +169,7 @@ fn look_past(word: &AtomicU64, seen: u64) -> u64 {
     word.load(Ordering::SeqCst)
 }
 
-// Waits until the word is no longer `seen`: looks for a while, then sleeps.
+// Waits until the word is no longer `seen`: polls for a while, then sleeps.
 fn wait_past<R: Wait>(rt: &R, word: &AtomicU64, asleep: &AtomicU64, seen: u64) -> u64 {
     let now = look_past(word, seen);
     if now != seen {
@@ -209,7 +209,7 @@ impl<E: Task<T>, T: Drop, J: Naming> Shared<E, T, J> {
         })
     }
 
-    // Answers what is left of the posted job. None where there is no job or no memory.
+    // Answers what is left of the posted job. `None` if there is no job, or if memory ran out.
     fn judge<R: Wait>(&self, rt: &R) -> Option<Reply<E, T, J>> {
         let guard = self.posted.read(rt);
         match &*guard {
@@ -220,7 +220,7 @@ impl<E: Task<T>, T: Drop, J: Naming> Shared<E, T, J> {
         }
     }
 
-    // Leaves the worker's reply in its box. One without an answer would push out another that the owner has yet to take.
+    // Leaves the worker's reply in its box. A reply without answers is dropped: it could replace one that the owner has yet to take.
     fn leave<R: Wait>(&self, rt: &R, me: usize, reply: Reply<E, T, J>) {
         if reply.judged.numbers.is_empty() {
             return;
@@ -230,7 +230,7 @@ impl<E: Task<T>, T: Drop, J: Naming> Shared<E, T, J> {
         }
     }
 
-    // A worker's life.
+    // Runs a worker until the crew is sent home.
     fn work<R: Wait>(&self, rt: &R, me: usize) {
         let mut seen = 0;
         for _ in rt.forever() {
@@ -251,7 +251,7 @@ impl<E: Task<T>, T: Drop, J: Naming> Shared<E, T, J> {
 
     fn post<R: Wait>(&self, rt: &R, posted: Posted<E, J>) {
         let mut place = self.posted.write(rt);
-        // No worker is at a job here, so none claims numbers of an older one.
+        // The lock is held, so no worker is at a job, and none claims numbers of an older one.
         self.next.store(0, Ordering::SeqCst);
         *place = Some(posted);
         drop(place);
@@ -261,7 +261,7 @@ impl<E: Task<T>, T: Drop, J: Naming> Shared<E, T, J> {
         }
     }
 
-    // Waits for those that are at the job, and not for those that have not come to it.
+    // Waits for the workers that are at the job, but not for those that have not begun it.
     fn finish<R: Wait>(&self, rt: &R) {
         let mut seen = self.inside.load(Ordering::SeqCst);
         for _ in rt.forever() {
@@ -272,7 +272,7 @@ impl<E: Task<T>, T: Drop, J: Naming> Shared<E, T, J> {
         }
     }
 
-    // Takes the posted job back. No worker is at it then, and none claims a number of it again.
+    // Takes the posted job back. After this no worker is at it, and none claims a number of it again.
     fn withdraw<R: Wait>(&self, rt: &R) {
         self.next.store(ALL_CLAIMED, Ordering::SeqCst);
         *self.posted.write(rt) = None;
@@ -283,8 +283,8 @@ impl<E: Task<T>, T: Drop, J: Naming> Shared<E, T, J> {
     }
 }
 
-// What the owner has of the answers: all of them in order, if one thread gave them so, and a place for each number, once some are
-// to be put there.
+// The answers that the owner has gathered: all of them in order, if one thread gave them so; and a slot for each number, once there
+// are answers to put there.
 #[derive(Drop)]
 struct Gathered<T: Drop> {
     whole: Option<Vec<T>>,
@@ -306,7 +306,7 @@ fn is_in_order(numbers: &[u64], count: u64) -> bool
     true
 }
 
-// Puts the reply's answers to what is gathered, if they are answers to this job. Where one thread answered all numbers in order, no
+// Adds the reply's answers to the gathered ones, if they are answers to this job. If one thread answered all numbers in order, no
 // answer is moved.
 #[tactic(auto, using(crate::proofs::Placing::whole_in_order, crate::proofs::Filling::vacant_places))]
 fn add_reply<E: Task<T>, T: Drop, J: Naming>(
@@ -324,7 +324,7 @@ fn add_reply<E: Task<T>, T: Drop, J: Naming>(
     if !front.is_same(&at) {
         return Ok(());
     }
-    // One who found nothing to claim asks for no places.
+    // A thread that found nothing to claim needs no slots.
     if judged.numbers.is_empty() {
         return Ok(());
     }
@@ -339,7 +339,7 @@ fn add_reply<E: Task<T>, T: Drop, J: Naming>(
     Ok(())
 }
 
-// Puts answers into their places.
+// Puts answers into their slots.
 #[tactic(auto, using(crate::proofs::Filling::placed_set, crate::proofs::Placing::paired_pop))]
 fn place_all<E: Task<T>, T: Drop>(_job: &E, judged: Judged<T>, slots: &mut Vec<Option<T>>)
     requires new { Paired (E.answer _job.now) judged.numbers.items judged.answers.items }
@@ -373,7 +373,7 @@ fn one_answer<E: Task<T>, T: Drop>(job: &E, number: u64, slot: Option<T>) -> Res
     }
 }
 
-// The answers in their order. What nobody answered is judged here.
+// The answers in order. The numbers without an answer are judged here.
 fn complete<E: Task<T>, T: Drop>(
     alloc: Global,
     job: &E,
@@ -407,7 +407,7 @@ fn judge_rest<E: Task<T>, T: Drop>(job: &E, mut answers: Vec<T>) -> Result<Vec<T
     Ok(answers)
 }
 
-/// The owner's end of a crew. Contracts see it as the job that is out.
+/// The owner's end of a crew. Contracts see it as the job that is out, if any.
 pub struct Lead<E: Task<T>, T: Drop, J: Naming> {
     shared: Arc<Shared<E, T, J>>,
     front: Front<E, J>,
@@ -428,7 +428,7 @@ impl<E: Task<T>, T: Drop, J: Naming> Model for Lead<E, T, J> {
     ghost invariant = { λ l. l.posted ≡ true → latest l.front ≡ option_map (λ job. arc_value job) l.job };
 }
 
-// Gives the job to the crew, and says whether it did: not where memory ran out, or where the list is longer than the front.
+// Gives the job to the crew. Returns whether it did: not if memory ran out, or if the front cannot enter the job.
 #[tactic(auto, using(crate::proofs::Placing::latest_push))]
 fn hand_out<E: Task<T>, T: Drop, J: Naming, R: Wait>(
     rt: &R,
@@ -452,7 +452,7 @@ fn hand_out<E: Task<T>, T: Drop, J: Naming, R: Wait>(
     true
 }
 
-// The answers to the job that was taken back: those of the replies, and what nobody answered.
+// The answers to the job that was taken back: those of the replies, and new ones for the other numbers.
 fn gather<E: Task<T>, T: Drop, J: Naming, R: Wait>(
     rt: &R,
     alloc: Global,
@@ -485,8 +485,8 @@ fn gather<E: Task<T>, T: Drop, J: Naming, R: Wait>(
 }
 
 impl<E: Task<T>, T: Drop, J: Naming> Lead<E, T, J> {
-    /// Hands a job to the crew, which works on it from now on. A job that was out before is let go. An error comes only where memory
-    /// ran out, and then no job is out.
+    /// Hands a job to the crew, which works on it from now on. If the crew cannot be given the job, `collect` judges all of it. A job that
+    /// was out before is dropped. An error means that memory ran out, and then no job is out.
     pub fn post<R: Wait>(&mut self, rt: &R, job: E) -> Result<(), AllocError>
         ensures out { OnOk result (self.new ≡ Some job) }
         ensures none { OnErr result (self.new ≡ None) }
@@ -504,9 +504,9 @@ impl<E: Task<T>, T: Drop, J: Naming> Lead<E, T, J> {
         Ok(())
     }
 
-    /// Helps the crew, waits for it, and gives an answer for each number of the job that is out; no answers where none is out. Answer
-    /// j is one for the number j. The crew has let go of the job then, and so has the owner. What a worker had no memory for is
-    /// judged again here, so an error comes only where memory is refused to this thread.
+    /// Helps the crew, waits for it, and returns an answer for each number of the job that is out; no answers if no job is out. Answer j
+    /// is for number j. Afterwards neither the crew nor the owner holds the job. Numbers for which a worker ran out of memory are judged
+    /// again here, so an error means that this thread ran out of memory.
     pub fn collect<R: Wait>(&mut self, rt: &R) -> Result<Vec<T>, AllocError>
         ensures gone { self.new ≡ None }
         ensures len { IfOk result (λ v. (e : E) → self.old ≡ Some e → length v.items ≡ E.count e) }
@@ -530,7 +530,7 @@ impl<E: Task<T>, T: Drop, J: Naming> Lead<E, T, J> {
 }
 
 impl<E: Task<T>, T: Drop, J: Naming> Drop for Lead<E, T, J> {
-    /// Sends the crew home. What is unclaimed of a job that is out stays unjudged.
+    /// Sends the crew home. The unclaimed numbers of a job that is out stay unjudged.
     fn drop(self) {
         let Lead {
             shared,
@@ -545,7 +545,7 @@ impl<E: Task<T>, T: Drop, J: Naming> Drop for Lead<E, T, J> {
     }
 }
 
-/// A crew that nobody has joined, and its owner's end, at which no job is out. An error comes only where memory ran out.
+/// Creates a crew that no worker has joined yet, and its owner's end, with no job out. An error means that memory ran out.
 pub fn found<E: Task<T>, T: Drop, J: Naming>(
     alloc: Global,
     opened: Opened<E>,
@@ -568,8 +568,8 @@ pub fn found<E: Task<T>, T: Drop, J: Naming>(
     Ok((crew, lead))
 }
 
-/// The life of a crew: its workers, one in this thread and each other in its own. Returns when its owner's end is let go. A worker
-/// that the system refuses to start leaves its numbers to the others.
+/// Runs the workers of a crew: one in this thread, and each other one in its own. Returns when the owner's end is dropped; at once if
+/// there are no workers. A worker that the system refuses to start leaves its numbers to the others.
 pub fn work_all<
     E: Task<T> + Send + Sync,
     T: Drop + Send,

@@ -1,4 +1,4 @@
-// A batch of numbers that threads judge by one lent closure.
+// A batch of numbers that threads judge with one borrowed closure.
 ghost use Rattle.std.specs.Prelude.{◌≡◌, ℕ, ◌+◌, ◌^◌, ◌<◌, ◌≤◌, List, [], true, length, map, Ok, Some, IfOk, slice_index_or, replicate, None, All, IsSome};
 ghost use Rattle.fab_board.specs.Judged.{numbers, Answered, IsWorked, filled};
 
@@ -8,8 +8,8 @@ use std::sync::Wait;
 use std::thread;
 use std::thread::Threads;
 
-/// What a caller does beside each judgement and each commit, as a test that holds one back until another was made. `k` is the
-/// number that is judged or committed. Each call must return.
+/// What a caller does before and after each judgement and before each commit. For example, a test holds one back until another is
+/// made. `k` is the number that is judged or committed. Each call must return.
 pub trait Gate: Sync {
     fn before_judge(&self, k: u64);
 
@@ -33,12 +33,11 @@ impl Gate for NoGate {
 // A worker's seat, and its answers by number.
 type Worked<T> = (ClaimSeat, Result<Vec<(u64, T)>, AllocError>);
 
-/// Judges `count` numbers from `first` on by `workers` workers, or by `count` where that is less. Two and more are threads that claim the
-/// numbers one by one; one takes them in order, in the caller's thread. Each calls `judge` at a number between the gate's two calls, and
-/// all have ended when this returns. Entry j is an answer for first + j.
+/// Judges the `count` numbers from `first` on, with `workers` workers, or with `count` workers if that is less. Two or more workers are
+/// threads that claim the numbers one by one. A single worker takes them in order, in the caller's thread. A worker calls `judge` for a
+/// number between the gate's two calls, and all workers have ended when this returns. Entry j is an answer for `first + j`.
 ///
-/// An error comes only where memory ran out, in `judge` or here. A worker that the system refuses to start leaves its numbers to
-/// the others.
+/// An error means that memory ran out, in `judge` or here. A worker that the system refuses to start leaves its numbers to the others.
 pub fn judge_batch<
     T: Send + Drop,
     G: Gate,
@@ -73,12 +72,12 @@ pub fn judge_batch<
         fill(&mut slots, answers);
         told.push(seat)?;
     }
-    // All seats were told None, so each place is full.
+    // All seats were told `None`, so each slot is full.
     board.close(told);
     unwrap_all(alloc, slots)
 }
 
-// Judges the numbers in order, so that no board is needed and each answer is in its place at once.
+// Judges the numbers in order. No board is needed, and each answer is in its place at once.
 fn judge_in_turn<T: Drop, G: Gate, F: Fn(u64) -> Result<T, AllocError>>(
     alloc: Global,
     first: u64,
@@ -101,7 +100,7 @@ fn judge_in_turn<T: Drop, G: Gate, F: Fn(u64) -> Result<T, AllocError>>(
     Ok(answers)
 }
 
-// Lends the closure to a thread for each seat. The threads of a batch start here and nowhere else.
+// Starts a thread for each seat, which borrows the closure. The threads of a batch start only here.
 fn spread<
     T: Send + Drop,
     G: Gate,
@@ -165,7 +164,7 @@ fn work<R: Wait, T: Drop, G: Gate, F: Fn(u64) -> Result<T, AllocError>>(
     (seat, Ok(answers))
 }
 
-// A place without an answer for each number.
+// An empty slot for each number.
 pub fn vacant<T: Drop>(alloc: Global, count: u64) -> Result<Vec<Option<T>>, AllocError>
     ensures { IfOk result (λ v. v.items ≡ replicate count None) }
 {
@@ -176,7 +175,7 @@ pub fn vacant<T: Drop>(alloc: Global, count: u64) -> Result<Vec<Option<T>>, Allo
     Ok(slots)
 }
 
-// Puts each answer into the place of its number.
+// Puts each answer into the slot of its number.
 fn fill<T: Drop>(slots: &mut Vec<Option<T>>, mut answers: Vec<(u64, T)>)
     requires { All (λ p. p.0 < length slots.old.items) answers.items }
     ensures { slots.new.items ≡ filled slots.old.items answers.items }
@@ -186,7 +185,7 @@ fn fill<T: Drop>(slots: &mut Vec<Option<T>>, mut answers: Vec<(u64, T)>)
     }
 }
 
-// Takes the answers out of their places.
+// Takes the answers out of their slots, which are all full.
 fn unwrap_all<T: Drop>(alloc: Global, slots: Vec<Option<T>>) -> Result<Vec<T>, AllocError>
     requires { All (λ slot. IsSome slot) slots.items }
     ensures { IfOk result (λ v. map (λ answer. Some answer) v.items ≡ slots.items) }

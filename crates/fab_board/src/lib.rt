@@ -1,5 +1,5 @@
-//! A board of numbers that threads claim, each number once; a batch of numbers that threads judge by one lent closure; and a crew of
-//! threads that judges one job after another.
+//! A board of numbers that threads claim, each number once; a batch of numbers that threads judge with one borrowed closure; and a
+//! crew of threads that judges one job after another.
 #![tactic(auto)]
 
 mod board;

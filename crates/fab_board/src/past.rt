@@ -1,4 +1,4 @@
-// A list of all that was posted, which only grows, and beginnings of it that threads carry. No thread keeps the list.
+// The list of everything that was posted, which only grows, and prefixes of it that threads carry. No thread keeps the list itself.
 ghost use Rattle.std.specs.Prelude.{◌≡◌, ◌+◌, ◌<◌, ◌^◌, ◌++◌, ◌∷◌, [], length, true, MatchBool};
 ghost use Rattle.fab_board.specs.Posts.{head_of};
 
@@ -44,7 +44,7 @@ impl<E> Play<E, u64> for Add {
     ghost then = { Adds };
 }
 
-/// What a step asks for: the entry.
+/// The step asks for the entry to add.
 impl<E> Plain<E, E, u64> for Add {
     ghost use Rattle.std.specs.Prelude.{None};
 
@@ -53,7 +53,8 @@ impl<E> Plain<E, E, u64> for Add {
     ghost state = { λ entry. None };
 }
 
-/// Which book it is: a crew's type names it, so that its threads cannot take another's. Each call of a program picks it.
+/// Names a book. The name is part of a crew's type, so its threads cannot take the book of another crew. Each call of a program
+/// picks it.
 pub trait Naming {
     ghost use Rattle.logbook.specs.Pages.{Book};
 
@@ -64,7 +65,7 @@ impl Naming for Brand {
     ghost book = { record { number = 0; log_name = 0; cells_name = 0 } };
 }
 
-/// A book with nothing in it, which has no name yet. A crew is founded on it. Contracts see it as that book.
+/// An empty book that has no name yet. A crew is founded on it. Contracts see it as that book.
 pub struct Opened<E> {
     head: Word<E, u64, Law>,
     seen: Seen<E, u64, Law>,
@@ -83,7 +84,7 @@ impl<E> Model for Opened<E> {
 }
 
 impl<E> Opened<E> {
-    /// A book that no thread has yet.
+    /// Opens an empty book that no thread has yet.
     pub fn new() -> Opened<E> {
         let (seen, mut first, _second) = Seen::open(Start::alone(), 0, 0);
         Opened {
@@ -92,7 +93,7 @@ impl<E> Opened<E> {
         }
     }
 
-    /// The book's word under a name, and the front that has seen nothing.
+    /// The book's word under a name, and a front that has seen nothing.
     pub fn named<J: Naming>(self) -> (Book<E, J>, Front<E, J>)
         requires { self ≡ J.book }
         ensures { result.1 ≡ [] }
@@ -120,7 +121,7 @@ pub struct Book<E, J: Naming> {
     ghost head_is: { head ≡ head_of J.book },
 }
 
-/// A beginning of the list that was seen. Contracts see it as its entries.
+/// A prefix of the list, as far as it was seen. Contracts see it as its entries.
 #[derive(Drop)]
 pub struct Front<E, J: Naming> {
     count: u64,
@@ -150,7 +151,7 @@ impl<E, J: Naming> Front<E, J> {
         }
     }
 
-    /// Whether the two are the same: of two beginnings of one list, those that are as long as each other.
+    /// Whether the two fronts are the same. Both are prefixes of one list, so they are the same if they have the same length.
     pub fn is_same(&self, other: &Front<E, J>) -> bool
         ensures same { result ≡ true → self.now ≡ other.now }
         ensures told { self.now ≡ other.now → result ≡ true }
@@ -160,7 +161,7 @@ impl<E, J: Naming> Front<E, J> {
         self.count == other.count
     }
 
-    /// Adds an entry to all that was seen, and says whether it did. It did not where the list is longer.
+    /// Adds an entry to all that was seen. Returns whether it did: not if the list is longer, or if it has 2^62 entries or more.
     pub fn enter(&mut self, book: &Book<E, J>, entry: &E) -> bool
         ensures { result ≡ true → self.new ≡ self.old ++ entry.now ∷ [] }
     {

@@ -1,4 +1,4 @@
-// What always holds of the board's one word and of what its seats know, and the names of the steps that keep it.
+// The invariant of the board's one word and of what its seats know, and the names of the steps that keep it.
 use atomic_table::{Join, Play, Split, TableRule};
 use std::collections::LinkedList;
 
@@ -10,7 +10,7 @@ pub struct Size {
 }
 
 // What a seat knows: the board's count, its parts of the right to close, the numbers that it was given, and how often it was
-// told that there is none. It exists in proofs alone: no value of it is made.
+// told that none is left. It exists only in proofs: no value of it is made.
 pub struct View {
     pub count: u64,
     pub parts: u64,

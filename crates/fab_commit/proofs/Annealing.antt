@@ -23,7 +23,7 @@ some_moves r t s b = (let m = b.plan.moves in omega (arith, m))
 pub done_at : (r : Run) (t : LastTurn) (s : Pipeline) → IsBehind r t s → s.owner.state.done ≡ (stands r t).done
 done_at r t s b = ap (λ (v : Standing). v.done) b.here
 
--- what is kept behind a turn is the world behind it
+-- what is kept after a turn is the world after it
 pub world_is : (r : Run) (t : LastTurn) (s : Pipeline) → IsBehind r t s → world_in s ≡ world_behind r t
 world_is r t s b =
     let base = b.base_is in
@@ -70,7 +70,7 @@ world_on r t s now batch b h =
     ∙ sym (turns_lead_on r t batch (some_moves r t s b) b.stage).0
     ∙ ap (turn r batch) (sym (world_is r t s b))
 
--- what it judged ahead: so many moves behind its own, on the placement where it began
+-- what it judged ahead: `ahead` moves after its own, on the placement where it began
 pub ahead_on : (r : Run) (t : LastTurn) (s now : Pipeline) (n ahead : ℕ) → IsBehind r t s → HasTurned r t s n ahead now → map (verdict_of now.base) now.ahead.items ≡ map (verdict_on r (standing_of s.owner.state)) (range_with_len now.owner.state.done ahead)
 ahead_on r t s now n ahead b h =
     let u : LastTurn = record { start = stands r t; made = n; ahead = ahead } in

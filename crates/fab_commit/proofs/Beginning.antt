@@ -26,7 +26,7 @@ stage_told r s sound e =
 pub nothing_told : (r : Run) (s : State) → s.ended ≡ true → None ≡ stage_of r (standing_of s)
 nothing_told r s e = sym (ap (λ b. stage_at r.plan (standing_of s) (heat_of b s.stage.t)) e)
 
--- what is kept together stands where a run can stand
+-- a sound state has a standing that its run can have
 pub standing_is : (r : Run) (s : State) (b : Bool) → IsSound r s → s.ended ≡ b → IsStanding r (standing_of s)
 standing_is r s false sound e =
     let g = going r s sound e in

@@ -71,7 +71,7 @@ goes_on d g old new live sites a rest there up stands total long each = record {
 pub next_swap : (d : Netlist) (g : GridShape) (cost : CountedBoxesOf) (sites : List Site) (swaps : List Accepted) (i : ℕ) (e : Accepted) (there : List Site) → IsCatchingUp d g cost sites (drop i swaps) there → i < length swaps → IsCatchingUp d g cost sites (get_or swaps i e ∷ drop (i + 1) swaps) there
 next_swap d g cost sites swaps i e there up l = subst (λ v. IsCatchingUp d g cost sites v there) (drop_more swaps i e l) up
 
--- it is one of the placement as it stands
+-- it is one of the current placement
 pub next_is : (d : Netlist) (g : GridShape) (cost : CountedBoxesOf) (sites : List Site) (swaps : List Accepted) (i : ℕ) (e : Accepted) (there : List Site) → IsCatchingUp d g cost sites (drop i swaps) there → i < length swaps → IsSwapOf g sites (get_or swaps i e).swap
 next_is d g cost sites swaps i e there up l = (next_swap d g cost sites swaps i e there up l).leads.0
 

@@ -46,7 +46,7 @@ block_among a b ns = sym (or_false (a.0 == b.0) (has_mark (Block a) (map (λ n. 
 pub place_among : (s : Site) (b : BlockId) (ns : List ℕ) → false ≡ has_mark (Place s) (Block b ∷ map (λ n. Net (record { 0 = n })) ns)
 place_among s b ns = sym (no_place s ns)
 
--- a mark stands in one of two lists
+-- a mark is in one of two lists
 pub has_mark-append : (m : Mark) (xs ys : List Mark) → has_mark m (xs ++ ys) ≡ (has_mark m xs || has_mark m ys)
 has_mark-append m [] ys = refl
 has_mark-append m (x ∷ xs) ys = ap (λ b. same_mark m x || b) (has_mark-append m xs ys) ∙ sym (or_assoc (same_mark m x) (has_mark m xs) (has_mark m ys))
@@ -79,7 +79,7 @@ any_implied p q (v ∷ vs) each h =
       | inr e ↦ or_right (q v) (list_any q vs) (any_implied p q vs each e)
     ]
 
--- a verdict with a greater number stands
+-- there is a verdict with a greater number
 greater_stands : (worker k m : ℕ) (vs : List Verdict) → k < m → is_among worker m vs ≡ true → is_last worker vs k ≡ false
 greater_stands worker k m vs less h =
     ap not (any_implied (λ (v : Verdict). v.worker == worker && v.number == m) (λ (v : Verdict). v.worker == worker && nat_lt k v.number) vs

@@ -58,7 +58,7 @@ pub has_mark-nets : (n : ℕ) (ns : List ℕ) → has_number n ns ≡ true → h
 has_mark-nets n [] h = h
 has_mark-nets n (x ∷ ns) h = or_map (n == x) _ _ (has_mark-nets n ns) h
 
--- a number that passes the test stands in the filtered list
+-- a number that passes the test is in the filtered list
 filter_has : (p : ℕ → Bool) (n x : ℕ) (xs : List ℕ) → p n ≡ true → (has_number n xs ≡ true → has_number n (filter p xs) ≡ true) → (n == x || has_number n xs) ≡ true → (b : Bool) → p x ≡ b → has_number n (cond b (x ∷ filter p xs) (filter p xs)) ≡ true
 filter_has p n x xs h rest k true e = or_map (n == x) _ _ rest k
 filter_has p n x xs h rest k false e =

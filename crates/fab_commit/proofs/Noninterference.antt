@@ -83,7 +83,7 @@ nets_apart p s m h = λ n in_design.
       ]
     ]
 
--- a proposed swap says where its blocks stand
+-- a proposed swap says where its blocks are
 abbrev pub IsLawful : List Site → Proposal → Type 0
 IsLawful sites Nothing = Unit {0}
 IsLawful sites (Void b to) = Unit {0}

@@ -90,7 +90,7 @@ none_since : (n : ℕ) (log : List Accepted) → AreBefore n log → filter (sin
 none_since n [] h = refl
 none_since n (a ∷ log) h = (let e = lt-leb n a.number h.0 in rw e (none_since n log h.1))
 
--- of what was accepted before and what n moves accept, the later ones alone
+-- of the moves accepted before and those that n moves accept, only the later ones
 pub recent_after : (r : Run) (y : Standing) (log : List Accepted) (n : ℕ) → AreBefore y.done log → filter (since y.done) (log ++ accepted_from r y n) ≡ accepted_from r y n
 recent_after r y log n h =
     filter-append (since y.done) log (accepted_from r y n)

@@ -1,4 +1,4 @@
--- Turns on two placements: what is judged, committed and caught up leads from behind one turn to behind the next.
+-- Turns on two placements: what is judged, committed and caught up leads from the end of one turn to the end of the next.
 use Rattle.std.proofs.Common.{◌≡◌, ℕ, zero, suc, ◌+◌, ◌-◌, ◌<◌, ◌≤◌, min, Bool, true, false, cond, take, inl, inr, List, [], ◌∷◌, ◌++◌, length, map, get_or, refl, sym, ap, subst, ◌∙◌, arith}
 use Rattle.std.specs.Arc.{arc_value}
 use Rattle.std.specs.List.{count_by, filter, range_with_len}
@@ -43,7 +43,7 @@ answers_from r x k n answers long each = record { are = by_each answers each lon
 pub no_answers : (r : Run) (x : Standing) (k : ℕ) (answers : List Answer) → answers ≡ [] → AreAnswers r x k answers
 no_answers r x k answers e = subst (AreAnswers r x k) (sym e) (answers_from r x k 0 [] refl (λ j d l. absurd (omega (arith, l))))
 
--- these are due from where the owner stood before
+-- these are due from the owner's standing before
 pub record IsDueNext (r : Run) (o mid : Owner) (missing : List Answer) : Type 0 where
   pub due : AreDue r mid o.state.done missing
   pub is : due.start ≡ standing_of o.state
@@ -152,7 +152,7 @@ counted_after r o mid now base answers made stamps same counted = record {
       ∙ (λ i. same i + redone_of_both r due.start (length answers) (there i) (now.state.done - done i));
 }
 
--- behind a turn
+-- after a turn
 
 pub answers_take : (r : Run) (x : Standing) (k n : ℕ) (answers : List Answer) → AreAnswers r x k answers → AreAnswers r x k (take n answers)
 answers_take r x k n answers are =

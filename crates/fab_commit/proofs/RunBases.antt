@@ -4,7 +4,7 @@ use Rattle.std.proofs.lemmas.Nat.{div-mul-add, mod-mul-add}
 use Rattle.std.proofs.Math.Nat.{mod-add-div, mod-add-div', mul-mod_left}
 use Rattle.fab_commit.specs.Turns.{base_of, cut_of, part_of}
 
--- so many numbers on within a stage
+-- i numbers on within a stage
 mod_ahead : (n i m : ℕ) → n % m + i < m → (n + i) % m ≡ n % m + i
 mod_ahead n i m h =
     let split = mod-add-div n m in

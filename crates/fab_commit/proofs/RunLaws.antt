@@ -56,7 +56,7 @@ ways_of_a_turn r t batch pos stage =
     ap (λ l. count_by is_redone_way l) (turn_laws.ways_of_turns r t batch pos stage)
     ∙ count_told (is_redone_behind r t) (range_with_len (stands r t).done (next_turn r batch t).made)
 
--- turns behind another
+-- turns after another
 pub ways_behind : (r : Run) (t : LastTurn) (batches : List ℕ) → 0 < r.plan.moves → IsOfAStage r t → count_by is_redone_way (ways_of_turns r (world_behind r t) batches) ≡ redone r t batches
 ways_behind r t [] pos stage = refl
 ways_behind r t (batch ∷ batches) pos stage =
@@ -95,7 +95,7 @@ record IsPlaced (r : Run) (first batch : ℕ) (t : LastTurn) : Type 0 where
   cut : (stands r t).done ≡ part_of r.plan.moves first (stands r t).done + cuts * batch
   based : (i : ℕ) → i < min batch (moves_left r (stands r t)) → base_behind r t ((stands r t).done + i) ≡ max (part_of r.plan.moves first (stands r t).done) ((stands r t).done - batch)
 
--- so many moves within a stage leave it so much shorter
+-- n moves within a stage leave it n moves shorter
 left_after : (r : Run) (x : Standing) (n : ℕ) → n < moves_left r x → moves_left r (from r x n) + n ≡ moves_left r x
 left_after r x zero l = omega arith
 left_after r x (suc n) l =
@@ -120,7 +120,7 @@ placed_first r x batch =
       based = λ i l. same_base (nat_lt (x.done + i) (x.done + 0)) x.done (max (part_of r.plan.moves x.done x.done) (x.done - batch)) (omega (arith, part));
     }
 
--- behind a turn that found no move left
+-- after a turn that found no move left
 placed_none : (r : Run) (first batch : ℕ) (t : LastTurn) → moves_left r (stands r t) ≡ 0 → IsPlaced r first batch t → IsPlaced r first batch (next_turn r batch t)
 placed_none r first batch t none is =
     let next = next_turn r batch t in
@@ -133,7 +133,7 @@ placed_none r first batch t none is =
       based = λ i l. absurd (omega (arith, l, still, none));
     }
 
--- behind one that made the last moves of its stage
+-- after one that made the last moves of its stage
 placed_end : (r : Run) (first batch : ℕ) (t : LastTurn) → 0 < r.plan.moves → IsOfAStage r t → 0 < moves_left r (stands r t) → moves_left r (stands r t) ≤ batch → IsPlaced r first batch t → IsPlaced r first batch (next_turn r batch t)
 placed_end r first batch t pos stage some all is =
     let y = stands r t in
@@ -158,7 +158,7 @@ placed_end r first batch t pos stage some all is =
 one_cut_more : (z y p q cuts batch : ℕ) → z ≡ y + batch → y ≡ p + cuts * batch → q ≡ p → z ≡ q + (cuts + 1) * batch
 one_cut_more z y p q cuts batch a b c = grind (arith, a, b, c)
 
--- behind one that left moves of its stage
+-- after one that left moves of its stage
 placed_within : (r : Run) (first batch : ℕ) (t : LastTurn) → 0 < r.plan.moves → IsOfAStage r t → batch < moves_left r (stands r t) → IsPlaced r first batch t → IsPlaced r first batch (next_turn r batch t)
 placed_within r first batch t pos stage more is =
     let y = stands r t in
@@ -294,7 +294,7 @@ runs_through : (r : Run) (x : Standing) (batch n : ℕ) (t : LastTurn) → 0 < r
 runs_through r x batch zero t pos is = is
 runs_through r x batch (suc n) t pos is = runs_through r x batch n (next_turn r batch t) pos (runs_on r x batch t pos is)
 
--- a shorter turn behind turns of one batch: its moves are first judged on what those of a whole one are
+-- a shorter turn after turns of one batch: its moves are first judged on what the moves of a whole turn are
 pub redone_with_a_shorter : (r : Run) (x : Standing) (batch n short : ℕ) → 0 < r.plan.moves → short ≤ batch →
     let t = last_turn r (no_turn x) (replicate n batch) in
     redone r (no_turn x) (replicate n batch) + redone_next r short t ≡ redone_in_run r x batch ((stands r t).done + (next_turn r short t).made - x.done)

@@ -12,7 +12,7 @@ abbrev pub OtherAt : List Site → Site → Option BlockId → Type 0
 OtherAt sites to None = Unit {0}
 OtherAt sites to (Some b) = site_of sites b.0 ≡ to
 
--- the swap says where its blocks stand
+-- the swap says where its blocks are
 pub record StandsSo (sites : List Site) (s : Swap) : Type 0 where
   pub stands : site_of sites s.block.0 ≡ s.from
   pub holds : OtherAt sites s.to s.other
@@ -45,7 +45,7 @@ at-with_other sites b to from site (Some c) holds f t =
     ] in
     at_from-set 0 (slice_set sites b to) c.0 from site apart f
 
--- what stands on a site that the swap leaves alone
+-- the block on a site that the swap leaves alone
 pub at-swapped : (sites : List Site) (s : Swap) (site : Site) → StandsSo sites s → same_site s.from site ≡ false → same_site s.to site ≡ false → at (swapped sites s) site ≡ at sites site
 at-swapped sites s site is f t =
     at-with_other sites s.block.0 s.to s.from site s.other is.holds f t
@@ -55,7 +55,7 @@ site_of-with_other : (sites : List Site) (other : Option BlockId) (x : Site) (c 
 site_of-with_other sites None x c away = refl
 site_of-with_other sites (Some b) x c away = get_or-set_other sites b.0 c x nowhere (λ e. away (sym e))
 
--- where a block stands that the swap leaves alone
+-- the site of a block that the swap leaves alone
 pub site_of-swapped : (sites : List Site) (s : Swap) (c : ℕ) → s.block.0 ≢ c → AwayFrom s.other c → site_of (swapped sites s) c ≡ site_of sites c
 site_of-swapped sites s c one two =
     site_of-with_other (slice_set sites s.block.0 s.to) s.other s.from c two
@@ -83,7 +83,7 @@ map_same f g (b ∷ blocks) h =
     let rest = map_same f g blocks (λ c k. h c (or_right (c == b) (has_number c blocks) k)) in
     λ i. e i ∷ rest i
 
--- where blocks stand of which the swap moves none
+-- the sites of blocks, none of which the swap moves
 pub map-swapped : (sites : List Site) (s : Swap) (blocks : List ℕ) → bears s blocks ≡ false → map (site_of (swapped sites s)) blocks ≡ map (site_of sites) blocks
 map-swapped sites s blocks h =
     let p = or_parts (has_number s.block.0 blocks) (bears_other s.other blocks) h in

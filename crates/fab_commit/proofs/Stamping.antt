@@ -33,7 +33,7 @@ touched_both m xs ys x old mid new first second =
     ∙ over (has_mark m ys) (has_mark m xs) x old
     ∙ ap (λ b. cond b x old) (sym (has_mark-append m ys xs))
 
--- the place of a site alone
+-- the stamp of a site only
 pub place_touched : (g : GridShape) (blocks places nets : List ℕ) (site : Site) (i x : ℕ) → index_of g site ≡ Some i → i < length places
     → (m : Mark) → stamp_in g blocks (set places i x) nets m ≡ cond (has_mark m (Place site ∷ [])) x (stamp_in g blocks places nets m)
 place_touched g blocks places nets site i x at_i low (Block b) = refl

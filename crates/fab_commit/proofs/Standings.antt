@@ -1,4 +1,4 @@
--- A point tells where a run stands, and a run goes on from it.
+-- A point tells the standing of a run, and a run goes on from it.
 use Rattle.std.proofs.Common.{◌≡◌, ℕ, ◌+◌, ◌*◌, ◌<◌, ◌≤◌, ◌^◌, List, Option, Some, false, length, refl, sym, ap, subst, ◌∙◌, arith}
 use Rattle.std.proofs.lemmas.Nat.{mod-mul-add, div-mul-add}
 use Rattle.std.proofs.lemmas.Option.{slice_get_within}

@@ -45,7 +45,7 @@ on_split r x k a b =
 drop_front : (xs ys : List Verdict) (n : ℕ) → length xs ≡ n → drop n (xs ++ ys) ≡ ys
 drop_front xs ys n e = ap (λ m. drop m (xs ++ ys)) (sym e) ∙ drop-append_seam xs ys
 
--- where events lead by which so many moves are made
+-- where events lead that make n moves
 leads : (r : Run) (x : Standing) (w : World) (events : List Event) (live older : Standing) (vs : List Verdict) (log : List Accepted) (n : ℕ)
     → Inv r w → Hist r x w → run_through r w events ≡ unclaimed live older vs log → live.done ≡ x.done + n → (live ≡ from r x n) × (log ≡ accepted_from r x n)
 leads r x w events live older vs log n inv hist e done =
@@ -56,7 +56,7 @@ leads r x w events live older vs log n inv hist e done =
 within : (r : Run) (x : Standing) (n : ℕ) → 0 < r.plan.moves → n ≤ moves_left r x → x.done + n ≤ stage_end r x
 within r x n pos l = (let e = end_is r x.done x.heat pos in omega (arith, e, l))
 
--- what stands behind a turn
+-- the world after a turn
 
 abbrev events_to : LastTurn → List Event
 events_to t = judge_each t.start.done (t.made + t.ahead) ++ (commit_each t.made ++ Refresh ∷ [])
@@ -128,7 +128,7 @@ pass r w u events rest e = run_through-append r w events rest ∙ ap (λ v. run_
 pass_ways : (r : Run) (w u : World) (events rest : List Event) → run_through r w events ≡ u → ways r w events ≡ [] → ways r w (events ++ rest) ≡ ways r u rest
 pass_ways r w u events rest e none = ways-append r w events rest ∙ (λ i. none i ++ ways r (e i) rest)
 
--- the verdicts for the moves of a turn: those that stood before, and those of the missing moves
+-- the verdicts for the moves of a turn: those from before, and those of the missing moves
 abbrev of_turn : Run → LastTurn → ℕ → List Verdict
 of_turn r t made =
     let y = stands r t in
@@ -156,7 +156,7 @@ length_of_turn r t made =
     length_range k zero = refl
     length_range k (suc n) = ap (λ m. suc m) (length_range (k + 1) n)
 
--- what stands at the first commit
+-- the world at the first commit
 abbrev at_commits : Run → LastTurn → ℕ → ℕ → World
 at_commits r t made ahead =
     let y = stands r t in
@@ -239,7 +239,7 @@ kept_since r x (suc n) k l =
     filter-append (since k) (accepted_at r x) (accepted_from r (step r x) n)
     ∙ (λ i. all_at k x.done j.swap (is_some x.heat) j.accepted l i ++ kept_since r (step r x) n k (omega (arith, l, low)) i)
 
--- a turn of so many moves, and so many ahead
+-- a turn of `made` moves, with `ahead` moves judged ahead
 
 pub turn_leads : (r : Run) (t : LastTurn) (made ahead : ℕ) → 0 < r.plan.moves → IsOfAStage r t → made + ahead ≤ moves_left r (stands r t)
     → forget (stands r t).done (run_through r (world_behind r t) (events_from (stands r t).done t.ahead made ahead)) ≡ world_behind r (record { start = stands r t; made = made; ahead = ahead })

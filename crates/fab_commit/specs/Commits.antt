@@ -20,12 +20,12 @@ use Rattle.fab_commit.specs.World.{World}
 abbrev pub run : Netlist → GridShape → List (Option Site) → (ℕ → List ℕ) → Plan → Run
 run d g fixed words plan = record { problem = problem d g fixed words; plan = plan }
 
--- the run of what was given, where a value of `W` stands for these words
+-- the run of what was given; `moves` gives the words that a value of `W` stands for
 abbrev pub run_for : {W : Type 0} → (W → ℕ → List ℕ) → Given W → Run
 run_for moves g = run g.design.now g.grid.now g.fixed (moves g.words) g.schedule
 
--- an annealer: what its run is given, where it stands, what was judged ahead of that, the swaps that its last turn accepted,
--- the numbers of all moves that it accepted, and how many it judged again
+-- an annealer: what its run is given, its standing, the verdicts judged ahead, the swaps that its last turn accepted, the numbers of
+-- all moves that it accepted, and how many moves it judged again
 pub record AnnealOf (W : Type 0) : Type 0 where
   pub design : Netlist
   pub grid : GridShape
@@ -38,15 +38,15 @@ pub record AnnealOf (W : Type 0) : Type 0 where
   pub accepted : List ℕ
   pub redone : ℕ
 
--- an annealer between turns, as a world: both placements are where it stands, and nothing is claimed
+-- an annealer between turns, as a world: both placements are at its standing, and nothing is claimed
 abbrev pub world_of : {W : Type 0} → AnnealOf W → World
 world_of a = record { live = a.standing; older = a.standing; claims = []; verdicts = a.ahead; accepted = a.swaps }
 
--- the run of an annealer, where a value of `W` stands for these words
+-- the run of an annealer; `moves` gives the words that a value of `W` stands for
 abbrev pub run_of : {W : Type 0} → (W → ℕ → List ℕ) → AnnealOf W → Run
 run_of moves a = run a.design a.grid a.fixed (moves a.words) a.plan
 
--- what its run is given stays
+-- what the run is given stays the same
 pub record IsSameRun {W : Type 0} (a b : AnnealOf W) : Type 0 where
   pub design : b.design ≡ a.design
   pub grid : b.grid ≡ a.grid
@@ -54,7 +54,7 @@ pub record IsSameRun {W : Type 0} (a b : AnnealOf W) : Type 0 where
   pub plan : b.plan ≡ a.plan
   pub words : b.words ≡ a.words
 
--- what a turn answers, by the temperature after it
+-- what a turn returns, by the temperature after it
 abbrev pub turn_of : Option ℕ → Turn
 turn_of None = Finished
 turn_of (Some t) = More
@@ -73,7 +73,7 @@ standing_of s =
       total = s.total;
     }
 
--- where a run stands in a stage, with so many moves accepted in all
+-- the standing of a run within a stage, with `total` moves accepted in all
 abbrev pub standing_in : Plan → Stage → List Site → ℕ → Standing
 standing_in p stage sites total =
     record {
@@ -85,14 +85,14 @@ standing_in p stage sites total =
       total = total;
     }
 
--- the stage can be one of the run's, with moves left; after the last move it is an empty one behind the frozen stage, whose
--- temperature nobody reads
+-- the stage can be one of the run, with moves left; after the last move it is an empty stage after the frozen one, and its
+-- temperature is never read
 abbrev pub StageStands : Plan → ℕ → Bool → Stage → Type 0
 StageStands p side false s = IsStage p side s × (s.done < p.moves)
 StageStands p side true s =
     (1000 ≤ s.range) × (s.range ≤ 1000 * side) × (s.done ≡ 0) × (s.accepted ≡ 0) × ((x : ℕ) × (s.index ≡ x + 1) × MayStand p x 0)
 
--- what a stage becomes by one more of its moves: the parts of the standing after it, by the stage's own counts
+-- the stage after one more of its moves: the parts of the standing after it, by the stage's own counts
 pub record IsAdvanced (p : Plan) (side : ℕ) (s : Stage) (yes : Bool) (next : Stage) (ended : Bool) : Type 0 where
   pub accepted : next.accepted ≡ (if s.done + 1 == p.moves then 0 else s.accepted + one_if yes)
   pub range : next.range ≡ (if s.done + 1 == p.moves then next_range p side s.range (s.accepted + one_if yes) else s.range)
@@ -100,7 +100,8 @@ pub record IsAdvanced (p : Plan) (side : ℕ) (s : Stage) (yes : Bool) (next : S
   pub place : next.index * p.moves + next.done ≡ s.index * p.moves + s.done + 1
   pub stands : StageStands p side ended next
 
--- what is kept fits together: the placement is legal, the wire cost is its own, and the stage is that of the moves made
+-- the parts of the state fit together: the placement is legal, the wire cost is that of the placement, and the stage is that of the
+-- moves made
 pub record IsSound (r : Run) (s : State) : Type 0 where
   pub legal : IsLegal r.problem.design r.problem.grid r.problem.fixed s.placement.sites
   pub array : s.placement.grid ≡ r.problem.grid

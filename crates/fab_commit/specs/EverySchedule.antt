@@ -1,12 +1,12 @@
--- Whatever happens, and in whatever order, the live standing is that of one move at a time (our own).
+-- Whatever the events and their order, the live standing is that of moves made one at a time (our own).
 use Rattle.std.specs.Prelude.{◌≡◌, ◌+◌, ◌<◌, List, length, Some}
 use Rattle.fab_commit.specs.declared.events.Event.{Event}
 use Rattle.fab_commit.specs.Serial.{Run, Standing, judged_here, from}
 use Rattle.fab_commit.specs.declared.verdicts.Verdict.{Verdict}
 use Rattle.fab_commit.specs.World.{World, world, run_through, ways, usable, verdict_here}
 
--- the verdict that a commit would take here is the next move on the live placement; as the law below holds for every list,
--- it holds at each commit of a list, by what stands before it
+-- the verdict that a commit would take here is the judgement of the next move on the live placement. The law below holds for every
+-- list of events, so it holds at each commit of a list, by the events before it
 abbrev pub TakesTheMove : Run → World → Type 0
 TakesTheMove p w = (v : Verdict) → usable p w (verdict_here w) ≡ Some v → v.judged ≡ judged_here p w.live w.live.done
 

@@ -1,4 +1,4 @@
--- What one move at a time accepts, and which moves a stale judgement would get wrong (our own).
+-- What moves made one at a time accept, and which moves a stale judgement may get wrong (our own).
 use Rattle.std.specs.Prelude.{ℕ, zero, suc, ◌-◌, Bool, if◌then◌else◌, List, [], ◌++◌, is_some}
 use Rattle.fab_commit.specs.Serial.{Run, Standing, judged_here, step, from}
 use Rattle.fab_commit.specs.declared.verdicts.Accepted.{Accepted}
@@ -12,7 +12,7 @@ abbrev pub accepted_from : Run → Standing → ℕ → List Accepted
 accepted_from p x zero = []
 accepted_from p x (suc n) = accepted_at p x ++ accepted_from p (step p x) n
 
--- move k, judged where `base` moves were done, rests on something that an accepted move has touched since
+-- move k, judged on the placement after `base` moves, rests on something that an accepted move has touched since
 abbrev pub is_redone : Run → Standing → ℕ → ℕ → Bool
 is_redone p x base k =
     clash p.problem.design (accepted_from p x (k - x.done)) base (judged_here p (from p x (base - x.done)) k).footprint

@@ -17,18 +17,18 @@ use Rattle.fab_commit.specs.StampTables.{AreStamps, IsTable, kept_stamp}
 use Rattle.fab_commit.specs.Stamps.{AreBefore}
 use Rattle.fab_commit.specs.TurnEvents.{verdict_on}
 
--- swaps, each of the placement that it is made on, lead from one placement to another
+-- the swaps lead from one placement to another, and each is a swap of the placement that it is made on
 abbrev pub Leads : GridShape → List Site → List Accepted → List Site → Type 0
 Leads g sites [] there = sites ≡ there
 Leads g sites (a ∷ rest) there = IsSwapOf g sites a.swap × Leads g (swapped sites a.swap) rest there
 
--- what the owner keeps fits together
+-- the parts of what the owner keeps fit together
 pub record IsOwned (r : Run) (o : Owner) : Type 0 where
   pub sound : IsSound r o.state
   pub table : IsTable r.problem.design r.problem.grid o.stamps
   pub counted : o.redone ≤ o.state.done
 
--- there is room for so many more accepted moves
+-- there is room for n more accepted moves
 abbrev pub HasRoom : Owner → ℕ → Type 0
 HasRoom o n = (vec_len o.state.accepted + n ≤ vec_capacity o.state.accepted) × (vec_len o.swaps + n ≤ vec_capacity o.swaps)
 
@@ -46,7 +46,7 @@ pub record HasMade (r : Run) (o : Owner) (n : ℕ) (now : Owner) : Type 0 where
 abbrev pub is_touched : Run → Owner → ℕ → Answer → Bool
 is_touched r o base a = list_any (λ m. nat_lt base (kept_stamp r.problem.grid o.stamps m)) a.footprint.items
 
--- an answer as a verdict of the worker of its number
+-- an answer as a verdict, by the worker of its own number
 abbrev pub verdict_of : ℕ → Answer → Verdict
 verdict_of base a = record { worker = a.k; number = a.k; base = base; judged = says a }
 
@@ -54,7 +54,7 @@ verdict_of base a = record { worker = a.k; number = a.k; base = base; judged = s
 abbrev pub KeepsKind : GridShape → Answer → Type 0
 KeepsKind g a = (s : Swap) → a.swap ≡ Some s → kind_at g s.to ≡ kind_at g s.from
 
--- these answers are the moves k and behind on a placement
+-- these answers are those of the moves from k on, on the placement of x
 pub record AreAnswers (r : Run) (x : Standing) (k : ℕ) (answers : List Answer) : Type 0 where
   pub are : map (verdict_of x.done) answers ≡ map (verdict_on r x) (range_with_len k (length answers))
   pub kinds : All (KeepsKind r.problem.grid) answers
@@ -62,7 +62,7 @@ pub record AreAnswers (r : Run) (x : Standing) (k : ℕ) (answers : List Answer)
 abbrev pub since : ℕ → Accepted → Bool
 since k a = nat_le k a.number
 
--- the answers are for the next moves of the stage, on a placement that so many moves of it led on from
+-- the answers are for the next moves of the stage, on an earlier placement from which `made` moves of the stage led here
 pub record AreDue (r : Run) (o : Owner) (base : ℕ) (answers : List Answer) : Type 0 where
   pub start : Standing
   pub made : ℕ
@@ -76,7 +76,7 @@ pub record AreDue (r : Run) (o : Owner) (base : ℕ) (answers : List Answer) : T
   pub before : AreBefore o.state.done log
   pub recent : filter (since base) log ≡ accepted_from r start made
 
--- how many of n moves are judged again, where the first ones were judged at an older standing and the others at this one
+-- how many of n moves are judged again, if the first ones were judged at an older standing and the others at this one
 abbrev pub redone_of_both : Run → Standing → ℕ → Standing → ℕ → ℕ
 redone_of_both r start first x n =
     count_by (is_redone r start start.done) (range_with_len x.done (min first n))

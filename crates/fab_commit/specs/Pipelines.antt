@@ -20,8 +20,8 @@ pub record IsAnswer (r : Run) (x : Standing) (k : ℕ) (a : Answer) : Type 0 whe
   pub is : verdict_of x.done a ≡ verdict_on r x k
   pub kind : KeepsKind r.problem.grid a
 
--- what is kept behind a turn: both placements stand where it led, what was judged ahead are the moves behind it on the
--- placement at its start, and the stamps are those of a list of accepted moves whose part from the turn's start on is the turn's
+-- what is kept after turn t: both placements are where it led, the moves after it were judged ahead on the placement at its start,
+-- and the stamps are those of a list of accepted moves whose part from the turn's start on is the turn's
 pub record IsBehind (r : Run) (t : LastTurn) (s : Pipeline) : Type 0 where
   pub plan : IsLawful r.plan
   pub stage : IsOfAStage r t
@@ -39,7 +39,7 @@ pub record IsBehind (r : Run) (t : LastTurn) (s : Pipeline) : Type 0 where
   pub before : AreBefore s.owner.state.done log
   pub recent : filter (since t.start.done) log ≡ accepted_from r t.start t.made
 
--- a turn behind turn t that made so many moves, and judged so many ahead
+-- a turn after turn t, which made `made` moves and judged `ahead` moves ahead
 pub record HasTurned (r : Run) (t : LastTurn) (s : Pipeline) (made ahead : ℕ) (now : Pipeline) : Type 0 where
   pub behind : IsBehind r (record { start = stands r t; made = made; ahead = ahead }) now
   pub accepted : now.owner.state.accepted.items ≡ s.owner.state.accepted.items ++ accepted_among r (stands r t) made
@@ -49,7 +49,7 @@ pub record HasTurned (r : Run) (t : LastTurn) (s : Pipeline) (made ahead : ℕ) 
 abbrev pub HasTurn : Run → Pipeline → Type 0
 HasTurn r s = (t : LastTurn) × IsBehind r t s
 
--- what is kept between turns, as a world: both placements are where it stands, and nothing is claimed
+-- what is kept between turns, as a world: both placements are at the same standing, and nothing is claimed
 abbrev pub world_in : Pipeline → World
 world_in s =
     record {

@@ -1,4 +1,4 @@
--- Where a run stands before one of its moves, as a value that a later run goes on from (our own).
+-- A snapshot of a run before one of its moves, from which a later run goes on (our own).
 use Rattle.std.specs.Prelude.{ℕ, ◌≡◌, ◌+◌, ◌*◌, ◌<◌, ◌≤◌, max, List, [], Some}
 use Rattle.fab_arch.specs.Grid.{GridShape}
 use Rattle.fab_net.specs.Netlist.{Netlist}
@@ -8,15 +8,15 @@ use Rattle.fab_commit.specs.declared.points.Point.{Point}
 use Rattle.fab_commit.specs.Serial.{IsStanding, Standing, stage_at}
 use Rattle.fab_commit.specs.Commits.{AnnealOf, run_of, standing_in}
 
--- the moves made where a point stands: those of the stages before, and those of the running one
+-- how many moves are made at a point: those of the stages before, and those of the running stage
 abbrev pub done_at : Point → ℕ
 done_at p = p.stage.index * p.schedule.moves + p.stage.done
 
--- where a point stands
+-- the standing of a point
 abbrev pub standing_at : Point → Standing
 standing_at p = standing_in p.schedule p.stage p.placement.sites p.total
 
--- a run of this design on this array can stand at the point, with moves left in the stage
+-- a run of this design on this array can have the standing of the point, with moves left in the stage
 pub record IsPoint (d : Netlist) (g : GridShape) (p : Point) : Type 0 where
   pub array : p.placement.grid ≡ g
   pub legal : IsLegal d g p.fixed p.placement.sites
@@ -24,7 +24,7 @@ pub record IsPoint (d : Netlist) (g : GridShape) (p : Point) : Type 0 where
   pub left : p.stage.done < p.schedule.moves
   pub counted : (p.stage.accepted ≤ p.total) × (p.total ≤ done_at p)
 
--- the point tells where the annealer stands, its schedule, and which blocks are fixed where
+-- the point tells the annealer's standing, its schedule, and which blocks are fixed at which sites
 pub record TellsPoint {W : Type 0} (a : AnnealOf W) (p : Point) : Type 0 where
   pub schedule : p.schedule ≡ a.plan
   pub stage : Some p.stage ≡ stage_at a.plan a.standing a.standing.heat
@@ -49,7 +49,7 @@ going_on d g p words =
       redone = 0;
     }
 
--- the annealer that goes on from a point tells that point again, and stands where its run can stand
+-- the annealer that goes on from a point tells that point again, and its standing is one that its run can have
 abbrev pub PointsAreToldAgain : {W : Type 0} → (W → ℕ → List ℕ) → Type 0
 PointsAreToldAgain {W} moves =
     (d : Netlist) (g : GridShape) (p : Point) (words : W) → IsPoint d g p →

@@ -1,4 +1,4 @@
--- Laws of how many moves are redone where turns are made one after another (our own).
+-- Laws of how many moves are redone when turns are made one after another (our own).
 use Rattle.std.specs.Prelude.{ℕ, ◌≡◌, ◌-◌, ◌<◌, ◌≤◌, Bool, true, false, List, [], ◌∷◌, ◌++◌, replicate, take, refl}
 use Rattle.std.specs.List.{count_by, range_with_len}
 use Rattle.fab_commit.specs.declared.events.Way.{Way}
@@ -19,26 +19,26 @@ abbrev pub ways_of_turns : Run → World → List ℕ → List Way
 ways_of_turns r w [] = []
 ways_of_turns r w (batch ∷ batches) = ways r w (turn_events r batch w) ++ ways_of_turns r (turn r batch w) batches
 
--- the first m moves of a turn are told as redone as often as moves one at a time and their bases tell
+-- of the first m moves of a turn as many are redone as moves made one at a time and their bases tell
 abbrev pub WaysOfABeginning : Type 0
 WaysOfABeginning =
     (r : Run) (t : LastTurn) (batch m : ℕ) → 0 < r.plan.moves → IsOfAStage r t → m ≤ (next_turn r batch t).made
     → count_by is_redone_way (take m (ways r (world_behind r t) (turn_events r batch (world_behind r t))))
     ≡ count_by (is_redone_behind r t) (range_with_len (stands r t).done m)
 
--- and so are all moves of a turn
+-- the same for all moves of a turn
 abbrev pub WaysOfATurn : Type 0
 WaysOfATurn =
     (r : Run) (t : LastTurn) (batch : ℕ) → 0 < r.plan.moves → IsOfAStage r t
     → count_by is_redone_way (ways r (world_behind r t) (turn_events r batch (world_behind r t))) ≡ redone_next r batch t
 
--- and all moves of turns of any batches
+-- the same for all moves of turns of any batches
 abbrev pub WaysOfRuns : Type 0
 WaysOfRuns =
     (r : Run) (x : Standing) (batches : List ℕ) → 0 < r.plan.moves
     → count_by is_redone_way (ways_of_turns r (world x) batches) ≡ redone r (no_turn x) batches
 
--- in a run of one batch arithmetic alone tells each move's base, and so how many moves are redone
+-- in a run of one batch arithmetic alone tells each move's base; the bases tell how many moves are redone
 abbrev pub RedoneInRuns : Type 0
 RedoneInRuns =
     (r : Run) (x : Standing) (batch n : ℕ) → 0 < r.plan.moves →

@@ -1,5 +1,5 @@
--- Annealing one move at a time (Betz, Rose and Marquardt; VPR manual's user schedule, or VPR's cooling by acceptance): a
--- fold over standings, in which no kept box, batch or worker occurs. Each change of cost is two whole sums over all nets
+-- Annealing one move at a time (Betz, Rose and Marquardt; VPR manual's user schedule, or VPR's cooling by acceptance): a fold over
+-- standings, without stored bounding boxes, batches or workers. Each change of cost is the difference of two whole sums over all nets
 -- that are not global.
 use Rattle.std.specs.Prelude.{ℕ, ◌≡◌, zero, suc, ◌+◌, ◌-◌, ◌*◌, ◌/◌, ◌%◌, ◌≤◌, max, Bool, if◌then◌else◌, ◌==◌, List, [], ◌∷◌, ◌++◌, Option, Some, None, is_some, refl}
 use Rattle.fab_arch.specs.declared.array.Site.{Site}
@@ -8,7 +8,7 @@ use Rattle.fab_move.specs.Judge.{Problem, Judged, judged, moved}
 use Rattle.fab_sched.specs.declared.schedules.Stage.{Stage}
 use Rattle.fab_sched.specs.Annealing.{Plan, MayStand, hot, next_heat, next_range}
 
--- what a run is given beside its first placement
+-- what a run is given in addition to its first placement
 pub record Run : Type 0 where
   pub problem : Problem
   pub plan : Plan
@@ -17,7 +17,7 @@ pub record Run : Type 0 where
 abbrev pub side : Run → ℕ
 side r = max r.problem.grid.nx r.problem.grid.ny
 
--- where a run stands
+-- the state of a run
 pub record Standing : Type 0 where
   pub done : ℕ  -- moves made
   pub sites : List Site  -- of each block
@@ -59,11 +59,11 @@ abbrev pub or_zero : Option ℕ → ℕ
 or_zero None = 0
 or_zero (Some t) = t
 
--- move k of the running stage, on the placement as it stands
+-- the judgement of move k of the running stage on the current placement
 abbrev pub judged_here : Run → Standing → ℕ → Judged
 judged_here r x k = judged r.problem x.sites k (or_zero x.heat) x.range
 
--- the next move; none after the last one
+-- the next move is made; nothing changes after the last one
 abbrev pub step : Run → Standing → Standing
 step r x = if is_some x.heat then after_move r x (judged_here r x x.done) else x
 
@@ -84,7 +84,7 @@ abbrev pub accepted_among : Run → Standing → ℕ → List ℕ
 accepted_among r x zero = []
 accepted_among r x (suc n) = accepted_here r x ++ accepted_among r (step r x) n
 
--- how many of a stage's moves are left after n moves of the run: none where it is over
+-- how many of a stage's moves are left after n moves of the run; 0 if the run is over
 abbrev pub left_at : ℕ → ℕ → Option ℕ → ℕ
 left_at moves n None = 0
 left_at moves n (Some t) = moves - n % moves
@@ -93,7 +93,7 @@ left_at moves n (Some t) = moves - n % moves
 abbrev pub moves_left : Run → Standing → ℕ
 moves_left r x = left_at r.plan.moves x.done x.heat
 
--- the schedule can have this temperature after n moves, and none only where a frozen stage has just ended
+-- the schedule can have this temperature after n moves; it has none only if a frozen stage has just ended
 abbrev pub HeatStands : Plan → ℕ → Option ℕ → Type 0
 HeatStands p n (Some t) = MayStand p (n / p.moves) t
 HeatStands p n None = (x : ℕ) × (n ≡ (x + 1) * p.moves) × MayStand p x 0
@@ -118,7 +118,7 @@ stage_at p x (Some t) =
       frozen = t == 0;
     })
 
--- the running stage, none after the last move
+-- the running stage; none after the last move
 abbrev pub stage_of : Run → Standing → Option Stage
 stage_of r x = stage_at r.plan x x.heat
 

@@ -1,4 +1,4 @@
--- Stamps as they are kept, in flat tables by block, by the place of a site, and by net (our own).
+-- Stamps as they are kept: in flat tables by block, by the index of a site, and by net (our own).
 use Rattle.std.specs.Prelude.{ℕ, ◌≡◌, ◌<◌, List, length, Option, Some, None, is_some, true, slice_index}
 use Rattle.fab_arch.specs.Grid.{GridShape}
 use Rattle.fab_net.specs.Netlist.{Netlist}

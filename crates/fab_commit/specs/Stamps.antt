@@ -11,7 +11,7 @@ abbrev pub stamp : Netlist → List Accepted → Mark → ℕ
 stamp d [] m = 0
 stamp d (a ∷ rest) m = max (if has_mark m (touched d a.swap) then a.number + 1 else 0) (stamp d rest m)
 
--- whether one of the marks was touched from the base on
+-- whether move `base` or a later one touched one of the marks
 abbrev pub is_stamped : Netlist → List Accepted → ℕ → List Mark → Bool
 is_stamped d log base marks = list_any (λ m. nat_lt base (stamp d log m)) marks
 

@@ -47,7 +47,7 @@ pub one_is_redone_in_one_turn : redone_in_run two_moves before.live 2 2 ≡ 1
 unfolding judged proposal target change is_accepted cost_of net_cost net_box box_on half_perimeter cross_of clip next_range
 one_is_redone_in_one_turn = refl
 
--- a turn of the first move leads to what stands behind it: the second move is judged, on the placement before the first one
+-- a turn of the first move leads to the world after it: the second move is judged, on the placement before the first one
 pub a_turn_leads_behind_it : turn two_moves 1 before ≡ world_behind two_moves (next_turn two_moves 1 (no_turn before.live))
 unfolding judged proposal target change is_accepted cost_of net_cost net_box box_on half_perimeter cross_of clip next_range
 a_turn_leads_behind_it = refl
@@ -56,7 +56,7 @@ pub the_base_of_a_move_ahead : base_behind two_moves (next_turn two_moves 1 (no_
 unfolding judged proposal target change is_accepted cost_of net_cost net_box box_on half_perimeter cross_of clip next_range
 the_base_of_a_move_ahead = refl
 
--- a turn that is cut short behind the first move has judged nothing ahead, so that the next turn judges where it led
+-- a turn that is cut short after the first move has judged nothing ahead, so the next turn judges where this turn led
 pub a_cut_turn : (turn_making two_moves 1 0 before).verdicts ≡ []
 unfolding judged proposal target change is_accepted cost_of net_cost net_box box_on half_perimeter cross_of clip next_range
 a_cut_turn = refl

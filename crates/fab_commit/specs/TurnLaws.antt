@@ -11,26 +11,26 @@ use Rattle.fab_commit.specs.Stamps.{is_stamped}
 use Rattle.fab_commit.specs.TurnEvents.{LastTurn, IsOfAStage, commit_each, cut_turn, is_redone_behind, judge_each, next_turn, no_turn, stands, turn, turn_events, turn_making, world_behind}
 use Rattle.fab_commit.specs.Turns.{last_turn, turns}
 
--- what stands behind a turn is what events lead to where nothing was claimed or judged, so that each law of the world's
--- events speaks of it
+-- events lead to the world after a turn, from a world where nothing is claimed or judged; so each law of the world's events applies
+-- to it
 abbrev pub TurnsAreReached : Type 0
 TurnsAreReached =
     (r : Run) (t : LastTurn) → 0 < r.plan.moves → IsOfAStage r t
     → world_behind r t ≡ run_through r (world t.start) (judge_each t.start.done (t.made + t.ahead) ++ (commit_each t.made ++ Refresh ∷ []))
 
--- the events of a turn lead from behind one turn to behind the next, whatever its batch
+-- the events of a turn lead from the world after one turn to the world after the next, whatever its batch
 abbrev pub TurnsLeadOn : Type 0
 TurnsLeadOn =
     (r : Run) (t : LastTurn) (batch : ℕ) → 0 < r.plan.moves → IsOfAStage r t
     → (turn r batch (world_behind r t) ≡ world_behind r (next_turn r batch t)) × IsOfAStage r (next_turn r batch t)
 
--- so does a turn that is cut short, which leaves nothing judged ahead: another turn goes on from behind it
+-- a turn that is cut short does the same, and leaves nothing judged ahead: another turn can go on after it
 abbrev pub CutTurnsLeadOn : Type 0
 CutTurnsLeadOn =
     (r : Run) (t : LastTurn) (made : ℕ) → 0 < r.plan.moves → IsOfAStage r t → made ≤ moves_left r (stands r t)
     → (turn_making r made 0 (world_behind r t) ≡ world_behind r (cut_turn r made t)) × IsOfAStage r (cut_turn r made t)
 
--- whatever the batches of turns, they leave the standing of one move at a time, and no verdict but those of the last turn
+-- whatever their batches, turns lead to the standing of moves made one at a time, and only the verdicts of the last turn are left
 abbrev pub EveryBatchIsSerial : Type 0
 EveryBatchIsSerial =
     (r : Run) (x : Standing) (batches : List ℕ) → 0 < r.plan.moves →
@@ -40,14 +40,14 @@ EveryBatchIsSerial =
 abbrev pub way_if : Bool → Way
 way_if redone = if redone then Redone else Taken
 
--- no move of a turn is late, and those that are redone are told by moves one at a time and their bases
+-- no move of a turn is late; moves made one at a time and their bases tell which moves are redone
 abbrev pub WaysOfTurns : Type 0
 WaysOfTurns =
     (r : Run) (t : LastTurn) (batch : ℕ) → 0 < r.plan.moves → IsOfAStage r t
     → ways r (world_behind r t) (turn_events r batch (world_behind r t))
     ≡ map (λ k. way_if (is_redone_behind r t k)) (range_with_len (stands r t).done (next_turn r batch t).made)
 
--- a move is redone exactly where the stamp of a mark of its footprint is above its base
+-- a move is redone exactly if the stamp of a mark of its footprint is above its base
 abbrev pub RedoneByStamps : Type 0
 RedoneByStamps =
     (r : Run) (x : Standing) (base k : ℕ)

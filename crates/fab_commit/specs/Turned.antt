@@ -1,4 +1,4 @@
--- What a turn answers and what stands after it (our own).
+-- What a turn returns, and the annealer after it (our own).
 use Rattle.std.specs.Prelude.{ℕ, ◌≡◌, ◌+◌, ◌-◌, ◌≤◌, ◌++◌, List, [], map, min, take, None, Result, Ok, IfOk, OnOk, OnErr}
 use Rattle.std.specs.List.{count_by, range_with_len}
 use Rattle.std.specs.declared.alloc.AllocError.{AllocError}
@@ -11,25 +11,25 @@ use Rattle.fab_commit.specs.RunLaws.{is_redone_way}
 use Rattle.fab_commit.specs.TurnEvents.{turn, turn_events, turn_making, verdict_on}
 use Rattle.fab_commit.specs.World.{ways}
 
--- a turn of at most `batch` moves led an annealer from `a` to `b`
+-- a turn of at most `batch` moves led an annealer from `a` to `b`, and returned `answer`
 pub record IsTurned {W : Type 0} (moves : W → ℕ → List ℕ) (batch : ℕ) (a b : AnnealOf W) (answer : Result Turn AllocError) : Type 0 where
-  -- What its run is given stays.
+  -- What the run is given stays the same.
   pub same : IsSameRun a b
-  -- So many moves are made, one at a time.
+  -- The moves of the turn are made as if one at a time.
   pub stands : b.standing ≡ from (run_of moves a) a.standing (b.standing.done - a.standing.done)
   pub accepted : b.accepted ≡ a.accepted ++ accepted_among (run_of moves a) a.standing (b.standing.done - a.standing.done)
   pub ok : OnOk answer (b.standing.done ≡ a.standing.done + min batch (moves_left (run_of moves a) a.standing))
   pub within : (a.standing.done ≤ b.standing.done) × (b.standing.done ≤ a.standing.done + min batch (moves_left (run_of moves a) a.standing))
   pub told : IfOk answer (λ t. t ≡ turn_of b.standing.heat)
-  -- Where no move is left, there is no error, and nothing that a call tells changes.
+  -- If no move is left, there is no error, nothing that a call tells changes, and nothing is judged ahead.
   pub finished : a.standing.heat ≡ None → (answer ≡ Ok Finished) × (b.standing ≡ a.standing) × (b.accepted ≡ a.accepted) × (b.redone ≡ a.redone) × (b.ahead ≡ [])
-  -- It is a run of a world over a turn's events; where memory is short, of one that judges nothing ahead.
+  -- It is a turn of a world; if memory ran out, a turn that judges nothing ahead.
   pub world : OnOk answer (world_of b ≡ turn (run_of moves a) batch (world_of a))
   pub cut : OnErr answer (world_of b ≡ turn_making (run_of moves a) (b.standing.done - a.standing.done) 0 (world_of a))
   pub redone : b.redone ≡ a.redone + count_by is_redone_way (take (b.standing.done - a.standing.done) (ways (run_of moves a) (world_of a) (turn_events (run_of moves a) batch (world_of a))))
-  -- What stands then are the verdicts for the next moves of the stage, as many as the batch or all that are left, on the
-  -- placement at the turn's start; where memory is short, none.
+  -- The verdicts after it are for the next moves of the stage, a batch of them or all that are left, on the placement at the turn's
+  -- start; if memory ran out, there are none.
   pub ahead : OnOk answer (b.ahead ≡ map (verdict_on (run_of moves a) a.standing) (range_with_len b.standing.done (min batch (moves_left (run_of moves a) a.standing - min batch (moves_left (run_of moves a) a.standing)))))
   pub lost : OnErr answer (b.ahead ≡ [])
-  -- Whatever standing turns of this batch led on from, this is one more of them.
+  -- If turns of this batch led to `a` from some standing, this is one more of them.
   pub turns : OnOk answer (LeadsByTurns (run_of moves a) batch a b)

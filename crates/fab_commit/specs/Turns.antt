@@ -11,7 +11,7 @@ abbrev pub turns : Run → World → List ℕ → World
 turns r w [] = w
 turns r w (batch ∷ batches) = turns r (turn r batch w) batches
 
--- the last one of turns of these batches behind another
+-- the last one of the turns of these batches that follow turn t
 abbrev pub last_turn : Run → LastTurn → List ℕ → LastTurn
 last_turn r t [] = t
 last_turn r t (batch ∷ batches) = last_turn r (next_turn r batch t) batches
@@ -20,7 +20,7 @@ last_turn r t (batch ∷ batches) = last_turn r (next_turn r batch t) batches
 abbrev pub redone_next : Run → ℕ → LastTurn → ℕ
 redone_next r batch t = count_by (is_redone_behind r t) (range_with_len (stands r t).done (next_turn r batch t).made)
 
--- how many moves of turns of these batches are redone
+-- how many moves of the turns of these batches are redone
 abbrev pub redone : Run → LastTurn → List ℕ → ℕ
 redone r t [] = 0
 redone r t (batch ∷ batches) = redone_next r batch t + redone r (next_turn r batch t) batches
@@ -34,8 +34,8 @@ abbrev pub cut_of : ℕ → ℕ → ℕ → ℕ → ℕ
 cut_of moves first batch k =
     let part = part_of moves first k in part + (k - part) / batch * batch
 
--- what move k is first judged on: where the turn before its own began, if that is one of this part of the run, and else where its
--- own turn begins
+-- what move k is first judged on: where the turn before its own began, if that turn belongs to this part of the run, otherwise where
+-- its own turn begins
 abbrev pub base_of : ℕ → ℕ → ℕ → ℕ → ℕ
 base_of moves first batch k = max (part_of moves first k) (cut_of moves first batch k - batch)
 

@@ -30,15 +30,15 @@ abbrev pub stage_end_at : Run → ℕ → Option ℕ → ℕ
 stage_end_at p n None = n
 stage_end_at p n (Some t) = (n / p.plan.moves + 1) * p.plan.moves
 
--- the number behind the last move of the running stage; after the last move of all, the number of moves
+-- the number after the last move of the running stage; once the run is over, the number of moves made
 abbrev pub stage_end : Run → Standing → ℕ
 stage_end p x = stage_end_at p x.done x.heat
 
--- no number from here on is claimed or committed before the older placement is renewed
+-- no move with this number or a greater one is claimed or committed before the older placement is refreshed
 abbrev pub end : Run → World → ℕ
 end p w = stage_end p w.older
 
--- an accepted swap from the base on touched one of the marks
+-- a swap accepted by move `base` or a later one touched one of the marks
 abbrev pub clash : Netlist → List Accepted → ℕ → List Mark → Bool
 clash d log base marks = list_any (λ (a : Accepted). nat_le base a.number && meet (touched d a.swap) marks) log
 
@@ -75,7 +75,7 @@ abbrev pub claimed : World → ℕ → Option ℕ → World
 claimed w worker None = w
 claimed w worker (Some k) = record w { claims = w.claims ++ record { worker = worker; number = k } ∷ [] }
 
--- a worker without a claim takes the first number that is free
+-- a worker without a claim claims the first number that is free
 abbrev pub claimed_by : Run → World → ℕ → Option ℕ → World
 claimed_by p w worker None = claimed w worker (first_free w.claims w.verdicts (open_numbers p w))
 claimed_by p w worker (Some k) = w
@@ -84,7 +84,7 @@ abbrev pub verdict : Run → World → ℕ → ℕ → Verdict
 verdict p w worker k =
     record { worker = worker; number = k; base = w.older.done; judged = judged_here p w.older k }
 
--- the worker's claim is dropped where its move is done, and else judged
+-- the worker's claim is dropped; its move is judged, unless it is made already
 abbrev pub judged_claim : Run → World → ℕ → Option ℕ → World
 judged_claim p w worker None = w
 judged_claim p w worker (Some k) =
@@ -100,7 +100,7 @@ judged_claim p w worker (Some k) =
 abbrev pub is_last : ℕ → List Verdict → ℕ → Bool
 is_last worker verdicts k = not (list_any (λ (v : Verdict). v.worker == worker && nat_lt k v.number) verdicts)
 
--- the last verdict of the worker is lost
+-- the worker's verdict with the greatest number is lost
 abbrev pub lost_verdict : World → ℕ → World
 lost_verdict w worker = record w { verdicts = filter (λ (v : Verdict). not (v.worker == worker && is_last worker w.verdicts v.number)) w.verdicts }
 
@@ -108,8 +108,7 @@ abbrev pub lost : World → ℕ → Option ℕ → World
 lost w worker None = lost_verdict w worker
 lost w worker (Some k) = record w { claims = without_worker worker w.claims }
 
--- the verdict that stands for the next move, where no accepted swap since its base touched what it rests on; otherwise
--- the move is judged again
+-- the verdict, if no swap accepted since its base touched what it rests on; otherwise none, and the move is judged again
 abbrev pub usable : Run → World → Option Verdict → Option Verdict
 usable p w None = None
 usable p w (Some v) = if clash p.problem.design w.accepted v.base v.judged.footprint then None else Some v
@@ -117,7 +116,7 @@ usable p w (Some v) = if clash p.problem.design w.accepted v.base v.judged.footp
 abbrev pub verdict_here : World → Option Verdict
 verdict_here w = verdict_for w.live.done w.verdicts
 
--- the verdict's own answer, else the move on the live placement
+-- the judgement of the verdict, if there is one; otherwise that of the next move on the live placement
 abbrev pub answer : Run → World → Option Verdict → Judged
 answer p w None = judged_here p w.live w.live.done
 answer p w (Some v) = v.judged
@@ -146,8 +145,8 @@ can_commit p w = nat_lt w.live.done (end p w)
 abbrev pub commit : Run → World → World
 commit p w = committed p w (answer p w (usable p w (verdict_here w)))
 
--- what an event does; what does not apply changes nothing. A claim goes to a worker that holds none; a judgement uses the
--- older placement; a commit makes the next move, before the end of the stage; a refresh renews the older placement
+-- what an event does; one that does not apply changes nothing. A claim goes to a worker without one; a judgement uses the older
+-- placement; a commit makes the next move, if it is before the end of the stage; a refresh makes the older placement the live one
 abbrev pub happens : Run → World → Event → World
 happens p w (Claim worker) =
     claimed_by p w worker (claim_of worker w.claims)
@@ -160,7 +159,7 @@ abbrev pub run_through : Run → World → List Event → World
 run_through p w [] = w
 run_through p w (e ∷ events) = run_through p (happens p w e) events
 
--- how a commit got its answer, from the verdict that stood and the same one where it is usable
+-- how a commit got its answer, from the verdict that was there and the same verdict if it was usable
 abbrev pub way_of : Option Verdict → Option Verdict → Way
 way_of found (Some v) = Taken
 way_of None None = Late

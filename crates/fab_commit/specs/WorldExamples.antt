@@ -1,5 +1,5 @@
--- Examples of what may happen to two moves of a frozen stage: two blocks without a common net stand on 2 x 2 sites, and
--- both are sent to the same empty site, the second one last.
+-- Examples of what may happen to two moves of a frozen stage: two blocks without a common net are on 2 x 2 sites, and both are sent
+-- to the same empty site, the second one last.
 use Rattle.std.specs.Prelude.{ℕ, ◌≡◌, if◌then◌else◌, ◌==◌, List, [], ◌∷◌, false, None, codes, refl}
 use Rattle.fab_arch.specs.declared.array.Site.{Site}
 use Rattle.fab_arch.specs.Grid.{shape}
@@ -34,7 +34,7 @@ half = 2147483648
 abbrev words : ℕ → List ℕ
 words k = (if k == 0 then 0 else half) ∷ half ∷ 0 ∷ 0 ∷ []
 
--- the first temperature is below the exit one, so that only the frozen stage is run
+-- the first temperature is below the exit temperature, so only the frozen stage is run
 abbrev pub two_moves : Run
 two_moves = record {
   problem = problem two_alone (shape 2 2 1) (None ∷ None ∷ []) words;
@@ -72,7 +72,7 @@ pub a_lost_verdict : outcome (Claim 0 ∷ Judge 0 ∷ Lose 0 ∷ Commit ∷ Comm
 unfolding judged proposal target change is_accepted cost_of net_cost net_box box_on half_perimeter cross_of clip next_range
 a_lost_verdict = refl
 
--- a claim whose move is done by then gives no verdict
+-- a claim whose move is made already gives no verdict
 pub a_verdict_that_comes_too_late : outcome (Claim 0 ∷ Claim 1 ∷ Commit ∷ Judge 0 ∷ Judge 1 ∷ Commit ∷ []) ≡ both_made (Late ∷ Redone ∷ [])
 unfolding judged proposal target change is_accepted cost_of net_cost net_box box_on half_perimeter cross_of clip next_range
 a_verdict_that_comes_too_late = refl
@@ -102,12 +102,12 @@ pub the_later_verdict_is_lost : outcome (Claim 0 ∷ Judge 0 ∷ Claim 0 ∷ Jud
 unfolding judged proposal target change is_accepted cost_of net_cost net_box box_on half_perimeter cross_of clip next_range
 the_later_verdict_is_lost = refl
 
--- a claim that is lost is free for another worker
+-- the move of a lost claim is free for another worker
 pub a_lost_claim : outcome (Claim 0 ∷ Lose 0 ∷ Claim 1 ∷ Judge 1 ∷ Commit ∷ Commit ∷ []) ≡ both_made (Taken ∷ Late ∷ [])
 unfolding judged proposal target change is_accepted cost_of net_cost net_box box_on half_perimeter cross_of clip next_range
 a_lost_claim = refl
 
--- a worker holds one claim
+-- a worker holds at most one claim
 pub a_second_claim : outcome (Claim 0 ∷ Claim 0 ∷ Claim 1 ∷ Judge 1 ∷ Commit ∷ Commit ∷ []) ≡ both_made (Late ∷ Redone ∷ [])
 unfolding judged proposal target change is_accepted cost_of net_cost net_box box_on half_perimeter cross_of clip next_range
 a_second_claim = refl
@@ -127,14 +127,14 @@ pub a_stage_ends : ways two_stages stages_begin (Commit ∷ Commit ∷ Claim 0 �
 unfolding judged proposal target change is_accepted cost_of net_cost net_box box_on half_perimeter cross_of clip next_range
 a_stage_ends = refl
 
--- the blocks stand apart, and the second is sent to its own site
+-- the blocks are apart, and the second is sent to its own site
 abbrev pub apart : Run
 apart = record {
   problem = problem two_alone (shape 2 2 1) (None ∷ None ∷ []) (λ k. (if k == 0 then 0 else half) ∷ half ∷ (if k == 0 then 0 else half) ∷ 0 ∷ []);
   plan = two_moves.plan;
 }
 
--- a verdict of before an accepted move is taken where the two do not meet
+-- a verdict from before an accepted move is taken if the two do not meet
 pub an_older_verdict_taken : ways apart (world (at_start apart (site 1 1 0 ∷ site 2 2 0 ∷ []))) judged_together ≡ Taken ∷ Taken ∷ []
 unfolding judged proposal target change is_accepted cost_of net_cost net_box box_on half_perimeter cross_of clip next_range
 an_older_verdict_taken = refl

@@ -17,7 +17,7 @@ use Rattle.fab_commit.specs.Serial.{Run, Standing, at_start, from}
 use Rattle.fab_commit.specs.Commits.{IsSound, run, standing_of}
 use Rattle.fab_commit.specs.World.{World, world, is_last, run_through, ways}
 
--- a world: what its run is given, where all stands, and the ways of the moves that were committed, in order
+-- a world: what its run is given, its state, and the ways of the moves that were committed, in order
 pub record WorldOf (W : Type 0) : Type 0 where
   pub design : Netlist
   pub grid : GridShape
@@ -27,11 +27,11 @@ pub record WorldOf (W : Type 0) : Type 0 where
   pub world : World
   pub ways : List Way
 
--- the run of a world, where a value of `W` stands for these words
+-- the run of a world; `moves` gives the words that a value of `W` stands for
 abbrev pub run_in : {W : Type 0} → (W → ℕ → List ℕ) → WorldOf W → Run
 run_in moves w = run w.design w.grid w.fixed (moves w.words) w.plan
 
--- all but where it stands, and the ways, stays
+-- everything stays the same except the state and the ways
 pub record IsSameGiven {W : Type 0} (a b : WorldOf W) : Type 0 where
   pub design : b.design ≡ a.design
   pub grid : b.grid ≡ a.grid
@@ -47,14 +47,14 @@ pub record IsReached (r : Run) (w : World) (told : List Way) : Type 0 where
   pub here : w ≡ run_through r (world (at_start r first)) events
   pub ways : told ≡ ways r (world (at_start r first)) events
 
--- the standing is that of one move at a time from a legal first placement, and each move has its way
+-- the standing is that of moves made one at a time from a legal first placement, and each move has its way
 pub record IsSerial (r : Run) (x : Standing) (told : List Way) : Type 0 where
   pub first : List Site
   pub legal : IsLegal r.problem.design r.problem.grid r.problem.fixed first
   pub stands : x ≡ from r (at_start r first) x.done
   pub each : length told ≡ x.done
 
--- what is kept, as the definition has it
+-- the state, in the form of the definition
 abbrev pub world_of : WorldState → World
 world_of s =
     record {
@@ -77,7 +77,7 @@ HasBlocks d a = (a.swap.block.0 < length d.kinds) × IsBlock d a.swap.other
 abbrev pub KeepsKind : GridShape → Verdict → Type 0
 KeepsKind g v = (s : Swap) → v.judged.swap ≡ Some s → kind_at g s.to ≡ kind_at g s.from
 
--- what is kept fits together
+-- the parts of the state fit together
 pub record IsWhole (r : Run) (s : WorldState) : Type 0 where
   pub plan : IsLawful r.plan
   pub live : IsSound r s.live
@@ -85,11 +85,11 @@ pub record IsWhole (r : Run) (s : WorldState) : Type 0 where
   pub blocks : All (HasBlocks r.problem.design) s.accepted.items
   pub kinds : All (KeepsKind r.problem.grid) s.verdicts.items
 
--- the verdicts without the worker's one of the greatest number
+-- the verdicts without the worker's verdict with the greatest number
 abbrev pub without_last : ℕ → List Verdict → List Verdict
 without_last worker verdicts = filter (λ (v : Verdict). not (v.worker == worker && is_last worker verdicts v.number)) verdicts
 
--- the greatest number of the worker's among these verdicts, which are some of all
+-- the greatest number of the worker's verdicts in `all`, if its verdict is among these, which are some of `all`
 abbrev pub last_among : ℕ → List Verdict → List Verdict → Option ℕ
 last_among worker all [] = None
 last_among worker all (v ∷ rest) =

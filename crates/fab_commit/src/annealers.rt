@@ -64,7 +64,7 @@ impl<'a, W: Words + Drop> Model for Anneal<'a, W> {
 }
 
 impl<'a, W: Words + Drop> Drop for Anneal<'a, W> {
-    // One call wherever an annealer goes out of scope; a derived `drop` is proved anew there.
+    // This is one call wherever an annealer goes out of scope. A derived `drop` would be proved again at each place.
     fn drop(self) {
         let Anneal {
             alloc: _,
@@ -75,7 +75,8 @@ impl<'a, W: Words + Drop> Drop for Anneal<'a, W> {
 }
 
 impl<'a, W: Words + Drop> Anneal<'a, W> {
-    /// Stands before the first move, with this placement, which is a legal one of the array by condition.
+    /// Creates an annealer before its first move, with this placement. By contract the placement is a legal one of the array. An error
+    /// means that memory ran out.
     pub fn new(
         alloc: Global,
         design: &'a Design,
@@ -100,8 +101,8 @@ impl<'a, W: Words + Drop> Anneal<'a, W> {
         Anneal::at(alloc, given, live)
     }
 
-    /// Stands at a point of the run, which is a lawful one of this design and array by condition: nothing is accepted, judged
-    /// ahead or judged again yet.
+    /// Creates an annealer that goes on from a snapshot of a run. By contract the snapshot is a lawful one of this design and array. The
+    /// annealer has accepted, judged ahead and judged again nothing yet. An error means that memory ran out.
     pub fn from_point(
         alloc: Global,
         design: &'a Design,
@@ -133,7 +134,7 @@ impl<'a, W: Words + Drop> Anneal<'a, W> {
         Anneal::at(alloc, given, live)
     }
 
-    /// Stands where this state does, with nothing judged.
+    /// Creates an annealer in this state, with nothing judged.
     fn at(alloc: Global, given: Given<'a, W>, live: State) -> Result<Anneal<'a, W>, AllocError>
         requires plan { IsLawful given.schedule }
         requires sound { IsSound (run_for W.moves given) live }
@@ -151,7 +152,7 @@ impl<'a, W: Words + Drop> Anneal<'a, W> {
         }
     }
 
-    /// Where the run stands, for a later one to go on from: `None` after the last move.
+    /// A snapshot of the run, for a later run to go on from; `None` after the last move. An error means that memory ran out.
     pub fn point(&self) -> Result<Option<Point>, AllocError>
         ensures none { (result ≡ Ok None) ↔ (self.now.standing.heat ≡ None) }
         ensures tells { IfOk result (λ p. IfSome p (TellsPoint self.now)) }
@@ -166,16 +167,16 @@ impl<'a, W: Words + Drop> Anneal<'a, W> {
         Ok(Some(point))
     }
 
-    /// How many moves are made.
+    /// How many moves of the run are made.
     pub fn done(&self) -> u64
         ensures value { result ≡ self.now.standing.done }
-        // Where it stands is a lawful place of its run.
+        // The standing is a lawful one of its run.
         ensures lawful { IsStanding (run_of W.moves self.now) self.now.standing }
     {
         self.pipeline.owner.state.done
     }
 
-    /// How many moves were accepted in all.
+    /// How many moves of the run were accepted in all.
     pub fn total(&self) -> u64
         ensures { result ≡ self.now.standing.total }
     {
@@ -189,7 +190,7 @@ impl<'a, W: Words + Drop> Anneal<'a, W> {
         self.pipeline.owner.state.cost.cost()
     }
 
-    /// The placement as it stands.
+    /// The current placement.
     pub fn placement(&self) -> &Placement
         ensures grid { result.now.grid ≡ self.now.grid }
         ensures sites { result.now.sites ≡ self.now.standing.sites }
@@ -198,7 +199,7 @@ impl<'a, W: Words + Drop> Anneal<'a, W> {
         &self.pipeline.owner.state.placement
     }
 
-    /// The stage of the next move, `None` after the last one.
+    /// The stage of the next move; `None` after the last move.
     pub fn stage(&self) -> Option<Stage>
         ensures { result ≡ stage_of (run_of W.moves self.now) self.now.standing }
     {
@@ -212,7 +213,8 @@ impl<'a, W: Words + Drop> Anneal<'a, W> {
         &self.pipeline.owner.state.accepted
     }
 
-    /// What was judged ahead, in order of number: the next moves of the stage, on the placement at the last turn's start.
+    /// The verdicts that were judged ahead, in order of number: for the next moves of the stage, on the placement at the start of the
+    /// last turn.
     pub fn ahead(&self) -> &[Verdict]
         ensures numbers { map (λ v. v.k) result.now ≡ map (λ (v : Judged). v.number) self.now.ahead }
         ensures says { map says result.now ≡ map (λ (v : Judged). v.judged) self.now.ahead }
@@ -220,8 +222,7 @@ impl<'a, W: Words + Drop> Anneal<'a, W> {
         &self.pipeline.ahead
     }
 
-    /// How many moves were judged again, because a move that was accepted before them had touched what their verdicts
-    /// rested on.
+    /// How many moves this value judged again, because a move accepted before them had touched what their verdicts rested on.
     pub fn redone(&self) -> u64
         ensures { result ≡ self.now.redone }
     {
@@ -241,16 +242,16 @@ impl<'a, W: Words + Drop> Anneal<'a, W> {
 }
 
 impl<'a, W: Words + Sync + Drop> Anneal<'a, W> {
-    /// Makes the next moves of the running stage, at most `batch` of them, from 1 to 4,096. `Finished` where no move is left
-    /// then.
+    /// Makes the next moves of the running stage, at most `batch` of them, from 1 to 4,096. Returns `Finished` if no move is left after
+    /// them.
     ///
-    /// While they are committed in order of number, workers judge as many moves of the stage behind them on the placement at the
-    /// turn's start, which nobody changes meanwhile. What was judged ahead so before and is not asked for now is lost, and what is
-    /// missing of this batch is judged first. A move whose verdict rests on something that a move accepted since has touched is
-    /// judged again. The workers' gate is called before and after each of their judgements, and before each commit.
+    /// While these moves are committed in order of number, workers judge the next batch of the stage on the placement at the turn's
+    /// start, which does not change meanwhile. Verdicts beyond this batch are discarded, and moves of this batch that have no verdict
+    /// are judged first. A move is judged again if a move accepted since has touched what its verdict rests on. The workers' gate is
+    /// called before and after each of their judgements, and before each commit.
     ///
-    /// Where memory is short, the moves that were committed stay, as `done` says, no worker is at a judgement, nothing is judged
-    /// ahead, and another turn goes on.
+    /// An error means that memory ran out. Then the moves that were committed stay, as `done` tells, no worker is judging, nothing is
+    /// judged ahead, and another turn can go on.
     pub fn turn_by<'g, G: Gate, J: Naming, R: Threads + Wait + Sync>(
         &mut self,
         rt: &R,
@@ -269,17 +270,16 @@ impl<'a, W: Words + Sync + Drop> Anneal<'a, W> {
         })
     }
 
-    /// Makes the next moves of the running stage, at most `batch` of them, from 1 to 4,096. `Finished` where no move is left
-    /// then.
+    /// Makes the next moves of the running stage, at most `batch` of them, from 1 to 4,096. Returns `Finished` if no move is left after
+    /// them.
     ///
-    /// While they are committed in order of number, `workers` workers, from 1 to 64, judge as many moves of the stage behind
-    /// them on the placement at the turn's start, which nobody changes meanwhile. What was judged ahead so before and is not
-    /// asked for now is lost, and what is missing of this batch is judged first. A move whose verdict rests on something that
-    /// a move accepted since has touched is judged again. The gate is called before and after each judgement of a worker, and
-    /// before each commit.
+    /// While these moves are committed in order of number, `workers` workers, from 1 to 64, judge the next batch of the stage on the
+    /// placement at the turn's start, which does not change meanwhile. Verdicts beyond this batch are discarded, and moves of this batch
+    /// that have no verdict are judged first. A move is judged again if a move accepted since has touched what its verdict rests on. The
+    /// gate is called before and after each judgement of a worker, and before each commit.
     ///
-    /// Where memory is short, the moves that were committed stay, as `done` says, all workers have ended, nothing is judged
-    /// ahead, and another turn goes on.
+    /// An error means that memory ran out. Then the moves that were committed stay, as `done` tells, all workers have ended, nothing is
+    /// judged ahead, and another turn can go on.
     pub fn turn<G: Gate, R: Threads + Wait + Sync>(
         &mut self,
         rt: &R,
@@ -295,9 +295,9 @@ impl<'a, W: Words + Sync + Drop> Anneal<'a, W> {
         self.turn_by(rt, batch, &mut workers)
     }
 
-    /// Makes a turn as `turn_by` does, and shows on the dial how far the run has come then: the moves made, those accepted among them
-    /// and the cost, in ten-thousandths. The shower is one of this dial by condition. Nothing is shown where memory is short, also
-    /// where the turn made moves, or where no move was left.
+    /// Makes a turn as `turn_by` does, and then shows on the dial how far the run has come: how many moves were made, how many of them
+    /// were accepted, and the cost in ten-thousandths. By contract the shower is one of this dial. Nothing is shown if memory ran out,
+    /// even if the turn made moves, or if no move was left.
     pub fn turn_shown_by<'g, G: Gate, J: Naming, R: Threads + Wait + Sync>(
         &mut self,
         rt: &R,
@@ -320,8 +320,8 @@ impl<'a, W: Words + Sync + Drop> Anneal<'a, W> {
         Ok(turn)
     }
 
-    /// Makes a turn as `turn` does, and shows on the dial how far the run has come then, as `turn_shown_by` does. The shower is one
-    /// of this dial by condition.
+    /// Makes a turn as `turn` does, and then shows on the dial how far the run has come, as `turn_shown_by` does. By contract the shower
+    /// is one of this dial.
     pub fn turn_shown<G: Gate, R: Threads + Wait + Sync>(
         &mut self,
         rt: &R,

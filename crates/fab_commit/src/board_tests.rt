@@ -49,7 +49,7 @@ fn a_board_that_is_closed_early(rt: HostRuntime) -> Result<(), Fail> {
     Ok(())
 }
 
-// Claims until there is none, and counts how often it was given each number.
+// Claims until no number is left, and counts how often it was given each number.
 fn drain<R: Wait>(rt: &R, board: &Board, given: &[AtomicU64], mut seat: ClaimSeat) -> ClaimSeat
     requires { seat.board ≡ board.now.name }
     ensures { (result.board ≡ board.now.name) × (result.told ≡ true) }
@@ -132,7 +132,7 @@ fn a_batch_of_no_numbers(rt: HostRuntime) -> Result<(), Fail> {
     Ok(())
 }
 
-// before_judge(0) goes on only once after_judge(1) was called, or after ten seconds in vain.
+// before_judge(0) waits until after_judge(1) was called, but gives up after ten seconds.
 #[derive(Drop)]
 struct Held<'a> {
     rt: &'a HostRuntime,
@@ -184,7 +184,7 @@ fn the_second_number_is_judged_while_the_first_is_held(rt: HostRuntime) -> Resul
     Ok(())
 }
 
-// Adds up the numbers whose judgement was begun, and those whose judgement was over.
+// Adds up the numbers whose judgement has begun, and those whose judgement has ended.
 #[derive(Drop)]
 struct Tally {
     begun: AtomicU64,
@@ -257,7 +257,7 @@ fn want_of_memory_in_the_closure_at_each_position(rt: HostRuntime) -> Result<(),
             assert!(rt; answers.is_err(), "at {short} of {workers} workers");
             let begun = gate.begun.load(Ordering::SeqCst);
             assert_eq!(rt; begun, gate.ended.load(Ordering::SeqCst));
-            // The others go on, so with more workers than one all numbers are judged.
+            // The others go on, so with more than one worker all numbers are judged.
             let want = if workers == 1 { sum } else { 75 };
             assert_eq!(rt; begun, want, "at {short} of {workers} workers");
         }

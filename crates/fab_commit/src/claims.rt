@@ -8,7 +8,7 @@ ghost use Rattle.fab_commit.specs.Worlds.{is_number, last_among, without_last, w
 
 use crate::verdicts::{Claimed, Verdict};
 
-/// The move that a worker holds.
+/// The move that a worker has claimed, if any.
 pub(crate) fn claim_of(claims: &[Claimed], worker: u64) -> Option<u64>
     ensures { result ≡ claim_of worker claims.now }
 {
@@ -56,7 +56,7 @@ pub(crate) fn drop_claim(claims: &mut Vec<Claimed>, worker: u64)
     claims.retain(|claim| claim.worker != worker);
 }
 
-/// The verdict for a move.
+/// The verdict for a move, if there is one.
 pub(crate) fn verdict_for(verdicts: &[Verdict], number: u64) -> Option<&Verdict>
     ensures { MatchOption result (verdict_for number verdicts.now ≡ None) (λ v. verdict_for number verdicts.now ≡ Some v.now) }
 {
@@ -82,7 +82,7 @@ fn has_greater(verdicts: &[Verdict], worker: u64, number: u64) -> bool
     verdicts.iter().any(|verdict| verdict.worker == worker && number < verdict.number)
 }
 
-/// Whether a verdict is a worker's, and none of the worker's has a greater number.
+/// Whether a verdict is the worker's, and no verdict of the worker has a greater number.
 fn is_last_of(verdicts: &[Verdict], worker: u64, verdict: &Verdict) -> bool
     ensures { result ≡ (verdict.now.worker == worker && is_last worker verdicts.now verdict.now.number) }
 {
@@ -117,7 +117,7 @@ fn drop_verdict(verdicts: &mut Vec<Verdict>, worker: u64, last: Option<u64>)
     verdicts.retain(|verdict| !(verdict.worker == worker && is_number(last, verdict.number)));
 }
 
-/// Drops a worker's verdict of the greatest number.
+/// Drops a worker's verdict with the greatest number.
 pub(crate) fn drop_last_verdict(verdicts: &mut Vec<Verdict>, worker: u64)
     ensures { verdicts.new.items ≡ without_last worker verdicts.old.items }
 {

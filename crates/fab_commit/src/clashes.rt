@@ -12,7 +12,7 @@ use fab_move::Mark;
 use fab_net::{BlockId, Design, NetId};
 use fab_site::Swap;
 
-/// Whether an accepted swap from the base on touched one of the marks.
+/// Whether a swap accepted by move `base` or a later one touched one of the marks.
 pub(crate) fn clash(design: &Design, accepted: &[Accepted], base: u64, marks: &[Mark]) -> bool
     requires { All (HasBlocks design.now) accepted.now }
     ensures { result ≡ clash design.now accepted.now base marks.now }

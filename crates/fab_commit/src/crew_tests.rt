@@ -10,7 +10,7 @@ use std::thread;
 use std::thread::Threads;
 use std::time::Duration;
 
-// Adds `plus` to each number, and counts the judgements. The first `refusals` of all have no memory.
+// Adds `plus` to each number, and counts the judgements. The first `refusals` judgements run out of memory.
 #[derive(Drop)]
 struct Sums<'a> {
     plus: u64,
@@ -36,7 +36,7 @@ impl Task<u64> for Sums<'_> {
     }
 }
 
-// A crew's owner: what it collected, in turn.
+// A crew's owner. Returns what it collected, in turn.
 trait Owner: Sync {
     fn turns<'a, J: Naming, R: Wait>(
         &self,
@@ -64,7 +64,7 @@ fn owned_as<'a, J: Naming + Send + Sync, O: Owner, R: Threads + Wait + Sync>(
     })
 }
 
-// What the owner collects of a crew of so many workers, whose judgements are counted.
+// What the owner collects from a crew of `workers` workers, whose judgements are counted.
 fn owned<O: Owner, R: Threads + Wait + Sync>(
     rt: &R,
     alloc: Global,
@@ -158,7 +158,7 @@ fn a_second_job_takes_the_place_of_the_first(rt: HostRuntime) -> Result<(), Fail
     Ok(())
 }
 
-// Posts a job and does nothing at it until a number of it was judged, or ten seconds went by in vain.
+// Posts a job, and collects it once a number of it was judged. Gives up after ten seconds.
 #[derive(Drop)]
 struct Waits<'b> {
     clock: &'b HostRuntime,
@@ -201,7 +201,7 @@ fn a_worker_judges_while_the_owner_does_something_else(rt: HostRuntime) -> Resul
     Ok(())
 }
 
-// Posts a job whose first judgements have no memory, and after it one that has all.
+// Posts a job whose first judgements run out of memory, and after it one without such judgements.
 #[derive(Drop)]
 struct Refused {
     refusals: u64,
@@ -247,7 +247,7 @@ fn what_a_thread_had_no_memory_for_is_judged_again(rt: HostRuntime) -> Result<()
             "of {workers} workers"
         );
     }
-    // Refused twice, the owner gives an error and no answers. The next job is answered as ever.
+    // Refused twice, the owner gets an error and no answers. The next job is answered as usual.
     let judged = AtomicU64::new(0);
     let turns = owned(&rt, rt.alloc(), &judged, 0, &Refused { refusals: 2 })?;
     assert_eq!(rt; turns.len(), 2);

@@ -1,4 +1,4 @@
-//! What may happen to moves that are judged ahead, and the law that it never changes the answer.
+//! The events that moves judged ahead go through, and the law that the events never change the answer.
 
 ghost use Rattle.fab_commit.specs.EverySchedule.{EveryScheduleIsSerial};
 
@@ -7,20 +7,20 @@ ghost use Rattle.fab_commit.specs.EverySchedule.{EveryScheduleIsSerial};
 pub enum Way {
     /// From its verdict.
     Taken,
-    /// It was judged again, since an accepted swap touched what its verdict rests on.
+    /// It was judged again, because an accepted swap touched what its verdict rests on.
     Redone,
-    /// It was judged at its commit, since it had no verdict.
+    /// It was judged at its commit, because it had no verdict.
     Late,
 }
 
-/// What may happen; a number names a worker.
+/// An event. The number names a worker. An event that does not apply changes nothing.
 #[derive(Clone, Copy, Debug, PartialEq, Eq)]
 pub enum Event {
-    /// A worker without a claim claims the first move of the running stage that nobody has.
+    /// A worker without a claim claims the first move of the running stage that is not made, claimed or judged yet.
     Claim(u64),
-    /// A worker judges the move that it claimed, on the older placement.
+    /// A worker judges the move that it claimed, on the older placement. If the move is made already, only the claim is dropped.
     Judge(u64),
-    /// A worker's claim is lost, or, where it has none, its verdict of the greatest number.
+    /// A worker loses its claim or, if it has none, its verdict with the greatest number.
     Lose(u64),
     /// The next move of the stage is committed.
     Commit,
@@ -28,8 +28,8 @@ pub enum Event {
     Refresh,
 }
 
-/// The law that every list of events, from a standing with nothing claimed or judged, leaves the live standing of one
-/// move at a time: so many moves on as it committed, and each verdict that is taken is the move on the live placement.
+/// Law: from a standing with nothing claimed or judged, every list of events leads to the same live standing as making moves one at a
+/// time, as many as the events committed. Each verdict that is taken is the judgement of its move on the live placement.
 pub fn every_schedule_is_serial()
     ensures { EveryScheduleIsSerial }
 {}

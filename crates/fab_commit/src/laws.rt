@@ -1,5 +1,5 @@
-//! Laws about moves one at a time, and about moves that are judged ahead, for whoever builds on them. A function whose
-//! contract is a law has nothing to do.
+//! Laws about moves made one at a time and about moves judged ahead, for code that builds on them. Each law is the contract of a
+//! function that does nothing.
 
 ghost use Rattle.fab_commit.specs.Laws.{AcceptedSwapsAreSerial, MovesCompose, PlacementsStayLegal, RedoneIsSerial, StampsTell, VerdictsAreOfTheirBase};
 ghost use Rattle.fab_commit.specs.Points.{PointsAreToldAgain};
@@ -8,40 +8,41 @@ ghost use Rattle.fab_commit.specs.TurnLaws.{CutTurnsLeadOn, EveryBatchIsSerial, 
 
 use fab_site::Words;
 
-/// The law that so many moves and then more are all of them together.
+/// Law: making m moves and then n moves is making m + n moves.
 pub fn moves_compose()
     ensures { MovesCompose }
 {}
 
-/// The law that moves lead from a legal placement to legal ones alone, where words propose lawful swaps: each block on a
-/// site of its kind, no two on one, and each fixed block at its site.
+/// Law: from a legal placement moves lead only to legal ones, if the words propose lawful swaps. Legal means that each block is on a
+/// site of its kind, no two blocks share a site, and each fixed block is at its site.
 pub fn placements_stay_legal()
     ensures { PlacementsStayLegal }
 {}
 
-/// The law that whatever happens, a verdict that stands is its move on the placement of its base, which moves one at a
-/// time lead through, and is for a move of the stage that is not made yet.
+/// Law: after every list of events, each verdict is the judgement of its move on the placement of its base, which is a placement that
+/// moves made one at a time lead through. The move belongs to the stage and is not made yet.
 pub fn verdicts_are_of_their_base()
     ensures { VerdictsAreOfTheirBase }
 {}
 
-/// The law that whatever happens, the swaps that were accepted, and which verdicts they spoil, are told by moves one at
-/// a time and the verdicts' bases.
+/// Law: after every list of events, the accepted swaps are those of moves made one at a time. Together with a verdict's base these
+/// determine whether the verdict is spoiled.
 pub fn spoiled_verdicts_are_serial()
     ensures accepted { AcceptedSwapsAreSerial }
     ensures redone { RedoneIsSerial }
 {}
 
-/// The law that the number of the last accepted move that touched a mark tells what the list of accepted swaps tells.
+/// Law: for each mark it suffices to keep the number of the last accepted move that touched it. This tells as much as the list of
+/// accepted swaps.
 pub fn stamps_tell()
     ensures { StampsTell }
 {}
 
-/// The law of a turn. Verdicts beyond its batch are lost; what is missing of the batch is judged, then the next batch of
-/// the stage; the batch is committed, and the older placement renewed. That leads from behind one turn to behind the next,
-/// where both placements are those of one move at a time, nothing is claimed, and there are verdicts for the next batch
-/// alone, on the placement at the turn's start; a turn that is cut short, for want of memory, leads on with none. A move is
-/// redone where a stamp of what it rests on is above its base.
+/// Law of a turn. The turn discards the verdicts beyond its batch, judges the missing moves of the batch and then the next batch of
+/// the stage, commits the batch, and refreshes the older placement. This leads from the world after one turn to the world after the
+/// next. There both placements are those of moves made one at a time, nothing is claimed, and the only verdicts are those of the next
+/// batch, on the placement at the turn's start. After a turn that is cut short because memory ran out there are no verdicts. A move
+/// is redone exactly if a stamp of a mark that it rests on is above its base.
 pub fn turns_are_serial()
     ensures reached { TurnsAreReached }
     ensures turn { TurnsLeadOn }
@@ -51,10 +52,10 @@ pub fn turns_are_serial()
     ensures stamps { RedoneByStamps }
 {}
 
-/// The law of how many moves are redone. The first moves of a turn, a turn, and turns of any batches are told as redone as
-/// often as moves one at a time and their bases say. Where all turns have one batch, arithmetic alone tells the bases: what
-/// the run makes of a stage is cut into batches, and a move is first judged where the batch before its own began, or where
-/// its own began, if that is the first.
+/// Law of how many moves are redone. For the first moves of a turn, for a turn, and for turns of any batches, moves made one at a time
+/// and their bases tell how many moves are redone. If all turns have the same batch, arithmetic alone tells the bases: the run's part
+/// of a stage is cut into batches, and a move is first judged on the placement where the batch before its own began, or where its own
+/// batch began if that is the first.
 pub fn redone_is_told()
     ensures beginning { WaysOfABeginning }
     ensures turn { WaysOfATurn }
@@ -62,7 +63,7 @@ pub fn redone_is_told()
     ensures runs { RedoneInRuns }
 {}
 
-/// The law that what goes on from a point, with whatever words, stands where its run can stand, and tells the same point.
+/// Law: an annealer that goes on from a snapshot, with any words, has a lawful standing of its run and returns the same snapshot.
 pub fn points_are_told_again<W: Words>()
     ensures { PointsAreToldAgain W.moves }
 {}

@@ -1,4 +1,4 @@
-//! Annealing: moves are judged and committed, and a placement comes of them.
+//! Annealing: moves are judged and committed, and lead to a placement.
 #![tactic(auto)]
 
 pub mod annealers;

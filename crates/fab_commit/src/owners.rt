@@ -1,4 +1,4 @@
-//! The owner of the live placement, who commits moves in order of number.
+//! The owner of the live placement, which commits moves in order of number.
 
 ghost use Rattle.std.specs.Prelude.{◌≡◌, ℕ, ◌+◌, ◌-◌, ◌^◌, ◌<◌, List, ◌++◌, false, length, Some};
 ghost use Rattle.std.specs.List.{count_by, range_with_len};
@@ -24,7 +24,7 @@ use fab_site::{Swap, Words};
 /// What the owner of the live placement keeps.
 pub(crate) struct Owner {
     pub(crate) state: State,
-    /// The swaps that the running turn accepted, or the last one.
+    /// The swaps that the running turn accepted; between turns, those of the last turn.
     pub(crate) swaps: Vec<Accepted>,
     pub(crate) stamps: Stamps,
     /// How many moves were judged again.
@@ -32,7 +32,7 @@ pub(crate) struct Owner {
 }
 
 impl Drop for Owner {
-    // A `drop` that is called is one step wherever a value goes out of scope; a derived one is proved anew there.
+    // This is one call wherever a value goes out of scope. A derived `drop` would be proved again at each place.
     fn drop(self) {
         let Owner {
             state: _,
@@ -77,8 +77,8 @@ fn stamp<W: Words>(given: &Given<'_, W>, stamps: &mut Stamps, number: u64, decis
     }
 }
 
-/// Commits the next move: as it was judged where `base` moves were made, if no accepted move has touched what that rests on
-/// since, and else as it is decided again on the live placement. Takes no memory.
+/// Commits the next move, which was judged on the placement after `base` moves. If a move accepted since has touched what the verdict
+/// rests on, the move is decided again on the live placement. Otherwise it is made as it was judged. Allocates nothing.
 fn commit_next<W: Words>(given: &Given<'_, W>, owner: &mut Owner, verdict: &Verdict, base: u64)
     requires plan { IsLawful given.now.schedule }
     requires owned { IsOwned (run_for W.moves given.now) owner.old }
@@ -100,7 +100,7 @@ fn commit_next<W: Words>(given: &Given<'_, W>, owner: &mut Owner, verdict: &Verd
     }
 }
 
-/// Commits moves in order of number, which were judged where `base` moves were made. Takes no memory.
+/// Commits moves in order of number. They were judged on the placement after `base` moves. Allocates nothing.
 pub(crate) fn commit_each<W: Words, G: Gate>(
     given: &Given<'_, W>,
     owner: &mut Owner,

@@ -25,18 +25,18 @@ use std::sync::{Arc, Wait};
 use std::thread;
 use std::thread::Threads;
 
-/// What an annealer keeps: the live placement with its owner, an older copy for the workers, which is the same between
-/// turns, and what was judged ahead on the older one before it caught up.
+/// What an annealer keeps: the live placement with its owner, an older copy for the workers, which is the same between turns, and the
+/// verdicts that were judged ahead on the older one before it caught up.
 pub(crate) struct Pipeline {
     pub(crate) owner: Owner,
     pub(crate) older: Arc<State>,
     pub(crate) ahead: Vec<Verdict>,
-    /// The moves that were made in the placement that these were judged on.
+    /// How many moves were made in the placement that `ahead` was judged on.
     pub(crate) base: u64,
 }
 
 impl Drop for Pipeline {
-    // A `drop` that is called is one step wherever a value goes out of scope; a derived one is proved anew there.
+    // This is one call wherever a value goes out of scope. A derived `drop` would be proved again at each place.
     fn drop(self) {
         let Pipeline {
             owner: _,
@@ -59,7 +59,7 @@ fn shared_copy(alloc: Global, live: &State) -> Result<Arc<State>, AllocError>
     }
 }
 
-/// Nothing was judged ahead where a run begins or goes on.
+/// The pipeline where a run begins or goes on: nothing is judged ahead.
 pub(crate) fn first_pipeline<W: Words>(
     alloc: Global,
     given: &Given<'_, W>,
@@ -88,7 +88,7 @@ pub(crate) fn first_pipeline<W: Words>(
     })
 }
 
-/// Commits what was judged ahead, and then what was judged at the turn's start. Takes no memory.
+/// Commits the moves judged ahead, and then those judged at the turn's start. Allocates nothing.
 pub(crate) fn commit_all<W: Words, G: Gate>(
     given: &Given<'_, W>,
     owner: &mut Owner,
@@ -112,7 +112,7 @@ pub(crate) fn commit_all<W: Words, G: Gate>(
     commit_each(given, owner, missing, start, gate);
 }
 
-/// Finds room for so many accepted moves.
+/// Reserves room for `moves` accepted moves.
 fn reserve(owner: &mut Owner, moves: u64) -> Result<(), AllocError>
     requires { moves ≤ 4096 }
     ensures same { (r : Run) → IsOwned r owner.old → HasMade r owner.old 0 owner.new }
@@ -127,8 +127,8 @@ fn reserve(owner: &mut Owner, moves: u64) -> Result<(), AllocError>
     Ok(())
 }
 
-/// Judges what of so many moves was not judged ahead, commits them all, and workers the moves behind them meanwhile. The
-/// answer is what was judged so.
+/// Judges those of the next `moves` moves that were not judged ahead. Then commits all of them, while workers judge the `next` moves
+/// after them. Returns the verdicts on these.
 fn judge_and_commit<'a, 'g, W: Words + Sync + Drop, G: Gate, J: Naming, R: Threads + Wait + Sync>(
     rt: &R,
     alloc: Global,
@@ -165,7 +165,7 @@ fn judge_and_commit<'a, 'g, W: Words + Sync + Drop, G: Gate, J: Naming, R: Threa
     )
 }
 
-/// Makes so many moves of the running stage, and workers the moves behind them. The answer is what was judged so.
+/// Makes the next `moves` moves of the running stage, while workers judge the `next` moves after them. Returns the verdicts on these.
 fn make_moves<'a, 'g, W: Words + Sync + Drop, G: Gate, J: Naming, R: Threads + Wait + Sync>(
     rt: &R,
     alloc: Global,
@@ -194,7 +194,7 @@ fn make_moves<'a, 'g, W: Words + Sync + Drop, G: Gate, J: Naming, R: Threads + W
     ensures answers { IfOk result (λ v. AreAnswers (run_for W.moves (arc_value given.now)) (standing_of (arc_value older.now)) (owner.old.state.done + moves) v.items) }
     ensures some { OnErr result (0 < moves + next) }
 {
-    // Where no move is left, nothing is asked of memory and workers.
+    // If no move is left, no memory and no worker is needed.
     if moves == 0 && next == 0 {
         return Ok(Vec::new(alloc));
     }
@@ -204,8 +204,8 @@ fn make_moves<'a, 'g, W: Words + Sync + Drop, G: Gate, J: Naming, R: Threads + W
     )
 }
 
-/// Makes the older placement the live one, by the swaps that were accepted since. No box is made anew: those of the nets that
-/// the swaps touched are taken over.
+/// Makes the older placement the same as the live one, by the swaps that were accepted since. No bounding box is computed again: the
+/// boxes of the nets that the swaps touched are taken over from the live cost.
 fn catch_up<W: Words>(given: &Given<'_, W>, older: &mut State, live: &State, swaps: &[Accepted])
     requires older { IsSound (run_for W.moves given.now) older.old }
     requires live { IsSound (run_for W.moves given.now) live.now }
@@ -225,7 +225,7 @@ fn catch_up<W: Words>(given: &Given<'_, W>, older: &mut State, live: &State, swa
     older.total = live.total;
 }
 
-/// Makes the older placement the live one, as soon as no worker looks at it any more.
+/// Makes the older placement the same as the live one, as soon as no worker holds it any more.
 fn catch_up_alone<W: Words, R: Wait>(
     rt: &R,
     given: &Given<'_, W>,
@@ -249,7 +249,7 @@ fn catch_up_alone<W: Words, R: Wait>(
     unreachable!()
 }
 
-/// Makes a turn. Where memory is short, the moves that it committed stay, and nothing is judged ahead.
+/// Makes a turn. If memory runs out, the moves that it committed stay, and nothing is judged ahead.
 pub(crate) fn make_turn<
     'a,
     'g,
@@ -303,7 +303,7 @@ pub(crate) fn make_turn<
     Ok(())
 }
 
-/// Makes a turn, told as a world's.
+/// Makes a turn. The contract states it as a turn of a world.
 pub(crate) fn turn<'a, 'g, W: Words + Sync + Drop, G: Gate, J: Naming, R: Threads + Wait + Sync>(
     rt: &R,
     alloc: Global,

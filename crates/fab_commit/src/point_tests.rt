@@ -15,7 +15,7 @@ use std::sync::Wait;
 use std::test::*;
 use std::thread::Threads;
 
-/// These blocks fixed where they stand.
+/// These blocks fixed at their sites.
 fn fixed_there(
     alloc: Global,
     placement: &Placement,
@@ -30,7 +30,7 @@ fn fixed_there(
     Ok(fixed)
 }
 
-/// An annealer at the start placement, with these blocks fixed where they stand.
+/// An annealer at the start placement, with these blocks fixed at their sites.
 fn begun<'a, W: Words + Drop>(
     alloc: Global,
     of: &'a Setting,
@@ -50,7 +50,7 @@ fn begun<'a, W: Words + Drop>(
     )?)
 }
 
-/// Makes turns at this pace, which has to be one that turns take.
+/// Makes turns at this pace. Fails if the pace is not one that turns accept.
 fn turned_often<W: Words + Sync + Drop, R: Threads + Wait + Sync>(
     rt: &R,
     anneal: &mut Anneal<'_, W>,
@@ -69,7 +69,7 @@ fn turned_often<W: Words + Sync + Drop, R: Threads + Wait + Sync>(
     Ok(())
 }
 
-/// What goes on from where an annealer stands, if moves are left.
+/// An annealer that goes on from the snapshot of another, if moves are left.
 fn gone_on<'a, W: Words + Drop>(
     alloc: Global,
     of: &'a Setting,
@@ -98,7 +98,7 @@ fn put_fixed(alloc: Global, text: &mut String, point: &Point) -> Result<(), Allo
     Ok(())
 }
 
-/// All that a point says.
+/// Everything that a point says.
 fn told_point(alloc: Global, point: &Point) -> Result<String, AllocError> {
     let mut text = format!(in alloc;
         "schedule {} {} {:?} {}\nstage {} t {} range {} done {} accepted {} frozen {}\ntotal {}\nfixed",
@@ -120,7 +120,7 @@ fn told_point(alloc: Global, point: &Point) -> Result<String, AllocError> {
     Ok(text)
 }
 
-/// The point where an annealer stands, or that there is none.
+/// The point of an annealer, or "no point".
 fn told_standing<W: Words + Drop>(
     alloc: Global,
     anneal: &Anneal<'_, W>,
@@ -131,7 +131,7 @@ fn told_standing<W: Words + Drop>(
     }
 }
 
-/// What an annealer accepted, and the point where it stands.
+/// What an annealer accepted, and its point.
 fn told_so_far<W: Words + Drop>(
     alloc: Global,
     anneal: &Anneal<'_, W>,
@@ -145,14 +145,14 @@ fn told_so_far<W: Words + Drop>(
     Ok(text)
 }
 
-/// A part of a run: so many turns at this pace.
+/// A part of a run: `turns` turns at this pace.
 #[derive(Clone, Copy)]
 struct Part {
     pace: Pace,
     turns: u64,
 }
 
-/// The first part, the point behind it, that of what goes on from it, and the second part.
+/// The first part, the point after it, the point of the annealer that goes on from it, and the second part.
 fn in_two_parts<'a, W: Words + Sync + Drop, R: Threads + Wait + Sync>(
     rt: &R,
     alloc: Global,
@@ -279,9 +279,9 @@ fn a_finished_run_has_no_point(rt: HostRuntime) -> Result<(), Fail> {
     Ok(())
 }
 
-// Twenty blocks, with moves accepted before the point in its stage: without their number the range or the temperature of the
-// next stage would be another. What is wanted was printed by a slow placer in Python that shares no code with this one, which
-// stopped after 60 moves here and after 90 there, wrote its point down, and went on from that.
+// Twenty blocks, with moves of the point's stage accepted before the point: without their number the next stage would have another
+// range or temperature. The expected results were printed by a slow placer in Python that shares no code with this one. It stopped
+// after 60 moves in the run by a factor and after 90 in the run by acceptance, wrote its point down, and went on from that.
 const ACCEPTED_BEFORE_BY_A_FACTOR: &str =
     "accepted 0 1 2 4 5 6 7 8 10 11 14 15 16 18 19 20 22 23 24 25 27 29 30 32 34 35 36 38 40 42 43 45 \
     47 48 49 51 53 57\n";

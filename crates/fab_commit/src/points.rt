@@ -1,4 +1,4 @@
-//! Where a run stands before one of its moves.
+//! Snapshots of a run before one of its moves.
 
 ghost use Rattle.std.specs.Prelude.{◌≡◌, ℕ, ◌≤◌, ◌<◌, ◌==◌, if◌then◌else◌, false, length, Some, None, IfOk, OnOk};
 ghost use Rattle.fab_arch.specs.declared.array.Site.{Site};
@@ -12,23 +12,23 @@ use fab_sched::{Schedule, Stage};
 use fab_site::{Fixed, Placement, Words};
 use std::alloc::{AllocError, Global};
 
-/// Where a run stands before one of its moves: all that a later run needs to go on, beside the design, the array and the
+/// A snapshot of a run before one of its moves: everything that a later run needs to go on, except the design, the array and the
 /// words.
 #[derive(Drop)]
 pub struct Point {
-    /// How it cools, and how many moves a stage has.
+    /// How the run cools, and how many moves a stage has.
     pub schedule: Schedule,
-    /// The running stage: some of its moves are left.
+    /// The running stage. Some of its moves are left.
     pub stage: Stage,
     /// How many moves were accepted in all.
     pub total: u64,
     /// The blocks that must stay where they are.
     pub fixed: Fixed,
-    /// Where each block stands.
+    /// The site of each block.
     pub placement: Placement,
 }
 
-/// Fixes a block of the second value where it is fixed in the first, if it is.
+/// Fixes a block in `copy` at the site where it is fixed in `fixed`, if it is.
 fn fix_too(fixed: &Fixed, copy: &mut Fixed, block: BlockId) -> Result<(), AllocError>
     requires { fixed_at copy.old block.0 ≡ None }
     ensures { OnOk result ((b : ℕ) → fixed_at copy.new b ≡ (if b == block.0 then fixed_at fixed.now b else fixed_at copy.old b)) }
@@ -39,21 +39,21 @@ fn fix_too(fixed: &Fixed, copy: &mut Fixed, block: BlockId) -> Result<(), AllocE
     }
 }
 
-/// A second value that fixes the same blocks, which have numbers below `blocks`, at the same sites.
+/// A copy that fixes the same blocks at the same sites. The blocks have numbers below `blocks`.
 fn copy_of_fixed(alloc: Global, fixed: &Fixed, blocks: usize) -> Result<Fixed, AllocError>
     requires few { blocks ≤ 65535 }
     requires within { (b : ℕ) (s : Site) → fixed_at fixed.now b ≡ Some s → b < blocks }
     ensures { IfOk result (λ f. (b : ℕ) → fixed_at f b ≡ fixed_at fixed.now b) }
 {
     let mut copy = Fixed::none(alloc);
-    // Ascending, so that none is put before another.
+    // In ascending order, so that no block is inserted before another.
     'each: for block in 0..blocks as u32 {
         fix_too(fixed, &mut copy, BlockId(block))?;
     }
     Ok(copy)
 }
 
-/// Where a run stands that is not over.
+/// A snapshot of a run that is not over.
 pub(crate) fn point_of<W: Words>(
     alloc: Global,
     given: &Given<'_, W>,

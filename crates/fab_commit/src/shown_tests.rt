@@ -24,7 +24,7 @@ fn put_reading(alloc: Global, text: &mut String, reading: Reading) -> Result<(),
     Ok(())
 }
 
-/// A turn at this pace, which has to be one that turns take, is shown.
+/// Makes a shown turn at this pace. Fails if the pace is not one that turns accept.
 fn shown_turn<W: Words + Sync + Drop, R: Threads + Wait + Sync>(
     rt: &R,
     anneal: &mut Anneal<'_, W>,
@@ -41,7 +41,7 @@ fn shown_turn<W: Words + Sync + Drop, R: Threads + Wait + Sync>(
     Ok(anneal.turn_shown(rt, pace.batch, pace.workers, &NoGate, dial, shower)?)
 }
 
-/// Makes the turns of a run, and adds what a watcher reads before each.
+/// Makes the turns of a run, and adds to the text what a watcher reads before each.
 fn put_readings<W: Words + Sync + Drop, R: Threads + Wait + Sync>(
     rt: &R,
     alloc: Global,
@@ -89,12 +89,12 @@ fn readings<W: Words + Sync + Drop, R: Threads + Wait + Sync>(
     Ok(text)
 }
 
-// Told by the slow placer in Python, by tests/tables/turns.py; the first is that of the dial.
+// From the slow placer in Python, through tests/tables/turns.py. The first reading is the one that the dial was made with.
 const EIGHT_READINGS: &str =
     " 7,7,7 64,46,399336 100,75,434184 164,110,412528 200,124,361700 264,142,339336 300,152,350872 \
     364,166,339336 400,173,340872 464,193,339336 500,205,339336";
 
-/// The same of the eight blocks.
+/// The same for the eight blocks.
 fn eight_readings<R: Threads + Wait + Sync>(
     rt: &R,
     alloc: Global,

@@ -17,7 +17,7 @@ use fab_site::Swap;
 use fab_site::index::{index_of, site_count};
 use std::alloc::{AllocError, Global};
 
-/// Of each block, site and net one more than the number of the last accepted move that touched it; 0 where none did.
+/// For each block, site and net: one more than the number of the last accepted move that touched it, or 0 if none did.
 pub(crate) struct Stamps {
     blocks: Vec<u64>,
     places: Vec<u64>,
@@ -25,7 +25,7 @@ pub(crate) struct Stamps {
 }
 
 impl Drop for Stamps {
-    // A `drop` that is called is one step wherever a value goes out of scope; a derived one is proved anew there.
+    // This is one call wherever a value goes out of scope. A derived `drop` would be proved again at each place.
     fn drop(self) {
         let Stamps {
             blocks: _,
@@ -36,7 +36,7 @@ impl Drop for Stamps {
 }
 
 impl Stamps {
-    /// Nothing was touched yet.
+    /// The stamps while nothing is touched yet.
     pub(crate) fn new(alloc: Global, design: &Design, grid: &Grid) -> Result<Stamps, AllocError>
         ensures table { IfOk result (λ s. IsTable design.now grid.now s) }
         ensures none { IfOk result (λ s. (m : IsMark) → kept_stamp grid.now s m ≡ 0) }

@@ -1,4 +1,4 @@
-//! What an annealer keeps, and how one move changes it.
+//! The state of a run, and how one move changes it.
 
 ghost use Rattle.std.specs.Prelude.{◌≡◌, ℕ, ◌+◌, ◌-◌, ◌*◌, ◌^◌, ◌<◌, ◌≤◌, List, [], ◌++◌, max, true, false, length, vec_len, vec_capacity, Some, IfOk};
 ghost use Rattle.fab_sched.specs.Annealing.{IsStage, next_range};
@@ -26,7 +26,7 @@ pub(crate) struct Given<'a, W> {
 }
 
 impl<'a, W: Drop> Drop for Given<'a, W> {
-    // A `drop` that is called is one step wherever a value goes out of scope; a derived one is proved anew there.
+    // This is one call wherever a value goes out of scope. A derived `drop` would be proved again at each place.
     fn drop(self) {
         let Given {
             design: _,
@@ -38,11 +38,11 @@ impl<'a, W: Drop> Drop for Given<'a, W> {
     }
 }
 
-/// Where a run stands, and what is kept for that.
+/// The state of a run.
 pub(crate) struct State {
     pub(crate) placement: Placement,
     pub(crate) cost: EdgeBoxes,
-    /// The running stage; after the last move an empty one behind it.
+    /// The running stage; after the last move, an empty stage after the frozen one.
     pub(crate) stage: Stage,
     pub(crate) ended: bool,
     pub(crate) done: u64,
@@ -52,7 +52,7 @@ pub(crate) struct State {
 }
 
 impl Drop for State {
-    // A `drop` that is called is one step wherever a value goes out of scope; a derived one is proved anew there.
+    // This is one call wherever a value goes out of scope. A derived `drop` would be proved again at each place.
     fn drop(self) {
         let State {
             placement: _,
@@ -74,7 +74,7 @@ fn side_of(grid: &Grid) -> u16
     grid.nx().max(grid.ny())
 }
 
-/// What a stage becomes by one more of its moves, and whether that was the last move of all.
+/// The stage after one more of its moves, and whether that was the last move of all.
 fn advanced(schedule: &Schedule, side: u16, stage: Stage, accepted: bool) -> (Stage, bool)
     requires side { (1 ≤ side) × (side ≤ 1000) }
     requires stage { IsStage schedule.now side stage }
@@ -96,7 +96,7 @@ fn advanced(schedule: &Schedule, side: u16, stage: Stage, accepted: bool) -> (St
     }
 }
 
-/// An empty stage behind the frozen one.
+/// The empty stage after the frozen one.
 fn behind_the_last(schedule: &Schedule, side: u16, frozen: &Stage) -> Stage
     requires side { (1 ≤ side) × (side ≤ 1000) }
     requires stage { IsStage schedule.now side frozen.now }
@@ -151,7 +151,7 @@ fn count(accepted: &mut Vec<u64>, total: &mut u64, number: u64, took: bool)
     }
 }
 
-/// Commits what is decided of the next move.
+/// Commits the next move as it was decided.
 pub(crate) fn commit<W: Words>(given: &Given<'_, W>, state: &mut State, decision: &Decision)
     requires sound { IsSound (run_for W.moves given.now) state.old }
     requires going { state.old.ended ≡ false }
@@ -184,7 +184,7 @@ pub(crate) fn commit<W: Words>(given: &Given<'_, W>, state: &mut State, decision
     state.done += 1;
 }
 
-/// What a verdict decides.
+/// The decision of a verdict.
 pub(crate) fn decision_of(verdict: &Verdict) -> Decision
     ensures { IsDecision result (says verdict.now) }
 {
@@ -195,7 +195,7 @@ pub(crate) fn decision_of(verdict: &Verdict) -> Decision
     }
 }
 
-/// What a judgement in the running stage looks at.
+/// What a judgement in the running stage reads.
 #[inline(always)]
 fn view_of<'a, W: Words>(given: &'a Given<'_, W>, state: &'a State) -> View<'a, EdgeBoxes, W>
     ensures design { result.design.now ≡ given.now.design.now }
@@ -219,7 +219,7 @@ fn view_of<'a, W: Words>(given: &'a Given<'_, W>, state: &'a State) -> View<'a, 
     }
 }
 
-/// Judges a move of the running stage on the placement as it stands.
+/// Judges a move of the running stage on the current placement.
 pub(crate) fn judge_on<W: Words>(
     alloc: Global,
     given: &Given<'_, W>,
@@ -235,8 +235,7 @@ pub(crate) fn judge_on<W: Words>(
     judge(alloc, &view_of(given, state), number)
 }
 
-/// Decides a move of the running stage on the placement as it stands: what [`judge_on`] says without what that rests on.
-/// Takes no memory.
+/// Decides a move of the running stage on the current placement: the result of [`judge_on`] without the footprint. Allocates nothing.
 pub(crate) fn decide_on<W: Words>(given: &Given<'_, W>, state: &State, number: u64) -> Decision
     requires sound { IsSound (run_for W.moves given.now) state.now }
     requires going { state.now.ended ≡ false }
@@ -246,7 +245,7 @@ pub(crate) fn decide_on<W: Words>(given: &Given<'_, W>, state: &State, number: u
     decide(&view_of(given, state), number)
 }
 
-/// The running stage, `None` after the last move.
+/// The running stage; `None` after the last move.
 pub(crate) fn running<W: Words>(given: &Given<'_, W>, state: &State) -> Option<Stage>
     requires { IsSound (run_for W.moves given.now) state.now }
     ensures { result ≡ stage_of (run_for W.moves given.now) (standing_of state.now) }
@@ -268,7 +267,7 @@ pub(crate) fn moves_left(schedule: &Schedule, state: &State) -> u64
     }
 }
 
-/// What is kept where a run stands in a stage, with so many moves accepted in all: the placement is put on the array first.
+/// The state of a run within a stage, with `total` moves accepted in all. The placement is put on the array first.
 pub(crate) fn state_at(
     alloc: Global,
     design: &Design,
@@ -301,7 +300,7 @@ pub(crate) fn state_at(
     })
 }
 
-/// What is kept before the first move.
+/// The state before the first move.
 pub(crate) fn first_state(
     alloc: Global,
     design: &Design,
@@ -320,7 +319,7 @@ pub(crate) fn first_state(
     state_at(alloc, design, grid, fixed, schedule, placement, first, 0)
 }
 
-/// A second value that stands at the same place. What the first one accepted is not told again.
+/// A copy with the same standing. Its list of accepted moves is empty.
 pub(crate) fn copy_of(alloc: Global, state: &State) -> Result<State, AllocError>
     ensures stands { IfOk result (λ s. standing_of s ≡ standing_of state.now) }
     ensures sound { IfOk result (λ s. (r : Run) → IsSound r state.now → IsSound r s) }

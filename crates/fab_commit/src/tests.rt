@@ -27,14 +27,14 @@ pub(crate) fn list_words(
     })
 }
 
-/// What is placed, and the least array that holds it.
+/// A design, and the smallest array that holds it.
 pub(crate) struct Setting {
     pub(crate) design: Design,
     pub(crate) grid: Grid,
 }
 
 impl Drop for Setting {
-    // One call at each exit of a test; a derived `drop` is proved anew there.
+    // This is one call at each exit of a test. A derived `drop` would be proved again at each.
     fn drop(self) {
         let Setting { design: _, grid: _ } = self;
     }
@@ -47,7 +47,7 @@ pub(crate) fn read_setting(alloc: Global, arch: &[u8], net: &[u8]) -> Result<Set
     Ok(Setting { design, grid })
 }
 
-/// The start placement where no block is given.
+/// The start placement with no block pinned.
 pub(crate) fn started<W: Words>(alloc: Global, of: &Setting, words: &W) -> Result<Placement, Fail>
     ensures { IfOk result (λ p. p.grid ≡ of.now.grid) }
 {
@@ -59,7 +59,7 @@ pub(crate) fn started<W: Words>(alloc: Global, of: &Setting, words: &W) -> Resul
     Ok(start(alloc, &of.design, &of.grid, &pins, words)?)
 }
 
-/// This block, if any, fixed where it stands.
+/// This block, if any, fixed at its site.
 fn fixed_there(
     alloc: Global,
     placement: &Placement,
@@ -74,7 +74,7 @@ fn fixed_there(
     Ok(fixed)
 }
 
-/// An annealer at the start placement, with this block fixed where it stands.
+/// An annealer at the start placement, with this block, if any, fixed at its site.
 pub(crate) fn annealer<'a, W: Words + Drop>(
     alloc: Global,
     of: &'a Setting,
@@ -105,7 +105,7 @@ pub(crate) fn put_sites(
     Ok(())
 }
 
-/// Where an annealer stands: the moves made and accepted, the cost, the numbers accepted, and the blocks' sites.
+/// The state of an annealer: the moves made and accepted, the cost, the numbers accepted, and the blocks' sites.
 fn told_here<W: Words + Drop>(alloc: Global, anneal: &Anneal<'_, W>) -> Result<String, AllocError> {
     let mut text = format!(in alloc;
         "done {} total {} cost {}\naccepted",
@@ -121,7 +121,7 @@ fn told_here<W: Words + Drop>(alloc: Global, anneal: &Anneal<'_, W>) -> Result<S
     Ok(text)
 }
 
-/// The line of a stage, if it ended by the last turn.
+/// The line of a stage, if it ended with the last turn.
 fn told_stage<W: Words + Drop>(
     alloc: Global,
     anneal: &Anneal<'_, W>,
@@ -146,14 +146,14 @@ fn told_stage<W: Words + Drop>(
     Ok(Some(line))
 }
 
-/// How many moves a turn makes at most, and how many workers judge.
+/// The most moves that a turn makes, and how many workers judge.
 #[derive(Clone, Copy)]
 pub(crate) struct Pace {
     pub(crate) batch: u64,
     pub(crate) workers: u64,
 }
 
-/// A turn at this pace, which has to be one that turns take.
+/// Makes a turn at this pace. Fails if the pace is not one that turns accept.
 pub(crate) fn turned<W: Words + Sync + Drop, G: Gate, R: Threads + Wait + Sync>(
     rt: &R,
     anneal: &mut Anneal<'_, W>,
@@ -166,7 +166,7 @@ pub(crate) fn turned<W: Words + Sync + Drop, G: Gate, R: Threads + Wait + Sync>(
     Ok(anneal.turn(rt, pace.batch, pace.workers, gate)?)
 }
 
-/// Turns at this pace: the cost before, a line for each stage that ends, and what comes of them.
+/// Makes turns at this pace. Returns the cost before, a line for each stage that ends, and the state after the turns.
 pub(crate) fn told<W: Words + Sync + Drop, R: Threads + Wait + Sync>(
     rt: &R,
     alloc: Global,
@@ -190,7 +190,7 @@ pub(crate) fn told<W: Words + Sync + Drop, R: Threads + Wait + Sync>(
     Ok(text)
 }
 
-/// What is run: two texts, chosen words, a block that is fixed where it stands, and a schedule.
+/// A run: two texts, chosen words, a block that is fixed at its site, if any, and a schedule.
 #[derive(Clone, Copy)]
 struct Case<'a> {
     arch: &'a [u8],
@@ -219,7 +219,7 @@ fn read_case(alloc: Global, case: Case<'_>) -> Result<Chosen, Fail> {
     })
 }
 
-/// Turns of chosen words.
+/// Makes turns with chosen words.
 fn run_chosen<R: Threads + Wait + Sync>(
     rt: &R,
     alloc: Global,
@@ -243,7 +243,7 @@ pub(crate) const ALONE: Pace = Pace {
     workers: 1,
 };
 
-/// The frozen stage alone, of so many moves.
+/// Only the frozen stage, of `moves` moves.
 fn frozen(moves: u64) -> Result<Schedule, SchedFault> {
     Schedule::new(1, 2, 500, moves)
 }
@@ -285,7 +285,7 @@ const DISPLACED: &[u8] =
 pub(crate) enum Clash {
     /// Two blocks go to one empty site.
     Site,
-    /// They are joined only by the net of the block that the second displaces.
+    /// They are joined only through the net of the block that the second displaces.
     Net,
 }
 
@@ -352,7 +352,7 @@ fn a_displaced_block_takes_its_nets_along(rt: HostRuntime) -> Result<(), Fail> {
 pub(crate) const BETWEEN_PADS: &[u8] =
     b".input a\npinlist: n1\n.output z\npinlist: n2\n.clb b\npinlist: n1 n2\n";
 
-/// A block on an array of one site, which the words choose each time, between two pads of which one is fixed.
+/// A block on an array of one site between two pads, one of which is fixed. The words choose the block each time.
 pub(crate) fn void_case(alloc: Global, schedule: Schedule) -> Result<Chosen, Fail> {
     let case = Case {
         arch: b"io_rat 1\ninpin class: 0 left\noutpin class: 1 right\n",
@@ -445,8 +445,8 @@ fn without_blocks_nothing_is_proposed(rt: HostRuntime) -> Result<(), Fail> {
     Ok(())
 }
 
-/// One move of the first of two blocks to the first column and this row, whose word is given; the second block stands on
-/// (1, 1), where it may be fixed.
+/// One move of the first of two blocks to the first column and the row that the word `row` picks. The second block is on (1, 1), and may
+/// be fixed there.
 fn located<R: Threads + Wait + Sync>(
     rt: &R,
     alloc: Global,
@@ -489,8 +489,8 @@ fn a_fixed_block_is_not_displaced(rt: HostRuntime) -> Result<(), Fail> {
     Ok(())
 }
 
-// Twenty blocks, of which one is a clock pad. What is wanted of their runs was printed by a slow placer in Python that
-// shares no code with this one: it adds up every net for each move.
+// Twenty blocks, one of them a clock pad. The expected results of their runs were printed by a slow placer in Python that shares no
+// code with this one. It sums up every net for each move.
 pub(crate) const TWENTY_ARCH: &[u8] =
     b"io_rat 2\ninpin class: 0 left\ninpin class: 0 top\ninpin class: 0 left\noutpin class: 1 right\n";
 
@@ -610,7 +610,7 @@ const LARGE_COOLED_BY_ACCEPTANCE: &str = "cost 722356\n\
     at 0,2,0 1,5,0 5,2,1 0,4,1 2,3,0 3,2,0 2,2,0 4,1,0 1,2,0 4,3,0 4,4,0 4,2,0 1,4,0 2,4,0 3,1,0 \
     3,3,0 3,5,0 0,3,1 5,3,1 4,0,0";
 
-/// The whole run of the twenty blocks with the words of a seed.
+/// The whole run of the twenty blocks, with the words of a seed.
 fn twenty<R: Threads + Wait + Sync>(
     rt: &R,
     alloc: Global,

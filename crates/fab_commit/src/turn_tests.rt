@@ -18,7 +18,7 @@ use std::thread;
 use std::thread::Threads;
 use std::time::Duration;
 
-/// Where a run stands: the moves made and accepted, the cost, and the sites of the blocks.
+/// The state of a run: the moves made and accepted, the cost, and the sites of the blocks.
 fn told_end<W: Words + Drop>(alloc: Global, anneal: &Anneal<'_, W>) -> Result<String, AllocError> {
     let mut text = format!(in alloc;
         "done {} total {} cost {} at",
@@ -30,7 +30,7 @@ fn told_end<W: Words + Drop>(alloc: Global, anneal: &Anneal<'_, W>) -> Result<St
     Ok(text)
 }
 
-/// Takes turns of these batches in a circle, until no move is left.
+/// Makes turns with these batches, again and again, until no move is left.
 fn finish<W: Words + Sync + Drop, G: Gate, R: Threads + Wait + Sync>(
     rt: &R,
     alloc: Global,
@@ -65,7 +65,7 @@ fn ended<W: Words + Sync + Drop, G: Gate, R: Threads + Wait + Sync>(
     Ok((anneal.redone(), told_end(alloc, anneal)?))
 }
 
-/// The same of chosen words.
+/// The same with chosen words.
 fn chosen_run<G: Gate, R: Threads + Wait + Sync>(
     rt: &R,
     alloc: Global,
@@ -105,7 +105,7 @@ fn clash_end<R: Threads + Wait + Sync>(
     chosen_end(rt, alloc, clashing(alloc, clash)?, pace, &NoGate)
 }
 
-/// A batch of one move, and one of two.
+/// A batch of one move, and a batch of two with one worker and with two.
 const PACES: [Pace; 3] = [
     ALONE,
     Pace {
@@ -166,7 +166,7 @@ fn told_ahead<W: Words + Drop>(
     Ok(text)
 }
 
-/// What is judged ahead after one more move.
+/// What is judged ahead after one more turn of one move.
 fn told_ahead_of_a_move<W: Words + Sync + Drop, R: Threads + Wait + Sync>(
     rt: &R,
     alloc: Global,
@@ -176,7 +176,7 @@ fn told_ahead_of_a_move<W: Words + Sync + Drop, R: Threads + Wait + Sync>(
     Ok(told_ahead(alloc, anneal)?)
 }
 
-/// The same of the first move of the two to one site.
+/// The same after the first of two moves to one site.
 fn ahead_of_a_move<R: Threads + Wait + Sync>(rt: &R, alloc: Global) -> Result<String, Fail> {
     let Chosen {
         of,
@@ -192,7 +192,7 @@ fn ahead_of_a_move<R: Threads + Wait + Sync>(rt: &R, alloc: Global) -> Result<St
 fn the_move_behind_a_turn_is_judged_on_the_placement_before_it(
     rt: HostRuntime,
 ) -> Result<(), Fail> {
-    // The first block stands on the site (2, 1) by now.
+    // The first block is on the site (2, 1) by now.
     assert_eq!(rt;
         ahead_of_a_move(&rt, rt.alloc())?.as_str(),
         "1 true 0 Some(Swap { block: BlockId(1), from: Site { x: 2, y: 2, sub: 0 }, \
@@ -201,7 +201,7 @@ fn the_move_behind_a_turn_is_judged_on_the_placement_before_it(
     Ok(())
 }
 
-// Eight logic blocks with three pads. What is wanted of their runs was told by the slow placer in Python, by
+// Eight logic blocks with three pads. The expected results of their runs come from the slow placer in Python, through
 // tests/tables/turns.py.
 pub(crate) const EIGHT: &[u8] = b".input p0\npinlist: i0\n.input p1\npinlist: i1\n\
     .clb b0\npinlist: n3 n5 n0\n.clb b1\npinlist: n6 n2 n1\n.clb b2\npinlist: n3 n0 n2\n\
@@ -212,7 +212,7 @@ const EIGHT_END: &str =
     "redone 201 ahead 0 done 500 total 205 cost 339336 at 1,0,1 4,3,0 1,2,0 3,1,0 2,2,0 2,1,0 1,1,0 1,3,0 \
     2,3,0 3,3,0 3,4,1";
 
-/// Of batches of 16. All other moves are judged again.
+/// With batches of 16. All moves not listed are judged again.
 const EIGHT_ASKED: &str = "redone 420 asked 920 other 0 commits 500 disordered 0 once \
     0 1 2 7 100 101 150 173 180 185 190 199 200 201 202 203 204 205 215 216 232 233 \
     236 249 261 266 269 271 272 276 279 282 289 297 300 301 302 303 304 305 306 307 308 309 310 317 \
@@ -229,7 +229,7 @@ pub(crate) fn eight<'a, W: Words + Drop>(
     annealer(alloc, of, None, schedule, words)
 }
 
-/// Where a run ends in turns of 4, 1, 3 and 2 moves in a circle, and after so many turns beyond its end.
+/// Where a run ends that makes turns of 4, 1, 3 and 2 moves again and again, and then `beyond` turns after its end.
 fn ended_in_a_circle<W: Words + Sync + Drop, R: Threads + Wait + Sync>(
     rt: &R,
     alloc: Global,
@@ -247,7 +247,7 @@ fn ended_in_a_circle<W: Words + Sync + Drop, R: Threads + Wait + Sync>(
     Ok(format!(in alloc; "redone {redone} ahead {ahead} {}", end.as_str())?)
 }
 
-/// The same of the eight blocks.
+/// The same for the eight blocks.
 fn circle_end<R: Threads + Wait + Sync>(
     rt: &R,
     alloc: Global,
@@ -266,22 +266,22 @@ fn a_batch_less_than_what_was_judged_ahead_changes_nothing(rt: HostRuntime) -> R
     Ok(())
 }
 
-/// What is seen of a run, by its words and its gate.
+/// What is seen of a run through its words and its gate.
 #[derive(Drop)]
 struct Seen {
     /// How often the words of each move were asked for.
     asked: Vec<AtomicU64>,
-    /// The move that is in judgement, counted from 1, and 0 between judgements, where one worker judges.
+    /// With one worker: the move that is being judged, counted from 1; 0 between judgements.
     inside: AtomicU64,
-    /// How often the words of a move were first asked for outside of its judgement, where one worker judges.
+    /// With one worker: for how many moves the words were first asked for outside of the move's judgement.
     outside: AtomicU64,
-    /// How many commits were begun, and how many of them were not the next move's.
+    /// How many commits were begun, and how many of them were not of the next move.
     commits: AtomicU64,
     disordered: AtomicU64,
 }
 
 impl Seen {
-    /// Nothing is seen of so many moves.
+    /// Nothing is seen yet of `moves` moves.
     fn of(alloc: Global, moves: u64) -> Result<Seen, AllocError> {
         let mut asked = Vec::new(alloc);
         for _move in 0..moves {
@@ -296,7 +296,7 @@ impl Seen {
         })
     }
 
-    /// The words of this move were asked for.
+    /// Notes that the words of this move were asked for.
     fn ask(&self, k: u64) {
         let Some(asked) = self.asked.get(k as usize) else {
             return;
@@ -324,7 +324,7 @@ impl Gate for Seen {
     }
 }
 
-/// Words whose asking is seen.
+/// Words that note when they are asked for.
 #[derive(Drop)]
 struct SeenWords<'a, W: Words + Drop> {
     words: W,
@@ -346,8 +346,8 @@ impl<'a, W: Words + Drop> Words for SeenWords<'a, W> {
     }
 }
 
-/// Tells how often the words of moves were asked for in all, and which moves' words once; the other moves are those whose
-/// words were asked for neither once nor twice.
+/// Tells how often the words of moves were asked for in all, and for which moves once. The count `other` is of moves whose words were
+/// asked for neither once nor twice.
 fn told_asked(alloc: Global, seen: &Seen, redone: u64) -> Result<String, AllocError> {
     let mut once = String::new(alloc);
     let (mut all, mut other) = (0u64, 0u64);
@@ -380,7 +380,7 @@ fn asked<W: Words + Sync + Drop, R: Threads + Wait + Sync>(
     Ok(told_asked(alloc, seen, anneal.redone())?)
 }
 
-/// The same of two moves that clash.
+/// The same for two moves that clash.
 fn clash_asked<R: Threads + Wait + Sync>(
     rt: &R,
     alloc: Global,
@@ -413,7 +413,7 @@ fn words_of_the_clashing_move_are_asked_for_twice(rt: HostRuntime) -> Result<(),
     Ok(())
 }
 
-/// The same of the eight blocks.
+/// The same for the eight blocks.
 fn eight_asked<R: Threads + Wait + Sync>(
     rt: &R,
     alloc: Global,
@@ -441,7 +441,7 @@ fn words_of_redone_moves_are_asked_for_twice_and_others_once(rt: HostRuntime) ->
 
 #[test]
 fn words_are_first_asked_for_in_their_judgement(rt: HostRuntime) -> Result<(), Fail> {
-    // With more workers than one it cannot be told so whose judgement it is.
+    // With more than one worker this cannot tell which judgement asks.
     for batch in [1, 16] {
         let seen = Seen::of(rt.alloc(), 500)?;
         let _asked = eight_asked(&rt, rt.alloc(), Pace { batch, workers: 1 }, &seen)?;
@@ -462,7 +462,7 @@ struct Overlap<'a> {
 }
 
 impl Overlap<'_> {
-    /// Waits until this is no more 0.
+    /// Waits until this is no longer 0, for at most ten seconds.
     fn hold(&self, until: &AtomicU64) {
         for _turn in 0..10_000u64 {
             if until.load(Ordering::SeqCst) != 0 {
@@ -535,7 +535,7 @@ fn row_end<R: Threads + Wait + Sync>(
     ended(rt, alloc, &mut anneal, pace, &NoGate)
 }
 
-/// Whether a run ends so in all batches, with one worker and with three.
+/// Whether a run ends as expected with each batch, with one worker and with three.
 fn leads_to<R: Threads + Wait + Sync>(
     rt: &R,
     alloc: Global,

@@ -1,4 +1,4 @@
-//! What a turn answers.
+//! What a turn returns.
 
 /// Whether moves are left.
 #[derive(Clone, Copy, Debug, PartialEq, Eq)]

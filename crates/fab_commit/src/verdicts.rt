@@ -4,7 +4,7 @@ use fab_move::{Mark, Verdict as Answer};
 use fab_site::Swap;
 use std::marker::Model;
 
-/// A worker holds this move.
+/// A worker has claimed this move.
 #[derive(Clone, Copy, Debug, PartialEq, Eq)]
 pub(crate) struct Claimed {
     pub(crate) worker: u64,
@@ -18,7 +18,7 @@ pub(crate) struct Accepted {
     pub(crate) swap: Swap,
 }
 
-/// What a move comes to, as it was judged.
+/// The judgement of a move.
 #[derive(Drop)]
 pub(crate) struct Judgement {
     answer: Answer,
@@ -48,7 +48,7 @@ impl Judgement {
         &self.answer
     }
 
-    /// What it rests on.
+    /// The marks that it rests on.
     pub(crate) fn footprint(&self) -> &[Mark]
         ensures { result.now ≡ self.now.footprint }
     {
@@ -56,12 +56,12 @@ impl Judgement {
     }
 }
 
-/// What a worker answered for a move.
+/// A worker's judgement of a move.
 #[derive(Drop)]
 pub(crate) struct Verdict {
     pub(crate) worker: u64,
     pub(crate) number: u64,
-    /// The moves done in the placement that it was judged on.
+    /// How many moves were made in the placement that it was judged on.
     pub(crate) base: u64,
     pub(crate) judged: Judgement,
 }

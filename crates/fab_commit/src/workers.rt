@@ -1,4 +1,4 @@
-//! Who judges moves ahead: workers that start with each batch, or a crew of workers that stands from turn to turn.
+//! Who judges moves ahead: workers that start with each batch, or a crew of workers that lasts from turn to turn.
 
 ghost use Rattle.std.specs.Prelude.{◌≡◌, ◌+◌, ◌-◌, ◌^◌, ◌<◌, ◌≤◌, false, length, Some, IfOk, OnOk};
 ghost use Rattle.std.specs.Arc.{arc_value};
@@ -44,7 +44,7 @@ impl<'a, 'g, W: Words + Drop, G: Gate> Task<Verdict> for Work<'a, 'g, W, G> {
 
 /// Who judges moves ahead, and the gate of their judgements and of the commits.
 pub struct Workers<'a, 'g, W: Words + Drop, G: Gate, J: Naming> {
-    /// The owner's end of a crew that stands. Where there is none, workers start with each batch and end with it.
+    /// The owner's end of a standing crew. Without a crew, workers start with each batch and end with it.
     crew: Option<Lead<Work<'a, 'g, W, G>, Verdict, J>>,
     workers: u64,
     pub(crate) gate: &'g G,
@@ -52,7 +52,7 @@ pub struct Workers<'a, 'g, W: Words + Drop, G: Gate, J: Naming> {
 }
 
 impl<'a, 'g, W: Words + Drop, G: Gate, J: Naming> Drop for Workers<'a, 'g, W, G, J> {
-    // One call wherever it goes out of scope; a derived `drop` is proved anew there.
+    // This is one call wherever a value goes out of scope. A derived `drop` would be proved again at each place.
     fn drop(self) {
         let Workers {
             crew: _,
@@ -63,7 +63,7 @@ impl<'a, 'g, W: Words + Drop, G: Gate, J: Naming> Drop for Workers<'a, 'g, W, G,
 }
 
 impl<'a, 'g, W: Words + Drop, G: Gate, J: Naming> Workers<'a, 'g, W, G, J> {
-    /// So many workers, from 1 to 64, that start with each batch.
+    /// `workers` workers, from 1 to 64, that start with each batch.
     pub fn started(workers: u64, gate: &'g G) -> Workers<'a, 'g, W, G, J>
         requires { (1 ≤ workers) × (workers ≤ 64) }
     {
@@ -74,7 +74,7 @@ impl<'a, 'g, W: Words + Drop, G: Gate, J: Naming> Workers<'a, 'g, W, G, J> {
         }
     }
 
-    /// So many workers, from 1 to 64, that stand, and whose owner's end this is.
+    /// A standing crew of `workers` workers, from 1 to 64. `crew` is its owner's end.
     pub fn standing(
         crew: Lead<Work<'a, 'g, W, G>, Verdict, J>,
         workers: u64,
@@ -89,7 +89,7 @@ impl<'a, 'g, W: Words + Drop, G: Gate, J: Naming> Workers<'a, 'g, W, G, J> {
         }
     }
 
-    /// Sends a crew home. From then on workers start with each batch.
+    /// Sends the crew home, if there is one. From then on workers start with each batch.
     pub fn dismiss(&mut self) {
         self.crew = None;
     }
@@ -109,7 +109,7 @@ pub(crate) fn answer<W: Words>(
     judge_on(alloc, given, older, number)
 }
 
-/// Judges moves of the running stage on a placement, by so many workers.
+/// Judges moves of the running stage on a placement, with `workers` workers.
 fn judged<W: Words + Sync, G: Gate, R: Threads + Wait + Sync>(
     rt: &R,
     alloc: Global,
@@ -141,7 +141,7 @@ fn judged<W: Words + Sync, G: Gate, R: Threads + Wait + Sync>(
     Ok(verdicts)
 }
 
-/// The owner commits a batch, while so many workers judge the next moves on the older placement.
+/// The owner commits a batch, while `workers` workers judge the `next` moves after it on the older placement.
 fn commit_beside<W: Words + Sync, G: Gate, R: Threads + Wait + Sync>(
     rt: &R,
     alloc: Global,
@@ -188,7 +188,7 @@ fn commit_beside<W: Words + Sync, G: Gate, R: Threads + Wait + Sync>(
     judged
 }
 
-/// Hands a crew so many moves of the running stage, from a first one on.
+/// Hands a crew the `moves` moves of the running stage from `first` on.
 fn post<'a, 'g, W: Words + Drop, G: Gate, J: Naming, R: Wait>(
     rt: &R,
     alloc: Global,
@@ -215,7 +215,7 @@ fn post<'a, 'g, W: Words + Drop, G: Gate, J: Naming, R: Wait>(
     crew.post(rt, work)
 }
 
-/// What a crew judged of a job that is out.
+/// Collects a crew's verdicts for the job that is out.
 fn collected<'a, 'g, W: Words + Drop, G: Gate, J: Naming, R: Wait>(
     rt: &R,
     crew: &mut Lead<Work<'a, 'g, W, G>, Verdict, J>,
@@ -232,7 +232,7 @@ fn collected<'a, 'g, W: Words + Drop, G: Gate, J: Naming, R: Wait>(
     Ok(verdicts)
 }
 
-/// Judges so many moves from a first one on, on the older placement.
+/// Judges the `moves` moves from `first` on, on the older placement.
 pub(crate) fn judge_missing<
     'a,
     'g,
@@ -274,7 +274,7 @@ pub(crate) fn judge_missing<
     collected(rt, crew, given, older, first, moves)
 }
 
-/// The owner commits a batch, while the moves behind it are judged on the older placement.
+/// The owner commits a batch, while the `next` moves after it are judged on the older placement.
 pub(crate) fn commit_and_judge<
     'a,
     'g,

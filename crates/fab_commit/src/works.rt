@@ -1,4 +1,4 @@
-//! What is handed to a crew.
+//! The jobs of a crew.
 
 use crate::states::{Given, State};
 use fab_board::Gate;
@@ -7,7 +7,7 @@ use std::alloc::Global;
 use std::marker::Model;
 use std::sync::Arc;
 
-/// What a crew judges in a turn: moves of the running stage, on the older placement.
+/// A job of a crew: to judge moves of the running stage on the older placement.
 #[derive(Drop)]
 pub struct Work<'a, 'g, W: Words, G: Gate> {
     pub(crate) alloc: Global,

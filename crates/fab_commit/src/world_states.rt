@@ -23,7 +23,7 @@ use fab_sched::Schedule;
 use fab_site::{Swap, Words};
 use std::alloc::{AllocError, Global};
 
-/// Where all stands.
+/// The state of a world.
 pub(crate) struct WorldState {
     pub(crate) live: State,
     /// What workers judge on.
@@ -31,12 +31,12 @@ pub(crate) struct WorldState {
     pub(crate) claims: Vec<Claimed>,
     pub(crate) verdicts: Vec<Verdict>,
     pub(crate) accepted: Vec<Accepted>,
-    /// Of each move that was committed.
+    /// The way of each move that was committed.
     pub(crate) ways: Vec<Way>,
 }
 
 impl Drop for WorldState {
-    // A `drop` that is called is one step wherever a value goes out of scope; a derived one is proved anew there.
+    // This is one call wherever a value goes out of scope. A derived `drop` would be proved again at each place.
     fn drop(self) {
         let WorldState {
             live: _,
@@ -49,7 +49,7 @@ impl Drop for WorldState {
     }
 }
 
-/// The number behind the last move of the stage that runs in a state.
+/// The number after the last move of the running stage; the number of moves made if the run is over.
 fn end_of<W: Words>(given: &Given<'_, W>, state: &State) -> u64
     requires plan { IsLawful given.now.schedule }
     requires sound { IsSound (run_for W.moves given.now) state.now }
@@ -58,7 +58,7 @@ fn end_of<W: Words>(given: &Given<'_, W>, state: &State) -> u64
     state.done + moves_left(&given.schedule, state)
 }
 
-/// A worker without a claim takes the first move that is free.
+/// A worker without a claim claims the first move that is free.
 fn claim<W: Words>(
     given: &Given<'_, W>,
     state: &mut WorldState,
@@ -80,7 +80,7 @@ fn claim<W: Words>(
     Ok(())
 }
 
-/// A worker judges the move that it holds, on the older placement; a move that is done by then is dropped.
+/// A worker judges the move that it claimed, on the older placement. If the move is made already, only the claim is dropped.
 fn judge<W: Words>(
     alloc: Global,
     given: &Given<'_, W>,
@@ -112,7 +112,7 @@ fn judge<W: Words>(
     Ok(())
 }
 
-/// A worker's claim is lost, or else its verdict of the greatest number.
+/// A worker loses its claim or, if it has none, its verdict with the greatest number.
 fn lose<W: Words>(given: &Given<'_, W>, state: &mut WorldState, worker: u64)
     requires whole { IsWhole (run_for W.moves given.now) state.old }
     ensures whole { IsWhole (run_for W.moves given.now) state.new }
@@ -201,7 +201,7 @@ fn judge_and_make<W: Words>(
     Ok(())
 }
 
-/// Keeps the way of a move that is made, and drops its verdict.
+/// Records the way of a move that was made, and drops its verdict.
 fn settle(state: &mut WorldState, number: u64, way: Way)
     requires room { vec_len state.old.ways < vec_capacity state.old.ways }
     ensures live { state.new.live ≡ state.old.live }
@@ -215,7 +215,7 @@ fn settle(state: &mut WorldState, number: u64, way: Way)
     drop_verdict_for(&mut state.verdicts, number);
 }
 
-/// Makes the next move of the stage: by its verdict, where that still holds, and else judged anew.
+/// Makes the next move of the stage: by its verdict if that still holds; otherwise the move is judged on the live placement.
 fn commit_next<W: Words>(
     alloc: Global,
     given: &Given<'_, W>,
@@ -257,7 +257,7 @@ fn commit_next<W: Words>(
     Ok(())
 }
 
-/// The next move of the running stage, if one is left, is committed.
+/// Commits the next move of the running stage, if one is left.
 fn commit_one<W: Words>(
     alloc: Global,
     given: &Given<'_, W>,
@@ -279,7 +279,7 @@ fn commit_one<W: Words>(
     commit_next(alloc, given, state)
 }
 
-/// One event.
+/// Applies one event.
 fn one_event<W: Words>(
     alloc: Global,
     given: &Given<'_, W>,
@@ -305,7 +305,7 @@ fn one_event<W: Words>(
     }
 }
 
-/// One event, which leads on from where the world stands.
+/// Applies one event to a world that events led to. Events lead to the new world too.
 pub(crate) fn step<W: Words>(
     alloc: Global,
     given: &Given<'_, W>,
@@ -323,7 +323,7 @@ pub(crate) fn step<W: Words>(
     one_event(alloc, given, state, event)
 }
 
-/// Nothing is claimed or judged before the first move.
+/// The world before the first move: nothing is claimed or judged.
 pub(crate) fn first_world(alloc: Global, live: State) -> Result<WorldState, AllocError>
     ensures whole { IfOk result (λ s. (r : Run) → IsLawful r.plan → IsSound r live → IsWhole r s) }
     ensures stands { IfOk result (λ s. world_of s ≡ world (standing_of live)) }

@@ -26,7 +26,7 @@ fn world_of<'a, W: Words + Drop>(
     )?)
 }
 
-/// What a letter says of a worker.
+/// The event of a letter and a worker.
 fn event_of(letter: u8, worker: u64) -> Event {
     match letter {
         b'C' => Event::Claim(worker),
@@ -35,8 +35,7 @@ fn event_of(letter: u8, worker: u64) -> Event {
     }
 }
 
-/// Lets all this happen, a letter and the digit of a worker for a claim, a judgement and a loss, + for a commit, = for a
-/// refresh.
+/// Applies these events: a letter and the digit of a worker for a claim, a judgement and a loss, + for a commit, = for a refresh.
 fn happen<W: Words + Drop>(world: &mut World<'_, W>, events: &[u8]) -> Result<(), AllocError> {
     let mut letter = 0;
     for byte in events {
@@ -66,7 +65,7 @@ fn told<W: Words + Drop>(alloc: Global, world: &World<'_, W>) -> Result<String, 
     Ok(text)
 }
 
-/// What is told once all this has happened.
+/// What is told after all these events.
 fn told_after<W: Words + Drop>(
     alloc: Global,
     world: &mut World<'_, W>,
@@ -119,7 +118,7 @@ pub(crate) fn schedule_of(row: &Row) -> Result<Schedule, SchedFault> {
 pub(crate) const ARCH: &[u8] =
     b"io_rat 2\ninpin class: 0 left\ninpin class: 0 top\noutpin class: 1 right\n";
 
-/// What comes of a row.
+/// What is told after the events of a row.
 fn outcome(alloc: Global, row: &Row) -> Result<String, Fail> {
     let schedule = schedule_of(row)?;
     let of = read_setting(alloc, ARCH, row.net)?;
@@ -127,7 +126,7 @@ fn outcome(alloc: Global, row: &Row) -> Result<String, Fail> {
     told_after(alloc, &mut world, row.events)
 }
 
-/// The seed of the first row from which something else comes than the reference says.
+/// The seed of the first row whose result differs from the reference.
 fn first_other(alloc: Global) -> Result<Option<u64>, Fail> {
     for row in &ROWS {
         if outcome(alloc, row)?.as_str() != row.wanted {

@@ -1,4 +1,4 @@
-//! Moves that are judged ahead and committed, one event at a time.
+//! Moves are judged ahead and committed, one event at a time.
 
 ghost use Rattle.std.specs.Prelude.{◌≡◌, ◌++◌, [], slice_get, IfOk, OnOk, OnErr};
 ghost use Rattle.fab_site.specs.Placement.{IsLegal};
@@ -17,8 +17,8 @@ use fab_site::{Fixed, Placement, Words};
 use std::alloc::{AllocError, Global};
 use std::marker::Model;
 
-/// Anneals a placement as workers do that judge moves ahead, though it has no worker: whoever holds it says what happens
-/// next. Whatever that is, the placement is that of one move at a time.
+/// Anneals a placement with moves judged ahead, but without workers: the caller decides which event happens next. Whatever the events
+/// are, the placement is that of moves made one at a time.
 pub struct World<'a, W: Words + Drop> {
     alloc: Global,
     given: Given<'a, W>,
@@ -45,7 +45,7 @@ impl<'a, W: Words + Drop> Model for World<'a, W> {
 }
 
 impl<'a, W: Words + Drop> Drop for World<'a, W> {
-    // One call wherever a world goes out of scope; a derived `drop` is proved anew there.
+    // This is one call wherever a world goes out of scope. A derived `drop` would be proved again at each place.
     fn drop(self) {
         let World {
             alloc: _,
@@ -56,8 +56,8 @@ impl<'a, W: Words + Drop> Drop for World<'a, W> {
 }
 
 impl<'a, W: Words + Drop> World<'a, W> {
-    /// Stands before the first move, with this placement, which is a legal one of the array by condition. The older
-    /// placement is the same one, and nothing is claimed, judged or accepted.
+    /// Creates a world before the first move, with this placement. By contract the placement is a legal one of the array. The older
+    /// placement is the same, and nothing is claimed, judged or accepted. An error means that memory ran out.
     pub fn new(
         alloc: Global,
         design: &'a Design,
@@ -86,7 +86,7 @@ impl<'a, W: Words + Drop> World<'a, W> {
         })
     }
 
-    /// Something happens. What does not apply changes nothing. Where memory is short, all stays as it was.
+    /// Applies an event. An event that does not apply changes nothing. An error means that memory ran out; then everything stays as it was.
     pub fn step(&mut self, event: Event) -> Result<(), AllocError>
         ensures same { IsSameGiven self.old self.new }
         ensures step { OnOk result (self.new.world ≡ happens (run_in W.moves self.old) self.old.world event) }
@@ -101,7 +101,7 @@ impl<'a, W: Words + Drop> World<'a, W> {
         ensures value { result ≡ self.now.world.live.done }
         // Some list of events leads here from a first placement.
         ensures reached { IsReached (run_in W.moves self.now) self.now.world self.now.ways }
-        // Where it stands is where one move at a time leads.
+        // The live standing is the one that moves made one at a time lead to.
         ensures serial { IsSerial (run_in W.moves self.now) self.now.world.live self.now.ways }
     {
         self.state.live.done
@@ -114,7 +114,7 @@ impl<'a, W: Words + Drop> World<'a, W> {
         self.state.live.total
     }
 
-    /// The placement as it stands.
+    /// The current placement.
     pub fn placement(&self) -> &Placement
         ensures grid { result.now.grid ≡ self.now.grid }
         ensures sites { result.now.sites ≡ self.now.world.live.sites }
@@ -123,7 +123,7 @@ impl<'a, W: Words + Drop> World<'a, W> {
         &self.state.live.placement
     }
 
-    /// How a move got its answer, `None` where it is not made yet.
+    /// How a move got its answer; `None` if it is not made yet.
     pub fn committed(&self, number: u64) -> Option<Way>
         ensures { result ≡ slice_get self.now.ways number }
     {

@@ -103,7 +103,7 @@ plain_after g b from to count fx tx fy ty xmin xmax ymin ymax ea eb ec ed x y = 
     let q = y (ys_of g xs) (ys_of g ys) (ap (λ b. b.y) is) (rw ec among.y) (rw (ec, ed) moved.y) in
     λ i. record { xmin = p.0 i; xmax = p.1 i; ymin = q.0 i; ymax = q.1 i }
 
--- where the swapped blocks stand
+-- where the swapped blocks are
 
 block_stands : (f : Site → ℕ) (k : GridShape) (sites : List Site) (s : Swap) → IsSwapOf k sites s → (bs : List ℕ) → 0 < times s.block.0 bs → 0 < times (f s.from) (coordinates f sites bs)
 block_stands f k sites s is [] h = absurd (omega (arith, times_none s.block.0))
@@ -246,7 +246,7 @@ changed d g before after but n r gained lost e f eg el =
     let q : cond (has_block but (blocks_of d n)) 0 (net_cost d g after n) ≡ net_cost d g after n = λ i. cond ((sym e ∙ f) i) 0 (net_cost d g after n) in
     record { balance = omega (arith, p, q, eg, el); gained_within = omega (arith, q, eg); lost_within = omega (arith, p, el) }
 
--- a net of one terminal covers one column and one row wherever it stands
+-- a net of one terminal covers one column and one row wherever it is
 half_of_one : (g : GridShape) (f h : ℕ → Site) (bs : List ℕ) → length bs ≤ 1 → half_perimeter (box_on g (map f bs)) ≡ half_perimeter (box_on g (map h bs))
 unfolding half_perimeter box_on
 half_of_one g f h [] few = refl

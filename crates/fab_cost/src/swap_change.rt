@@ -1,5 +1,5 @@
-//! What a swap makes of the cost, where no box is renewed: most judged moves are rejected, so this is what an annealer
-//! waits for. A net of few terminals is looked at terminal by terminal; most others are passed at a look at their box.
+//! How a swap changes the cost, without renewing a box. Most judged moves are rejected, so this is what an annealer
+//! waits for. A net of few terminals is scanned terminal by terminal; most other nets are settled by one look at their box.
 
 ghost use Rattle.std.specs.Prelude.{◌≡◌, ◌≢◌, ℕ, ◌<◌, ◌+◌, ◌^◌, List, [], Some, IsTrue, MatchOption, length, map, slice_index, slice_index_or};
 ghost use Rattle.std.specs.List.{sum_by};
@@ -24,7 +24,7 @@ use fab_arch::{Grid, Site};
 use fab_net::{BlockId, Design, NetId, Terminal};
 use fab_site::{Placement, Swap};
 
-/// Up to so many terminals are looked at, one by one, rather than the edges of a box.
+/// Nets of up to this many terminals are scanned terminal by terminal; for larger ones the edges of the box are used.
 const FEW: usize = 6;
 
 /// The clipped columns and rows from one site of a swap to the other.
@@ -38,7 +38,7 @@ pub(crate) struct Reach {
 
 #[tactic(auto, unfolding(crate::specs::Changes::reach_between))]
 #[inline]
-/// The columns and rows from one site of the swap to the other.
+/// The clipped columns and rows from one site of the swap to the other.
 fn reach_of(grid: &Grid, swap: &Swap) -> Reach
     ensures { result ≡ reach_between grid.now swap.now }
 {
@@ -66,7 +66,7 @@ fn surrounds(old: CountedBox, reach: Reach) -> bool
 
 #[tactic(auto, using(crate::proofs::Changes::plain_after))]
 #[inline]
-/// The box once `count` terminals have gone from one site to another; `None` where an edge lost its last.
+/// The box after `count` terminals have gone from one site to another; `None` if an edge lost its last terminal.
 fn moved(old: CountedBox, grid: &Grid, from: Site, to: Site, count: u32) -> Option<NetBox>
     requires { 0 < count }
     ensures { MatchOption result (Unit {0}) (λ b. IsPlainAfter grid.now old from to count (box_of b)) }
@@ -89,8 +89,8 @@ fn moved(old: CountedBox, grid: &Grid, from: Site, to: Site, count: u32) -> Opti
 
 #[tactic(auto, using(crate::proofs::Changes::plain_on, crate::proofs::Changes::plain_back))]
 #[inline]
-/// The box of a net after the swap, where `mine` and `others` of its terminals are of the swapped blocks, more of the
-/// one than of the other; `None` where an edge lost its last.
+/// The box of a net after the swap, with `mine` and `others` of its terminals on the swapped blocks. The two numbers
+/// differ. `None` if an edge lost its last terminal.
 fn moved_by(old: CountedBox, grid: &Grid, swap: &Swap, mine: u32, others: u32) -> Option<NetBox>
     requires { mine ≢ others }
     ensures { MatchOption result (Unit {0}) (λ b. IsPlainSwapped grid.now old swap.now mine others (box_of b)) }
@@ -110,7 +110,7 @@ fn moved_by(old: CountedBox, grid: &Grid, swap: &Swap, mine: u32, others: u32) -
 
 #[tactic(auto, using(crate::proofs::Changes::plain_given))]
 #[inline]
-/// The box of a net after the swap, which moves some of its terminals.
+/// The box of a net after the swap, which has more terminals on one of the swapped blocks than on the other.
 fn new_box(
     old: CountedBox,
     design: &Design,
@@ -136,7 +136,7 @@ fn new_box(
 }
 
 #[tactic(auto, using(crate::proofs::Making::net_cost_from, crate::proofs::Nets::counted_cost_from, crate::proofs::Making::terminals_some, crate::proofs::Bounds::terminals_few))]
-/// What a net of these terminals costs with the box after the swap, and with that before it.
+/// What a net of these terminals costs with the box after the swap, and with the box before it.
 fn tally_of_boxes(
     design: &Design,
     net: NetId,
@@ -159,7 +159,7 @@ fn tally_of_boxes(
 
 #[tactic(auto, using(crate::proofs::Seen::left_out_none, crate::proofs::Seen::left_out_some))]
 #[inline(always)]
-/// Whether a net is left out for being of the block `but` too, where `on` says whether it is of the swap's first block.
+/// Whether a net is left out because it is also a net of the block `but`; `on` says whether it is a net of the swap's first block.
 fn is_left_out_on(swap: &Swap, but: Option<BlockId>, on: bool) -> bool
     requires first { (b : Block) → but ≡ Some b → b ≡ swap.now.block }
     ensures { (bs : List ℕ) → on ≡ has_number swap.now.block.0 bs → result ≡ has_block but bs }
@@ -171,7 +171,7 @@ fn is_left_out_on(swap: &Swap, but: Option<BlockId>, on: bool) -> bool
 }
 
 #[tactic(auto, using(crate::proofs::Changes::left_out, crate::proofs::Changes::changed, crate::proofs::Making::net_box_from, crate::proofs::Making::net_cost_from, crate::proofs::Making::terminals_some, crate::proofs::Making::terminals_within, crate::proofs::Bounds::terminals_few, crate::proofs::Seen::seen_on))]
-/// What the swap makes of the cost of a net of few terminals, which are all looked at; nothing where it is also one of
+/// How the swap changes the cost of a net of few terminals, which are all read; nothing if it is also a net of
 /// the block `but`.
 fn change_of_few(
     design: &Design,
@@ -202,7 +202,7 @@ fn change_of_few(
 }
 
 #[tactic(auto, using(crate::proofs::Changes::left_out, crate::proofs::Changes::still, crate::proofs::Changes::changed))]
-/// What the swap makes of the cost of net `i` of a block; nothing where it is also one of the block `but`.
+/// How the swap changes the cost of net `i` of a block; nothing if it is also a net of the block `but`.
 fn change_of_many(
     old: CountedBox,
     design: &Design,
@@ -238,7 +238,7 @@ fn change_of_many(
 
 #[tactic(auto, using(crate::proofs::Nets::net_number, crate::proofs::Nets::net_counts, crate::proofs::Nets::net_within))]
 #[inline(always)]
-/// One of a block's nets, where `nets` are all of them.
+/// Net `i` of a block, where `nets` are all of the block's nets.
 fn net_among(design: &Design, block: BlockId, nets: &[NetId], i: usize) -> NetId
     requires nets { nets.now ≡ map net_id (nets_of design.now block.0) }
     requires within { i < length (nets_of design.now block.0) }
@@ -250,7 +250,7 @@ fn net_among(design: &Design, block: BlockId, nets: &[NetId], i: usize) -> NetId
 
 #[tactic(auto, using(crate::proofs::Changes::passed, crate::proofs::Changes::alone, crate::proofs::Changes::old_is, crate::proofs::Seen::first_of_part))]
 #[inline(always)]
-/// What the swap makes of the cost of net `i` of a block; nothing where it is also one of the block `but`.
+/// How the swap changes the cost of net `i` of a block; nothing if it is also a net of the block `but`.
 fn change_of_net(
     boxes: &Vec<CountedBox>,
     design: &Design,
@@ -292,7 +292,7 @@ fn change_of_net(
 }
 
 #[tactic(auto, using(crate::proofs::Changes::none, crate::proofs::Changes::more, crate::proofs::Changes::all, crate::proofs::Seen::inside, crate::proofs::Seen::past, crate::proofs::Changes::gained_fits, crate::proofs::Changes::lost_fits))]
-/// What the swap makes of the cost of the nets of a block, those of the block `but` left out.
+/// How the swap changes the cost of the nets of a block, without those of the block `but`.
 fn change_of_nets(
     boxes: &Vec<CountedBox>,
     design: &Design,
@@ -329,7 +329,7 @@ fn change_of_nets(
 }
 
 #[tactic(auto, using(crate::proofs::Sited::block_below, crate::proofs::Sited::none_within, crate::proofs::Sited::some_within, crate::proofs::Changes::whole_none, crate::proofs::Changes::whole_some, crate::proofs::Changes::gained_low, crate::proofs::Changes::lost_low, crate::proofs::Nets::cost_low))]
-/// What the swap makes of the cost of the nets of its blocks, each net once.
+/// How the swap changes the cost of the nets of its blocks, each net once.
 pub(crate) fn whole_change(
     boxes: &Vec<CountedBox>,
     design: &Design,

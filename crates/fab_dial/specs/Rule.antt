@@ -1,4 +1,4 @@
--- The rule of the dial's cell, and what its two steps tell. Our own, in the form that a ruled cell asks for.
+-- The rule of the dial's cell, and what its two steps tell. Our own, in the form that a ruled cell requires.
 use Rattle.std.specs.Prelude.{◌≡◌, ◌⊎◌, ℕ, List, [], ◌∷◌, ◌++◌, true, false}
 use mathlib.Core.Option.{some}
 use lib.ListN.{get_elem?}
@@ -6,7 +6,7 @@ use Rattle.fab_dial.specs.declared.readings.Reading.{Reading}
 use Rattle.fab_dial.specs.declared.rule.View.{View}
 use Rattle.fab_dial.specs.Shown.{StartsWith, EndsWith}
 
--- the views of a shower that showed these, which it has seen too, and of a watcher that saw these
+-- the views of a shower that showed these readings, and so has seen them, and of a watcher that saw these readings
 abbrev pub shower : List Reading → View
 shower shown = record { is_shower = true; shown = shown; seen = shown }
 
@@ -21,12 +21,12 @@ nobody = watcher []
 abbrev pub joined : View → View → View
 joined v w = record { is_shower = v.is_shower; shown = v.shown; seen = w.seen }
 
--- the pass of this number fits the list: only the shower's knows it whole, and each has seen a beginning
+-- the pass of this number fits the list: only the shower's pass knows the whole list, and each pass has seen a prefix
 pub record Fits (shower_pass : ℕ) (list : List Reading) (pass : ℕ) (v : View) : Type 0 where
   pub whole : v.is_shower ≡ true → (pass ≡ shower_pass) × (v.shown ≡ list)
   pub begun : StartsWith list v.seen
 
--- there is one list, which every pass fits; it is empty, or the cell holds its last
+-- there is one list, which every pass fits; it is empty, or the cell holds its last reading
 pub record Kept (held : Reading) (views : List View) : Type 0 where
   pub shower_pass : ℕ
   pub list : List Reading
@@ -37,7 +37,7 @@ pub record Kept (held : Reading) (views : List View) : Type 0 where
 abbrev pub Stores : View → Reading → Reading → View → Type 0
 Stores v held new w = w ≡ shower (v.shown ++ new ∷ [])
 
--- a load of `held` leaves the list up to it seen, which for the shower is all that it showed
+-- after a load of `held` the list up to it is seen; for the shower that is everything that it showed
 pub record Loads (v : View) (held same : Reading) (w : View) : Type 0 where
   pub kept : w ≡ joined v w
   pub goes_on : StartsWith w.seen v.seen

@@ -10,7 +10,7 @@ StartsWith list these = (rest : List Reading) × (list ≡ these ++ rest)
 abbrev pub EndsWith : List Reading → Reading → Type 0
 EndsWith list reading = (before : List Reading) × (list ≡ before ++ reading ∷ [])
 
--- at the start, and after 3 moves of which 1 was accepted
+-- at the start, and after 3 moves, 1 of them accepted
 start : Reading
 start = record { moves = 0; accepted = 0; cost = 40000 }
 

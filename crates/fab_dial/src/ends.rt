@@ -12,7 +12,7 @@ use std::alloc::{AllocError, Global};
 use std::marker::Model;
 use std::sync::Wait;
 
-/// A place that holds the last reading shown. A contract sees which dial it is.
+/// Holds the last reading shown. Contracts see which dial it is.
 #[derive(Drop)]
 pub struct Dial {
     cell: Cell,
@@ -26,7 +26,7 @@ impl Model for Dial {
     ghost invariant = { λ d. Unit {0} };
 }
 
-/// The one end that shows. A contract sees its dial, and the list of all readings shown.
+/// The one end that shows readings. Contracts see its dial, and the list of all readings shown.
 #[derive(Drop)]
 pub struct Shower {
     pass: CellPass,
@@ -40,7 +40,7 @@ impl Model for Shower {
     ghost invariant = { λ s. (cell_view s.pass ≡ shower (cell_view s.pass).shown) × (0 < length (cell_view s.pass).shown) };
 }
 
-/// An end that reads. A contract sees its dial, and the list of readings up to the last one that it read.
+/// An end that reads. Contracts see its dial, and the list of readings up to the last one that it read.
 #[derive(Drop)]
 pub struct Watcher {
     pass: CellPass,
@@ -55,7 +55,8 @@ impl Model for Watcher {
 }
 
 impl Dial {
-    /// A dial on which `first` is shown, its shower, and 0 to 64 watchers, who have seen `first`.
+    /// Creates a dial that shows `first`, its shower, and `watchers` watchers, from 0 to 64, that have seen `first`. An error means that
+    /// memory ran out.
     pub fn new<R: Wait>(
         rt: &R,
         alloc: Global,
@@ -69,7 +70,7 @@ impl Dial {
     {
         let (cell, mut pass) = Cell::ruled(alloc, first)?;
         let dial = Dial { cell };
-        // The rule of a cell starts at an empty list, whatever the cell holds.
+        // The rule of a cell starts with an empty list, whatever the cell holds.
         dial.store(rt, &mut pass, first);
         let mut shower = Shower { pass };
         let mut all = Vec::new(alloc);
@@ -79,7 +80,7 @@ impl Dial {
         Ok((dial, shower, all))
     }
 
-    /// Puts a reading at the end of the list. The shower is one of this dial.
+    /// Shows a reading: puts it at the end of the list. By contract the shower is one of this dial.
     pub fn show<R: Wait>(&self, rt: &R, shower: &mut Shower, reading: Reading)
         requires own { shower.old.dial ≡ self.now }
         ensures dial { shower.new.dial ≡ shower.old.dial }
@@ -88,8 +89,8 @@ impl Dial {
         self.store(rt, &mut shower.pass, reading);
     }
 
-    /// The last reading of a list that begins with all that this watcher had seen, and that it has now seen.
-    /// The watcher is one of this dial. That the reading is the newest in time is not promised.
+    /// Returns the last reading of a list that begins with everything this watcher had seen, and that the watcher has seen now. By
+    /// contract the watcher is one of this dial. The reading need not be the newest in time.
     pub fn read<R: Wait>(&self, rt: &R, watcher: &mut Watcher) -> Reading
         requires own { watcher.old.dial ≡ self.now }
         ensures dial { watcher.new.dial ≡ watcher.old.dial }
@@ -99,8 +100,8 @@ impl Dial {
         self.load(rt, &mut watcher.pass)
     }
 
-    /// Ends the dial, and answers the last reading shown. What each of these watchers has seen is a beginning of what was shown.
-    /// The shower and the watchers are of this dial. They may be fewer watchers than were made, or none.
+    /// Ends the dial, and returns the last reading shown. What each of these watchers has seen is a prefix of what was shown. By contract
+    /// the shower and the watchers are of this dial. There may be fewer watchers than were made, or none.
     pub fn gather<R: Wait>(self, rt: &R, mut shower: Shower, mut watchers: Vec<Watcher>) -> Reading
         requires own { shower.dial ≡ self }
         requires watchers { All (λ w. w.dial ≡ self) watchers.items }
@@ -124,7 +125,7 @@ impl Dial {
         }
     }
 
-    // Holds what a watcher has seen against what was shown.
+    // Shows that what a watcher has seen is a prefix of what was shown.
     fn check<R: Wait>(&self, rt: &R, shower: &mut Shower, watcher: Watcher)
         requires shower { shower.old.dial ≡ self.now }
         requires watcher { watcher.dial ≡ self.now }

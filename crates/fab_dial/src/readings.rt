@@ -4,9 +4,9 @@ use crossbeam_utils::atomic::Words;
 /// How far a run has come.
 #[derive(Clone, Copy, Debug, PartialEq, Eq)]
 pub struct Reading {
-    /// Moves that are done.
+    /// How many moves were made.
     pub moves: u64,
-    /// Moves among them that were accepted.
+    /// How many of these moves were accepted.
     pub accepted: u64,
     /// The cost, in ten-thousandths.
     pub cost: u64,

@@ -5,7 +5,7 @@ use crossbeam_utils::atomic::seq_cell::{Pass, RuledSeqCell};
 use crossbeam_utils::rule::{Outcome, Protocol};
 use std::collections::LinkedList;
 
-/// What a pass knows. No value of it is made.
+/// What a pass knows. It exists only in proofs: no value of it is made.
 pub struct View {
     pub is_shower: bool,
     /// What the shower showed; empty for a watcher.
@@ -14,7 +14,7 @@ pub struct View {
     pub seen: LinkedList<Reading>,
 }
 
-/// There is one list of readings, and every pass knows a beginning of it.
+/// There is one list of readings, and every pass knows a prefix of it.
 pub struct Showing;
 
 impl Protocol<Reading, View> for Showing {
@@ -44,7 +44,7 @@ impl Outcome<Reading, View> for Load {
     ghost then = { Loads };
 }
 
-/// Cuts a new watcher off the shower.
+/// Splits a new watcher off the shower.
 pub struct Newcomer;
 
 impl Split<View> for Newcomer {
@@ -55,7 +55,7 @@ impl Split<View> for Newcomer {
     ghost right = { λ v. watcher v.shown };
 }
 
-/// Hands a watcher's view to the shower, by way of a new pass: only a pass that has made no step can be joined.
+/// Hands a watcher's view to the shower through a new pass: only a pass that has made no step can be joined.
 pub struct Whole;
 
 impl Split<View> for Whole {

@@ -18,7 +18,7 @@ fn reading(moves: u64, accepted: u64, cost: u64) -> Reading {
     }
 }
 
-// The reading of this number on the list that a test shows: no two of its words go with another number.
+// Reading `number` of the list that a test shows. No other number has any of its words, so a mixed reading is noticed.
 fn listed(number: u64) -> Reading {
     reading(
         number,
@@ -27,7 +27,7 @@ fn listed(number: u64) -> Reading {
     )
 }
 
-// What was shown last is what is gathered, by the clauses of the two calls alone.
+// What was shown last is what is gathered. The contracts of the two calls suffice to prove it.
 fn shown_last<R: Wait>(
     rt: &R,
     dial: Dial,
@@ -77,7 +77,7 @@ fn fewer_watchers_are_gathered_than_were_made(rt: HostRuntime) -> Result<(), Fai
     Ok(())
 }
 
-// Reads many times: each reading is on the list, and none stands before the one read before it.
+// Reads many times. Each reading is on the list, and none is before the one read before it.
 fn watch<R: Wait + Abort>(rt: &R, dial: &Dial, mut watcher: Watcher) -> Watcher
     requires { watcher.dial ≡ dial.now }
     ensures { result.dial ≡ dial.now }

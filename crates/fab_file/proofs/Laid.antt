@@ -63,7 +63,7 @@ says_nothing l feed none =
       reads = no_words;
     }
 
--- a word, and a separator behind it
+-- a word, and a separator after it
 pub word_then : (c : ℕ) (w rest : List ℕ) (ws : List (List ℕ)) → is_separator c ≡ true → IsWord w → Reads rest ws → Reads (w ++ c ∷ rest) (w ∷ ws)
 word_then c w rest ws h k r = word_first w (c ∷ rest) ws k.some (inside w k.clean) h (behind_separator c rest ws h r)
 

@@ -245,7 +245,7 @@ one_placement d g ls one two law t u =
     let below : b < length d.names = omega (arith, lt, t.legal.all, law.named) in
     agree d one two (get_or d.names b []) b t.rest (number_at d.names b law.distinct below) t.lines lines (all_at (λ name. list_any (names_block name) t.rest ≡ true) d.names b [] below t.complete))
 
--- where a text has no fault, what is answered in place of a placement is want of memory
+-- if a text has no fault, the only error is out of memory
 pub memory_only : (e : PlaceFault) (f : Option PlaceFault) → f ≡ None → FaultIs e f → e ≡ fault.NoMemory
 memory_only fault.NoMemory f none h = refl
 memory_only fault.BadHeader f none h = absurd (none_some _ (sym none ∙ h))

@@ -1,4 +1,4 @@
--- The words of bytes that stand in a text.
+-- The words of bytes that are part of a text.
 use Rattle.std.proofs.Common.{◌≡◌, ℕ, ◌+◌, ◌-◌, ◌<◌, ◌≤◌, true, false, Bool, cond, eqb, List, [], ◌∷◌, ◌++◌, length, take, drop, map, get_or, refl, sym, ap, ◌∙◌, arith, append_assoc}
 use Rattle.std.specs.Prelude.{slice_range}
 use Rattle.std.proofs.Math.Seq.{drop-append_seam, take-append_seam, take-length}
@@ -10,7 +10,7 @@ use Rattle.fab_text.specs.Runs.{EndsWord}
 use Rattle.fab_text.proofs.Runs.{runs}
 use Rattle.fab_file.proofs.Seats.{or_neither}
 
--- wherever the bytes stand in a text, these are their words
+-- wherever the bytes are in a text, these are their words
 pub record Reads (kept : List ℕ) (ws : List (List ℕ)) : Type 0 where
   pub everywhere : (before rest : List ℕ) → map (bytes_at (before ++ (kept ++ rest))) (words_at (length before) kept) ≡ ws
 
@@ -78,7 +78,7 @@ last-append xs ys some =
     let n : length (xs ++ ys) - 1 ≡ length xs + (length ys - 1) = omega (arith, length-append xs ys) in
     ap (λ k. get_or (xs ++ ys) k 0) n ∙ get_or-append-add xs ys (length ys - 1) 0
 
--- separators behind a byte that is none are dropped
+-- separators after a byte that is none are dropped
 pub trimmed_is : (body seps : List ℕ) → 0 < length body → is_separator (last_byte body) ≡ false
     → ((k : ℕ) → length body ≤ k → k < length (body ++ seps) → is_separator (get_or (body ++ seps) k 0) ≡ true) → trimmed (body ++ seps) ≡ body
 unfolding trimmed

@@ -49,7 +49,7 @@ both (Some x) (Some y) = Some (x, y)
 abbrev pub size_in : TextLine → Option (ℕ × ℕ)
 size_in l = if is_size_line l then both (small_number (word_at l 2)) (small_number (word_at l 4)) else None
 
--- the size that a header gives, of which these lines are there
+-- the size that a header gives, from those of its lines that exist
 abbrev pub header_size : Option TextLine → Option TextLine → Option (ℕ × ℕ)
 header_size None size = None
 header_size (Some files) None = None
@@ -75,7 +75,7 @@ site_in l = if length l.words == 4 then site_from (small_number (word_at l 1)) (
 abbrev pub block_in : Netlist → TextLine → Option ℕ
 block_in d l = number_of (word_at l 0) d.names
 
--- the line names a block, and gives it the site where it stands
+-- the line names a block, and gives it the site where it is placed
 pub record Places (d : Netlist) (sites : List Site) (l : TextLine) : Type 0 where
   pub block : ℕ
   pub named : block_in d l ≡ Some block
@@ -84,8 +84,8 @@ pub record Places (d : Netlist) (sites : List Site) (l : TextLine) : Type 0 wher
 abbrev pub names_block : List ℕ → TextLine → Bool
 names_block name l = bytes_eq name (word_at l 0)
 
--- the text stands for this placement: its header gives the size of the array, behind it each line places a block, no block has two lines, each has
--- one, and the placement is legal
+-- the text stands for this placement: its header gives the size of the array, each line after it places a block, no block has two
+-- lines, each has one, and the placement is legal
 pub record StandsFor (d : Netlist) (g : GridShape) (ls : List TextLine) (sites : List Site) : Type 0 where
   pub files : TextLine
   pub size : TextLine

@@ -13,7 +13,7 @@ use Rattle.fab_file.specs.declared.fault.PlaceFault.{PlaceFault}
 use Rattle.fab_file.specs.declared.fault.PlaceFault.TheVariants.{BadHeader, WrongSize, UnknownBlock, Repeated, NoSuchSite, WrongKind, Taken, Missing, BadLine, NoMemory}
 use Rattle.fab_file.specs.Place.{place_size_of, site_in, block_in, names_block, StandsFor}
 
--- the fault of a header that gives this size, or none, and must give this array's
+-- the fault of a header that gives this size, or none; it must give this array's size
 abbrev pub size_fault_by : GridShape → Option (ℕ × ℕ) → Option PlaceFault
 size_fault_by g None = Some BadHeader
 size_fault_by g (Some size) = unless (size.0 == g.nx && size.1 == g.ny) WrongSize
@@ -26,7 +26,7 @@ place_header_fault g ls = size_fault_by g (place_size_of ls)
 abbrev pub sites_given : List TextLine → List Site
 sites_given ls = filter_map site_in ls
 
--- a named block is this one
+-- a block is named, and it is this one
 abbrev pub is_block : ℕ → Option ℕ → Bool
 is_block block None = false
 is_block block (Some other) = other == block
@@ -45,7 +45,7 @@ abbrev pub kind_fault : Netlist → ℕ → ℕ → Option SiteKind → Option P
 kind_fault d n block None = Some (NoSuchSite n)
 kind_fault d n block (Some kind) = unless (same_kind kind (kind_wanted d block)) (WrongKind n)
 
--- the first fault of a block's line with this number that follows others, where it gives this site, or none, and names
+-- the first fault of a block's line, number `n`, that follows others, where the line gives this site, or none, and names
 -- this block, or none
 abbrev pub block_fault_by : Netlist → GridShape → List TextLine → ℕ → Option Site → Option ℕ → Option PlaceFault
 block_fault_by d g before n None named = Some (BadLine n)
@@ -63,7 +63,7 @@ abbrev pub missing_fault : Option ℕ → Option PlaceFault
 missing_fault None = None
 missing_fault (Some block) = Some (Missing block)
 
--- the fault of a whole text, where its header and these block lines have none: the first block that no line names
+-- the fault of a whole text whose header and block lines have none: the first block that no line names
 abbrev pub text_fault : Netlist → List TextLine → Option PlaceFault
 text_fault d blocks = missing_fault (position (λ name. not (list_any (names_block name) blocks)) d.names)
 
@@ -71,13 +71,13 @@ text_fault d blocks = missing_fault (position (λ name. not (list_any (names_blo
 abbrev pub first_fault : Netlist → GridShape → List TextLine → Option PlaceFault
 first_fault d g ls = or_else (place_header_fault g ls) (fault_of_all (block_fault d g) (text_fault d) (drop 2 ls))
 
--- a text stands for a placement, or has a first fault, and never both
+-- a text either stands for a placement or has a first fault, never both
 abbrev pub PlaceMeansOrFaults : Netlist → GridShape → List TextLine → Type 0
 PlaceMeansOrFaults d g ls =
     ((sites : List Site) → StandsFor d g ls sites → first_fault d g ls ≡ None)
     × (first_fault d g ls ≡ None → (sites : List Site) × StandsFor d g ls sites)
 
--- a fault that was answered is this one, or want of memory, which may come for any text
+-- a returned fault is this one, or out of memory, which may come for any text
 abbrev pub FaultIs : PlaceFault → Option PlaceFault → Type 0
 FaultIs NoMemory fault = Unit {0}
 FaultIs e fault = fault ≡ Some e

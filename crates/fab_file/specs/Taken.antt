@@ -1,4 +1,4 @@
--- What block lines have said so far: of each block the site that a line gave it (our own).
+-- What block lines have said so far: the site that a line gave each block (our own).
 use Rattle.std.specs.Prelude.{ℕ, ◌≡◌, Bool, not, is_some, if◌then◌else◌, List, position, replicate, length, Option, Some, None, slice_get, slice_set}
 use Rattle.fab_text.specs.Lines.{TextLine}
 use Rattle.fab_text.specs.FirstFault.{or_else, unless}
@@ -15,13 +15,13 @@ use Rattle.fab_file.specs.declared.fault.PlaceFault.TheVariants.{UnknownBlock, R
 use Rattle.fab_file.specs.Place.{site_in, block_in}
 use Rattle.fab_file.specs.PlaceFaults.{kind_fault, missing_fault}
 
--- block lines of a netlist on an array: of each block its site, or none yet
+-- block lines of a netlist on an array: each block's site, or none yet
 pub record LinesOf : Type 0 where
   pub netlist : Netlist
   pub grid : GridShape
   pub sites : List (Option Site)
 
--- each site given is one of the array's, of its block's kind, and no two blocks have one
+-- each site given is one of the array's, and of its block's kind; no two blocks have the same
 pub record AreFitting (d : Netlist) (g : GridShape) (sites : List (Option Site)) : Type 0 where
   pub fit : (b : ℕ) (s : Site) → slice_get sites b ≡ Some (Some s) → Fits d g b s
   pub apart : NoneShared sites
@@ -37,7 +37,7 @@ wanted k = if is_logic k then site_kind.Logic else site_kind.Pad
 abbrev pub has_site : List (Option Site) → ℕ → Bool
 has_site sites block = is_some (flat (slice_get sites block))
 
--- the first fault of one more block line with this number, where it gives this site, or none, and names this block,
+-- the first fault of one more block line, number `n`, where the line gives this site, or none, and names this block,
 -- or none
 abbrev pub take_fault_by : LinesOf → ℕ → Option Site → Option ℕ → Option PlaceFault
 take_fault_by p n None named = Some (BadLine n)
@@ -55,7 +55,7 @@ abbrev pub seated : LinesOf → Option ℕ → Option Site → LinesOf
 seated p None site = p
 seated p (Some block) site = record { netlist = p.netlist; grid = p.grid; sites = slice_set p.sites block site }
 
--- what is said with one more block line, which has no fault
+-- what is said, with one more block line that has no fault
 abbrev pub with_line : LinesOf → TextLine → LinesOf
 with_line p l = seated p (block_in p.netlist l) (site_in l)
 

@@ -1,5 +1,5 @@
--- A placement as it is written (our own, after the VPR manual): the header, two comment lines, and a line for each
--- block in order of number, with one tab between columns.
+-- A placement as it is written (our own, after the VPR manual): the header, an empty line, two comment lines, and a line
+-- for each block in order of number, with one tab between columns.
 use Rattle.std.specs.Prelude.{ℕ, ◌≡◌, ◌<◌, Bool, true, false, not, ◌&&◌, List, [], ◌∷◌, ◌++◌, Option, length, map, take, slice_index_or, codes, decimal, refl}
 use Rattle.std.specs.Fmt.{digits}
 use Rattle.std.specs.Io.KnownBytes.{Appends}
@@ -15,11 +15,11 @@ use Rattle.fab_site.specs.Placement.{site_of, site}
 use Rattle.fab_file.specs.declared.fault.PlaceFault.{PlaceFault}
 use Rattle.fab_file.specs.declared.fault.PlaceFault.TheVariants.{BadLabel, Write, NoMemory}
 
--- bytes that can stand in a header: one word, whose last byte is no backslash
+-- bytes that can be part of a header: one word whose last byte is no backslash
 abbrev pub is_label : List ℕ → Bool
 is_label label = can_be_word label && not (is_continued label)
 
--- both names that a header shows can stand there
+-- both names can be part of a header
 abbrev pub are_labels : List ℕ → List ℕ → Bool
 are_labels net arch = is_label net && is_label arch
 
@@ -33,7 +33,7 @@ size_text g = codes "Array size: " ++ decimal g.nx ++ codes " x " ++ decimal g.n
 abbrev pub column : ℕ → List ℕ
 column n = codes "\t" ++ decimal n
 
--- the line of a block: its name, its site, and behind a `#` its number
+-- the line of a block: its name, its site, and its number after a `#`
 abbrev pub block_text : List ℕ → Site → ℕ → List ℕ
 block_text name s number =
     name ++ column s.x ++ column s.y ++ column s.sub ++ codes "\t#" ++ decimal number
@@ -58,22 +58,22 @@ block_lines d sites = map (block_line d sites) (range_with_len 0 (length d.kinds
 abbrev pub ended : List ℕ → List ℕ
 ended line = line ++ codes "\n"
 
--- the text of a placement with these names of the netlist's and the architecture's files
+-- the text of a placement, with these names of the netlist file and the architecture file
 abbrev pub place_text : List ℕ → List ℕ → Netlist → GridShape → List Site → List ℕ
 place_text net arch d g sites = flat_map ended (head_lines net arch g) ++ flat_map ended (block_lines d sites)
 
--- what went out is a beginning of the text, and not all of it
+-- what was written is a beginning of the text, and not all of it
 abbrev pub IsCut : List ℕ → Option (List ℕ) → Option (List ℕ) → Type 0
 IsCut text old new = (n : ℕ) × (n < length text) × Appends old new (take n text)
 
--- a fault of a label or of the writer, or want of memory
+-- a fault of a label or of the writer, or out of memory
 abbrev pub IsWriteFault : PlaceFault → Type 0
 IsWriteFault BadLabel = Unit {0}
 IsWriteFault Write = Unit {0}
 IsWriteFault NoMemory = Unit {0}
 IsWriteFault e = ⊥
 
--- how often a writer has failed, where the text was not written for a fault: once more only where the fault says so
+-- how often a writer has failed after this fault: once more only if the fault is the writer's
 abbrev pub failed_with : PlaceFault → ℕ → ℕ
 failed_with Write n = grown n
 failed_with e n = n

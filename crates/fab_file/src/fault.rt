@@ -8,12 +8,13 @@ use std::alloc::{AllocError, AllocFailed};
 use std::fmt;
 use thiserror::Error;
 
-/// Why a text stands for no placement, or why none was written: its first fault. A number is that of the faulty line.
+/// Why a text stands for no placement, or why none was written: the first fault. A number is that of the faulty line,
+/// except in `Missing`, where it is that of a block.
 #[derive(Clone, Copy, Debug, PartialEq, Eq, Error)]
 pub enum PlaceFault {
-    /// One of the first two lines is not the header, or is missing.
+    /// One of the first two lines is missing or is not the header's.
     BadHeader,
-    /// The header gives another array.
+    /// The header gives another size than the array's.
     WrongSize,
     /// A line names no block of the design.
     UnknownBlock(u64),
@@ -25,17 +26,17 @@ pub enum PlaceFault {
     WrongKind(u64),
     /// An earlier line gives the site to another block.
     Taken(u64),
-    /// No line names this block, the first such.
+    /// No line names this block: the first such block, by number.
     Missing(u64),
     /// A line of a checkpoint of the first version fixes a block that is no pad.
     NotAPad(u64),
-    /// A line has another form than a name with three numbers of at most 65,535 (or than its format asks for).
+    /// A line is not a name with three numbers of at most 65,535 (or not what its format requires).
     BadLine(u64),
-    /// A label that cannot stand in a header.
+    /// A label cannot be part of a header.
     BadLabel,
     /// The writer failed.
     Write,
-    /// There was no memory to go on.
+    /// Memory ran out.
     NoMemory,
 }
 

@@ -1,4 +1,4 @@
-//! The header of a placement text: two lines, the second of which gives the size of the array.
+//! The header of a placement text: two lines, the second with the size of the array.
 
 ghost use Rattle.std.specs.Prelude.{◌≡◌, Some, None, drop, IfOk, IfErr, OnOk};
 ghost use Rattle.std.specs.Option.{option_map};
@@ -53,7 +53,7 @@ pub(crate) fn size_in(line: &Line) -> Option<(u16, u16)>
     }
 }
 
-/// The columns and rows that a header gives, of which these lines are there, or `BadHeader`. Takes no memory.
+/// The columns and rows that a header gives, from those of its lines that exist, or `BadHeader`. Needs no memory.
 fn header_size(files: &Option<Line>, size: &Option<Line>) -> Result<(u16, u16), PlaceFault>
     ensures size { IfOk result (λ r. header_size (option_map (λ l. shown l) files.now) (option_map (λ l. shown l) size.now) ≡ Some r) }
     ensures fault { IfErr result (λ e. size_fault (header_size (option_map (λ l. shown l) files.now) (option_map (λ l. shown l) size.now)) ≡ Some e) }
@@ -73,7 +73,7 @@ fn header_size(files: &Option<Line>, size: &Option<Line>) -> Result<(u16, u16), 
     }
 }
 
-/// Takes the header off the lines of a placement text: the columns and rows that it gives.
+/// Takes the header's two lines from the lines of a placement text, and returns the columns and rows that they give.
 pub(crate) fn take_size(left: &mut Lines) -> Result<(u16, u16), PlaceFault>
     ensures size { IfOk result (λ r. place_size_of left.old ≡ Some r) }
     ensures rest { OnOk result (left.new ≡ drop 2 left.old) }
@@ -84,7 +84,7 @@ pub(crate) fn take_size(left: &mut Lines) -> Result<(u16, u16), PlaceFault>
     header_size(&files, &size)
 }
 
-/// Compares the columns and rows that a header gives with the array's, or answers `WrongSize`. Takes no memory.
+/// Compares the columns and rows that a header gives with the array's, or returns `WrongSize`. Needs no memory.
 pub(crate) fn check_size(grid: &Grid, nx: u16, ny: u16) -> Result<(), PlaceFault>
     ensures ok { OnOk result (size_fault_by grid.now (Some (nx, ny)) ≡ None) }
     ensures fault { IfErr result (λ e. size_fault_by grid.now (Some (nx, ny)) ≡ Some e) }
@@ -95,8 +95,8 @@ pub(crate) fn check_size(grid: &Grid, nx: u16, ny: u16) -> Result<(), PlaceFault
     Ok(())
 }
 
-/// The columns and rows that the header of a placement text gives, or `BadHeader`. The lines behind the header are
-/// not looked at.
+/// The columns and rows that the header of a placement text gives, or `BadHeader`. The lines after the header are
+/// not read. `NoMemory` if memory runs out.
 pub fn place_size(alloc: Global, bytes: &[u8]) -> Result<(u16, u16), PlaceFault>
     ensures size { IfOk result (λ r. place_size_of (lines bytes.now) ≡ Some r) }
     ensures fault { IfErr result (λ e. FaultIs e (size_fault (place_size_of (lines bytes.now)))) }

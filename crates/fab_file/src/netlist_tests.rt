@@ -49,7 +49,7 @@ fn push_net(line: &mut Vec<u8>, design: &Design, net: u32) -> Result<(), AllocEr
     line.extend_from_slice(b"\n")
 }
 
-// A line for each block, with its nets, then a line for each net, with its terminals as BLOCK.PIN.
+// One line for each block with its nets, then one line for each net with its terminals as BLOCK.PIN.
 fn lines_of(alloc: Global, design: &Design) -> Result<Vec<u8>, AllocError> {
     let mut lines = Vec::new(alloc);
     for block in 0..65_535 {
@@ -61,7 +61,7 @@ fn lines_of(alloc: Global, design: &Design) -> Result<Vec<u8>, AllocError> {
     Ok(lines)
 }
 
-// The lines of the design that a text means, none where it is faulty.
+// The lines of the design that a text means; none if it is faulty.
 fn told(alloc: Global, text: &[u8]) -> Result<Vec<u8>, Fail> {
     match read(alloc, text)? {
         Ok(design) => Ok(lines_of(alloc, &design)?),
@@ -90,7 +90,7 @@ fn designs_are_read(rt: HostRuntime) -> Result<(), Fail> {
             subblock: x\npinlist: m open \\n\nsubblock: y\n.output pinlist:\npinlist: open\n.global",
             b"in open\nlogic \xff\x01\x0b 1\nout pinlist:\nglobal 0.0 1.0\nnet 1.2\n",
         ),
-        // The nets of a block ascend, whatever their order on its pins.
+        // The nets of a block ascend, whatever their order at its pins.
         (
             b".input a\npinlist: m\n.input d\npinlist: k\n.clb b\npinlist: n m l\n\
             .clb c\npinlist: k k n\n.output z\npinlist: g\n.clb e\npinlist: n l g\n.global g",

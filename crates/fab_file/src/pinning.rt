@@ -1,4 +1,4 @@
-//! Location texts: a line for each block that has a site before the first move. A header may stand before them.
+//! Location texts: one line for each block that has a site before the first move, after a header that may be left out.
 
 ghost use Rattle.std.specs.Prelude.{◌≡◌, ℕ, List, Option, Some, None, if◌then◌else◌, IfOk, IfErr, OnOk, MatchResult};
 ghost use Rattle.fab_arch.specs.declared.array.Site.{Site};
@@ -39,7 +39,7 @@ fn has_header(alloc: Global, bytes: &[u8]) -> Result<bool, AllocError>
     }
 }
 
-/// The lines of a text behind its header, which must be of this array, or all lines where there is no header.
+/// The lines of a text after its header, which must be of this array, or all lines if there is no header.
 fn block_lines<'a>(alloc: Global, bytes: &'a [u8], grid: &Grid) -> Result<Lines<'a>, PlaceFault>
     ensures rest { IfOk result (λ left. left ≡ block_lines (lines bytes.now)) }
     ensures ok { OnOk result (header_fault grid.now (lines bytes.now) ≡ None) }
@@ -60,7 +60,7 @@ fn is_free(line: &Line) -> bool
     line.words.len() == 5 && is_word(line, 4, b"free")
 }
 
-/// A line without its last word `free`, where it has it.
+/// A line without the last word `free`, if it has it.
 fn without_free(line: Line) -> Line
     ensures { shown result ≡ without_free (shown line.entry) }
 {
@@ -81,7 +81,7 @@ fn without_free(line: Line) -> Line
     }
 }
 
-/// Fixes or begins a block, which has no site yet, where a line `name x y sub` says.
+/// Gives a block the site that a line `name x y sub` says. The block has no site in `sites` yet.
 fn keep(sites: &mut Fixed, design: &Design, line: &Line) -> Result<(), AllocError>
     requires { (b : ℕ) (s : Site) → site_for design.now b (shown line.now) ≡ Some s → fixed_at sites.old b ≡ None }
     ensures { OnOk result ((b : ℕ) → fixed_at sites.new b ≡ either_site (fixed_at sites.old b) (site_for design.now b (shown line.now))) }
@@ -94,7 +94,8 @@ fn keep(sites: &mut Fixed, design: &Design, line: &Line) -> Result<(), AllocErro
     Ok(())
 }
 
-/// What a location text says of a design on an array, or the text's first fault: that of the first line with one.
+/// Reads what a location text says of a design on an array, or returns the text's first fault: the header's, else that
+/// of the first faulty line.
 pub fn read_pins(
     alloc: Global,
     bytes: &[u8],
@@ -105,7 +106,7 @@ pub fn read_pins(
     ensures found { IfOk result (λ p. IsLocated design.now grid.now (lines bytes.now) p.fixed p.begun) }
     // What it stands for is read, unless memory runs out.
     ensures only { (fixed begun : List (Option Site)) → IsLocated design.now grid.now (lines bytes.now) fixed begun → MatchResult result (λ p. ((b : ℕ) → fixed_at p.fixed b ≡ fixed_at fixed b) × ((b : ℕ) → fixed_at p.begun b ≡ fixed_at begun b)) (λ e. e ≡ NoMemory) }
-    // An error is the first fault, or want of memory.
+    // An error is the first fault, or out of memory.
     ensures fault { IfErr result (λ e. FaultIs e (pins_fault design.now grid.now (lines bytes.now))) }
     // No block and no site is given twice, and each site is one of the array's, of its block's kind.
     ensures lawful { IfOk result (λ p. ArePins design.now grid.now p.fixed p.begun) }

@@ -1,4 +1,4 @@
-//! Placement texts: a header, and a line for each block.
+//! Placement texts: a header, and one line for each block.
 
 ghost use Rattle.std.specs.Prelude.{◌≡◌, List, IfOk, IfErr, MatchResult};
 ghost use Rattle.fab_arch.specs.declared.array.Site.{Site};
@@ -18,8 +18,8 @@ use fab_site::Placement;
 use fab_text::Lines;
 use std::alloc::Global;
 
-/// The placement that a text stands for, of a design on an array, or the text's first fault: that of the first line
-/// with one, else the first block that no line names.
+/// Reads the placement of a design on an array that a text stands for, or returns the text's first fault: the header's,
+/// else that of the first faulty line, else the first block that no line names.
 pub fn read_place(
     alloc: Global,
     bytes: &[u8],
@@ -31,7 +31,7 @@ pub fn read_place(
     ensures grid { IfOk result (λ p. p.grid ≡ grid.now) }
     // What it stands for is read, unless memory runs out.
     ensures only { (sites : List Site) → StandsFor design.now grid.now (lines bytes.now) sites → MatchResult result (λ p. p.sites ≡ sites) (λ e. e ≡ NoMemory) }
-    // An error is the first fault, or want of memory.
+    // An error is the first fault, or out of memory.
     ensures fault { IfErr result (λ e. FaultIs e (first_fault design.now grid.now (lines bytes.now))) }
 {
     let mut placed = PlaceLines::new(alloc, design, grid)?;

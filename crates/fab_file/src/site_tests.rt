@@ -10,7 +10,7 @@ fn site(x: u16, y: u16, sub: u16) -> Site {
     Site { x, y, sub }
 }
 
-// Gives a block a site, where both are free and the array has the site.
+// Gives a block a site, if both are free and the array has the site.
 fn give(draft: &mut Draft, grid: &Grid, block: BlockId, to: Site) -> bool
     requires grid { draft.old.grid ≡ grid.now }
     requires block { block.0 < length draft.old.sites }
@@ -25,7 +25,7 @@ fn give(draft: &mut Draft, grid: &Grid, block: BlockId, to: Site) -> bool
     }
 }
 
-// The placement, where each block has its site.
+// The placement, if each block has its site.
 fn finished(draft: Draft) -> Result<Option<Placement>, AllocError>
     ensures { IfOk result (λ o. IfSome o (λ p. p.grid ≡ draft.grid)) }
 {
@@ -35,7 +35,7 @@ fn finished(draft: Draft) -> Result<Option<Placement>, AllocError>
     }
 }
 
-// Blocks 0 and 1 on these sites, where the array has both and they are two.
+// Blocks 0 and 1 on these sites, if the array has both and they differ.
 fn two_blocks(alloc: Global, grid: &Grid, first: Site, second: Site) -> Result<Placement, Fail>
     ensures { IfOk result (λ p. p.grid ≡ grid.now) }
 {
@@ -48,7 +48,7 @@ fn two_blocks(alloc: Global, grid: &Grid, first: Site, second: Site) -> Result<P
     Err(Fail::from("no placement"))
 }
 
-// Swaps a block to another site of the kind where it stands.
+// Swaps a block to another site of the same kind.
 fn move_to(placement: &mut Placement, grid: &Grid, block: BlockId, to: Site) -> bool
     requires { placement.old.grid ≡ grid.now }
     ensures { placement.new.grid ≡ placement.old.grid }
@@ -72,7 +72,7 @@ fn move_to(placement: &mut Placement, grid: &Grid, block: BlockId, to: Site) -> 
     true
 }
 
-// Where a block stands, if there is one of this number.
+// The site of a block, if there is one with this number.
 fn site_of(placement: &Placement, block: BlockId) -> Option<Site>
     ensures { IfSome result (λ s. slice_get placement.now.sites block.0 ≡ Some s) }
 {
@@ -157,7 +157,7 @@ fn blocks_are_fixed(rt: HostRuntime) -> Result<(), Fail> {
     Ok(())
 }
 
-// Whether two blocks, placed on sites of an array of 2 by 2, are legal on this one.
+// Whether two blocks, placed on an array of 2 by 2, are legal on this array.
 fn are_legal(
     alloc: Global,
     design: &Design,
@@ -170,7 +170,7 @@ fn are_legal(
     Ok(is_legal(design, grid, fixed, &placement))
 }
 
-// The same of a pad and a logic block.
+// The same for a pad and a logic block.
 fn pad_and_logic_are_legal(
     alloc: Global,
     grid: &Grid,
@@ -187,7 +187,7 @@ fn legal_on(alloc: Global, grid: &Grid) -> Result<bool, Fail> {
     pad_and_logic_are_legal(alloc, grid, &Fixed::none(alloc), sites)
 }
 
-// Whether they are legal where one block is fixed at a site.
+// Whether they are legal when one block is fixed at a site.
 fn legal_with(alloc: Global, block: BlockId, at: Site) -> Result<bool, Fail> {
     let sites = [site(0, 2, 1), site(2, 2, 0)];
     let grid = Grid::new(2, 2, 2)?;
@@ -222,7 +222,7 @@ fn a_logic_block_on_a_pad_site_is_not_legal(rt: HostRuntime) -> Result<(), Fail>
     Ok(())
 }
 
-// Whether a placement of no block is legal.
+// Whether a placement without blocks is legal.
 fn none_are_legal(alloc: Global, design: &Design) -> Result<bool, Fail> {
     let grid = Grid::new(2, 2, 2)?;
     let draft = Draft::new(alloc, 0, &grid)?;
@@ -239,7 +239,7 @@ fn no_blocks_are_not_legal(rt: HostRuntime) -> Result<(), Fail> {
     Ok(())
 }
 
-// The words that are 0 but for these start words.
+// Words that are all 0 except these start words.
 fn start_words(alloc: Global, starts: &[u32]) -> Result<ListWords, AllocError> {
     Ok(ListWords {
         starts: Vec::from_slice(alloc, starts)?,
@@ -256,7 +256,7 @@ fn no_pins(alloc: Global) -> Pins
     }
 }
 
-// The start placement with no block given, where the array holds the design.
+// The start placement without given blocks, if the array holds the design.
 fn started(
     alloc: Global,
     design: &Design,
@@ -279,7 +279,7 @@ fn three_blocks(alloc: Global) -> Result<Design, Fail> {
     Ok(read_net(alloc, text, &arch)?)
 }
 
-// Their sites at the start, on an array of 2 by 2.
+// Their start sites, on an array of 2 by 2.
 fn sites_at_start(
     alloc: Global,
     design: &Design,
@@ -314,7 +314,7 @@ fn blocks_draw_their_start_sites(rt: HostRuntime) -> Result<(), Fail> {
     let alloc = rt.alloc();
     let first = [site(0, 1, 0), site(1, 1, 0), site(2, 2, 0)];
     assert_eq!(rt; three_started(alloc, &[])?, Some(first));
-    // The pad draws the fifth of 8 positions, the logic blocks the third of 4 and then the third of 3.
+    // The pad draws the fifth of 8 positions; the logic blocks draw the third of 4 and then the third of 3.
     let second = [site(3, 2, 0), site(1, 2, 0), site(2, 2, 0)];
     assert_eq!(rt;
         three_started(alloc, &[2_147_483_648, 2_147_483_648, 4_294_967_295])?,

@@ -1,4 +1,4 @@
-//! Block lines, taken one after the other: `name x y sub`, in any order.
+//! Block lines, taken one after another: `name x y sub`, in any order.
 
 ghost use Rattle.std.specs.Prelude.{◌≡◌, Some, None, [], map, IfOk, IfErr, OnOk, OnErr};
 ghost use Rattle.fab_text.specs.Shown.{shown};
@@ -16,7 +16,7 @@ use fab_text::Line;
 use std::alloc::{AllocError, Global};
 use std::marker::Model;
 
-/// What block lines have said so far: of each block of a design the site that a line gave it.
+/// What block lines have said so far: the site that a line gave each block of a design.
 #[derive(Drop)]
 pub struct PlaceLines<'a> {
     design: &'a Design,
@@ -39,7 +39,7 @@ impl<'a> Model for PlaceLines<'a> {
 impl<'a> PlaceLines<'a> {
     ghost use Rattle.fab_net.specs.Netlist.{IsLawful};
 
-    /// No line yet.
+    /// No lines yet.
     pub fn new(
         alloc: Global,
         design: &'a Design,
@@ -56,7 +56,7 @@ impl<'a> PlaceLines<'a> {
         })
     }
 
-    /// Takes one block line, or answers its first fault: it is no such line, its block is unknown or has its site
+    /// Takes one block line, or returns its first fault: its form is wrong, its block is unknown, the block has its site
     /// already, the array has no such site, the site is of another kind, or another block has it. A refused line
     /// changes nothing.
     pub fn take(&mut self, line: &Line) -> Result<(), PlaceFault>
@@ -87,7 +87,7 @@ impl<'a> PlaceLines<'a> {
         Ok(())
     }
 
-    /// The placement, or the first block without a site. `NoMemory` comes only where each block has one.
+    /// The placement, or the first block without a site. `NoMemory` is returned only if each block has a site.
     pub fn finish(self) -> Result<Placement, PlaceFault>
         ensures ok { OnOk result (end_fault self.entry ≡ None) }
         ensures grid { IfOk result (λ p. p.grid ≡ self.entry.grid) }
@@ -104,7 +104,7 @@ impl<'a> PlaceLines<'a> {
     }
 }
 
-/// Whether a site of a kind takes a block.
+/// Whether a site of this kind takes a block of this kind.
 fn takes(site: SiteKind, block: BlockKind) -> bool
     ensures { result ≡ same_kind site (wanted block) }
 {

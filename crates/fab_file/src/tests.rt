@@ -8,7 +8,7 @@ use std::io;
 use std::io::Write;
 use std::test::*;
 
-// The size, and None where it is refused for its header; anything else fails the test.
+// The size, or None if the header is refused; any other fault fails the test.
 fn size(alloc: Global, text: &[u8]) -> Result<Option<(u16, u16)>, Fail> {
     match place_size(alloc, text) {
         Ok(sides) => Ok(Some(sides)),
@@ -85,7 +85,7 @@ fn design(alloc: Global) -> Result<Design, Fail> {
     Ok(read_net(alloc, NET, &arch)?)
 }
 
-// What a text is read to, on one logic site.
+// The result of reading a text, on one logic site.
 fn read(alloc: Global, text: &[u8]) -> Result<Result<Placement, PlaceFault>, Fail> {
     let grid = Grid::new(1, 1, 1)?;
     let design = design(alloc)?;
@@ -197,7 +197,7 @@ fn take_next(lines: &mut Lines, placed: &mut PlaceLines) -> Result<Option<PlaceF
     }
 }
 
-// What four lines and their end are told.
+// The results of taking four lines, and of the end.
 fn told(
     alloc: Global,
     design: &Design,
@@ -234,7 +234,7 @@ fn a_refused_line_changes_nothing(rt: HostRuntime) -> Result<(), Fail> {
     Ok(())
 }
 
-// Where each of three blocks is fixed, and where each is begun.
+// The sites where three blocks are fixed, and those where they are begun.
 fn three_pins(pins: &Pins) -> [Option<Site>; 6] {
     [
         pins.fixed.site_of(BlockId(0)),
@@ -246,7 +246,7 @@ fn three_pins(pins: &Pins) -> [Option<Site>; 6] {
     ]
 }
 
-// What a location text is read to, on one logic site.
+// The result of reading a location text, on one logic site.
 fn located(alloc: Global, text: &[u8]) -> Result<Result<[Option<Site>; 6], PlaceFault>, Fail> {
     let grid = Grid::new(1, 1, 1)?;
     let design = design(alloc)?;
@@ -311,7 +311,7 @@ fn the_first_fault_of_a_location_text_is_told(rt: HostRuntime) -> Result<(), Fai
     Ok(())
 }
 
-// A writer that takes so many bytes, and then fails.
+// A writer that takes `room` bytes, and then fails.
 #[derive(Drop)]
 struct Narrow {
     taken: Vec<u8>,
@@ -334,7 +334,7 @@ impl Write for Narrow {
     }
 }
 
-// What a write answered, how often its writer failed, and what went out.
+// What a write returned, how often its writer failed, and what was written.
 #[derive(Drop)]
 struct Outcome {
     answer: Result<(), PlaceFault>,
@@ -342,7 +342,7 @@ struct Outcome {
     text: Vec<u8>,
 }
 
-// Writes the placement that lines give, on one logic site, where the writer takes so many bytes.
+// Writes the placement that lines give, on one logic site, to a writer with room for a number of bytes.
 fn write_of(
     alloc: Global,
     design: &Design,
@@ -458,7 +458,7 @@ fn two_sites(placement: &Placement) -> Option<[Site; 2]> {
     }
 }
 
-// Where two blocks start on an array of 2 by 2 with this location text.
+// The start sites of two blocks on an array of 2 by 2 with this location text.
 fn started_of(
     alloc: Global,
     design: &Design,
@@ -475,7 +475,7 @@ fn started_of(
     }
 }
 
-// The same where all start words are 0.
+// The same with all start words 0.
 fn started(alloc: Global, text: &[u8]) -> Result<Option<[Site; 2]>, Fail> {
     let words = ListWords {
         starts: Vec::new(alloc),

@@ -165,7 +165,7 @@ fn a_writer_keeps_what_fits(rt: HostRuntime) -> Result<(), Fail> {
     Ok(())
 }
 
-// The count is told by the writes alone: to ask is none.
+// The count is that of the writes alone: asking for it is no write.
 #[test]
 fn a_writer_that_cannot_tell_is_ready(rt: HostRuntime) -> Result<(), Fail> {
     let mut out = Counted::new(Narrow {

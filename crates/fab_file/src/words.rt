@@ -7,7 +7,7 @@ ghost use Rattle.fab_file.specs.Place.{word_at, is_word, small, small_number, si
 use fab_arch::Site;
 use fab_text::{Line, decimal};
 
-/// The word at a place of a line, or an empty one.
+/// Word `i` of a line, or an empty one if there is none.
 pub fn word_at<'a>(line: &Line<'a>, i: usize) -> &'a [u8]
     ensures { result.now ≡ word_at (shown line.now) i }
 {
@@ -17,7 +17,7 @@ pub fn word_at<'a>(line: &Line<'a>, i: usize) -> &'a [u8]
     }
 }
 
-/// Whether the word at a place of a line is this one.
+/// Whether word `i` of a line is this one.
 pub fn is_word(line: &Line, i: usize, name: &[u8]) -> bool
     ensures { result ≡ is_word (shown line.now) i name.now }
 {

@@ -1,4 +1,4 @@
-//! Placements as texts: written in one way, whoever made them.
+//! Placements as texts, always written in the same form.
 
 ghost use Rattle.std.specs.Prelude.{◌≡◌, ◌≢◌, ◌↔◌, ◌<◌, ◌++◌, [], not, length, codes, false, Err, IfErr, IfOk, OnOk, slice_index_or};
 ghost use Rattle.std.specs.List.{flat_map, list_any};
@@ -20,7 +20,7 @@ use fab_site::Placement;
 use fab_text::{Sink, WriteFault, push_number, write_whole};
 use std::alloc::{AllocError, Global};
 
-/// The names of the netlist's and the architecture's files that a header shows.
+/// The names of the netlist file and the architecture file that a header shows.
 #[derive(Clone, Copy, Debug, PartialEq, Eq)]
 pub struct Labels<'a> {
     pub net: &'a [u8],
@@ -63,14 +63,14 @@ fn is_label(label: &[u8]) -> bool
     (!label.is_empty() && !has_mark(label)) && !ends_with_backslash(label)
 }
 
-/// Whether both names can stand in a header: each is one word without a `#`, whose last byte is no backslash.
+/// Whether both names can be part of a header: each is one word without a `#` whose last byte is no backslash.
 pub fn are_labels(labels: &Labels) -> bool
     ensures { result ≡ are_labels labels.now.net.now labels.now.arch.now }
 {
     is_label(labels.net) && is_label(labels.arch)
 }
 
-/// Puts the first line of the header at the end.
+/// Appends the first line of the header.
 fn push_files(text: &mut Vec<u8>, labels: &Labels) -> Result<(), AllocError>
     ensures { OnOk result (text.new.items ≡ text.old.items ++ ended (files_text labels.now.net.now labels.now.arch.now)) }
 {
@@ -82,7 +82,7 @@ fn push_files(text: &mut Vec<u8>, labels: &Labels) -> Result<(), AllocError>
     Ok(())
 }
 
-/// Puts the second line of the header at the end.
+/// Appends the second line of the header.
 fn push_size(text: &mut Vec<u8>, grid: &Grid) -> Result<(), AllocError>
     ensures text { OnOk result (text.new.items ≡ text.old.items ++ ended (size_text grid.now)) }
     ensures limits { OnOk result (AreLimits grid.now.nx grid.now.ny grid.now.io_rat) }
@@ -96,7 +96,7 @@ fn push_size(text: &mut Vec<u8>, grid: &Grid) -> Result<(), AllocError>
     Ok(())
 }
 
-/// Puts a tab and a number at the end.
+/// Appends a tab and a number.
 fn push_column(text: &mut Vec<u8>, n: u16) -> Result<(), AllocError>
     ensures { OnOk result (text.new.items ≡ text.old.items ++ column n) }
 {
@@ -105,7 +105,7 @@ fn push_column(text: &mut Vec<u8>, n: u16) -> Result<(), AllocError>
     Ok(())
 }
 
-/// Puts the line of a block at the end.
+/// Appends the line of a block.
 fn push_block(text: &mut Vec<u8>, name: &[u8], site: Site, number: u64) -> Result<(), AllocError>
     ensures { OnOk result (text.new.items ≡ text.old.items ++ ended (block_text name.now site number)) }
 {
@@ -119,7 +119,7 @@ fn push_block(text: &mut Vec<u8>, name: &[u8], site: Site, number: u64) -> Resul
     Ok(())
 }
 
-/// The header of a text, with the comments behind it.
+/// The header of a text, and the comments after it.
 fn head_of(alloc: Global, labels: &Labels, grid: &Grid) -> Result<Vec<u8>, AllocError>
     ensures text { IfOk result (λ v. v.items ≡ flat_map ended (head_lines labels.now.net.now labels.now.arch.now grid.now)) }
     ensures limits { OnOk result (AreLimits grid.now.nx grid.now.ny grid.now.io_rat) }
@@ -133,7 +133,7 @@ fn head_of(alloc: Global, labels: &Labels, grid: &Grid) -> Result<Vec<u8>, Alloc
     Ok(text)
 }
 
-/// Puts the lines of all blocks at the end.
+/// Appends the lines of all blocks.
 fn push_blocks(text: &mut Vec<u8>, design: &Design, placement: &Placement) -> Result<(), AllocError>
     requires { length placement.now.sites ≡ length design.now.kinds }
     ensures text { OnOk result (text.new.items ≡ text.old.items ++ flat_map ended (block_lines design.now placement.now.sites)) }
@@ -164,9 +164,9 @@ fn text_of(
     Ok(text)
 }
 
-/// Writes the text of a placement of a design on an array: its header shows the labels. Blocks stand in order of
-/// number. The placement is legal by condition. A bad label, and want of memory, write nothing; where the writer fails,
-/// a beginning of the text has gone out.
+/// Writes the text of a placement of a design on an array. Its header shows the labels, and its blocks are in order of
+/// number. The placement must be legal. A bad label writes nothing, and neither does running out of memory. If the writer
+/// fails, a beginning of the text has been written.
 pub fn write_place<W: Sink>(
     alloc: Global,
     out: &mut W,
@@ -180,13 +180,13 @@ pub fn write_place<W: Sink>(
     ensures whole { OnOk result (Appends (W.contents out.old) (W.contents out.new) (place_text labels.now.net.now labels.now.arch.now design.now grid.now placement.now.sites)) }
     // What is written reads back: it stands for the placement.
     ensures back { OnOk result (StandsFor design.now grid.now (lines (place_text labels.now.net.now labels.now.arch.now design.now grid.now placement.now.sites)) placement.now.sites) }
-    // A label is refused where it cannot stand in a header, and there alone.
+    // A label is refused if, and only if, it cannot be part of a header.
     ensures label { (result ≡ Err BadLabel) ↔ (are_labels labels.now.net.now labels.now.arch.now ≡ false) }
     ensures only { IfErr result IsWriteFault }
-    // Another fault than the writer's writes nothing, and a writer that fails has taken a beginning.
+    // A fault other than the writer's writes nothing, and a writer that fails has taken a beginning.
     ensures silent { IfErr result (λ e. e ≢ Write → W.contents out.new ≡ W.contents out.old) }
     ensures cut { IfErr result (λ e. e ≡ Write → IsCut (place_text labels.now.net.now labels.now.arch.now design.now grid.now placement.now.sites) (W.contents out.old) (W.contents out.new)) }
-    // The writer failed only where the answer says so.
+    // The writer has failed only if the result says so.
     ensures sound { OnOk result (W.failed out.new ≡ W.failed out.old) }
     ensures failed { IfErr result (λ e. W.failed out.new ≡ failed_with e (W.failed out.old)) }
 {
@@ -198,8 +198,8 @@ pub fn write_place<W: Sink>(
     Ok(())
 }
 
-/// The law that the text of a legal placement stands for it, so that `read_place` gives it back: whatever the labels
-/// that can stand in a header, of each design.
+/// The law that the text of a legal placement of any design stands for that placement, so that `read_place` gives it
+/// back, for all labels that can be part of a header.
 pub fn written_texts_read_back()
     ensures { ReadBack }
 {}

@@ -62,7 +62,7 @@ pad_fits g from reach n sub n_in below =
     let is_there : P (get_or here n (0, 0)) = All-filter test P (perimeter g) there n (0, 0) n_in in
     and_from (list_any (same_position (get_or here n (0, 0))) (perimeter g)) (nat_lt sub g.io_rat) is_there (lt-ltb sub g.io_rat below)
 
--- a pad stands just outside the logic sites
+-- a pad is just outside the logic sites
 pub pad_bounds : (g : GridShape) (s : Site) → is_pad_site g s ≡ true → (s.x ≤ g.nx + 1) × (s.y ≤ g.ny + 1)
 pad_bounds g s h =
     let parts = and_parts (list_any (is_position s) (perimeter g)) (nat_lt s.sub g.io_rat) h in

@@ -1,30 +1,30 @@
--- Whether a change of cost is accepted (after Betz, Rose and Marquardt, who accept with the chance exp(-change / t); the
--- printed tables stand in place of the exponential, our own).
+-- Whether a change of cost is accepted (after Betz, Rose and Marquardt, who accept with the chance exp(-change / t); the tables
+-- that replace the exponential are our own).
 use Rattle.std.specs.Prelude.{ℕ, ℤ, pos, negsuc, ◌≡◌, ◌*◌, ◌/◌, ◌%◌, ◌^◌, Bool, true, false, nat_lt, ◌&&◌, ◌||◌, int_le, nat_abs, List, [], ◌∷◌, slice_index, refl}
 
--- the chance of a change of so many whole temperatures, in millionths: 0 beyond the table
+-- entry n: the chance of accepting a change of n temperatures, in millionths; 0 beyond the table
 abbrev pub whole_chances : List ℕ
 whole_chances =
     1000000 ∷ 367879 ∷ 135335 ∷ 49787 ∷ 18316 ∷ 6738 ∷ 2479 ∷ 912
     ∷ 335 ∷ 123 ∷ 45 ∷ 17 ∷ 6 ∷ 2 ∷ 1
     ∷ []
 
--- the factor of so many sixteenths of a temperature more, in millionths
+-- entry n: the factor for n more sixteenths of a temperature, in millionths
 abbrev pub sixteenth_chances : List ℕ
 sixteenth_chances =
     1000000 ∷ 939413 ∷ 882497 ∷ 829029 ∷ 778801 ∷ 731616 ∷ 687289 ∷ 645649
     ∷ 606531 ∷ 569783 ∷ 535261 ∷ 502832 ∷ 472367 ∷ 443747 ∷ 416862 ∷ 391606
     ∷ []
 
--- the chance of a change of so many sixteenths of a temperature, in millionths
+-- the chance of accepting a change of z sixteenths of a temperature, in millionths
 unfoldable pub chance_of : ℕ → ℕ
 chance_of z = slice_index whole_chances (z / 16) * slice_index sixteenth_chances (z % 16) / 1000000
 
--- a word of 32 bits as a fraction of one, in millionths
+-- a 32-bit word as a fraction of 2^32, in millionths, rounded down
 abbrev pub millionths : ℕ → ℕ
 millionths w = w * 1000000 / 2 ^ 32
 
--- a change of cost at a temperature, by a word: one that makes nothing worse is accepted, and at temperature 0 no other
+-- whether a word accepts a change of cost at a temperature: always if it makes nothing worse, and at temperature 0 only then
 unfoldable pub is_accepted : ℤ → ℕ → ℕ → Bool
 is_accepted change t w =
     int_le change (pos 0) || (nat_lt 0 t && nat_lt (millionths w) (chance_of (16 * nat_abs change / t)))
@@ -37,7 +37,7 @@ pub one_temperature : chance_of 16 ≡ 367879
 unfolding chance_of
 one_temperature = refl
 
--- the chances do not fall all the way: rounding leaves a gap of zeros
+-- the chances do not fall monotonically: rounding leaves a gap of zeros
 pub fourteen_temperatures : chance_of 224 ≡ 1
 unfolding chance_of
 fourteen_temperatures = refl
@@ -78,7 +78,7 @@ pub hardly_worse_at_the_highest_temperature : is_accepted (pos 1) 1073741824 429
 unfolding is_accepted chance_of
 hardly_worse_at_the_highest_temperature = refl
 
--- one temperature and a half are 24 sixteenths: what is multiplied by 16 is the change, and not its whole temperatures
+-- one and a half temperatures are 24 sixteenths: the change itself is multiplied by 16, not its whole temperatures
 pub one_temperature_and_a_half : chance_of 24 ≡ 223130
 unfolding chance_of
 one_temperature_and_a_half = refl

@@ -1,4 +1,4 @@
--- The block that is chosen, and the one that holds a target, if there is one (our own).
+-- The chosen block, and the block on a target, if any (our own).
 use Rattle.std.specs.Prelude.{ℕ, Bool, false, List, Option, Some, None}
 use Rattle.fab_arch.specs.declared.array.Site.{Site}
 use Rattle.fab_net.specs.declared.pieces.BlockId.{BlockId}
@@ -8,7 +8,7 @@ abbrev pub number_of : Option BlockId → Option ℕ
 number_of None = None
 number_of (Some b) = Some b.0
 
--- the block, if there is one, is fixed
+-- there is a block, and it is fixed
 abbrev pub holder_is_fixed : List (Option Site) → Option BlockId → Bool
 holder_is_fixed fixed None = false
 holder_is_fixed fixed (Some b) = is_fixed fixed b.0

@@ -1,6 +1,5 @@
--- What a move comes to on a placement, what its judgement rests on, and what an accepted swap touches (that a judgement
--- still holds where no accepted swap touched what it rests on is after Kravitz and Rutenbar; which marks there are, our
--- own).
+-- The judgement of a move on a placement, what it rests on, and what an accepted swap touches (that a judgement still holds if no
+-- accepted swap touched what it rests on is after Kravitz and Rutenbar; the choice of marks is our own).
 use Rattle.std.specs.Prelude.{ℕ, ℤ, pos, ◌≡◌, Bool, true, false, if◌then◌else◌, ◌==◌, List, [], ◌∷◌, ◌++◌, map, Option, Some, None, slice_index, codes, refl}
 use Rattle.std.specs.List.{list_any}
 use Rattle.fab_arch.specs.declared.array.Site.{Site}
@@ -20,8 +19,8 @@ use Rattle.fab_move.specs.declared.proposals.Proposal.TheVariants.{Nothing, Void
 use Rattle.fab_move.specs.Propose.{proposal}
 use Rattle.fab_move.specs.Accept.{is_accepted}
 
--- what moves are made of: a design on an array, its fixed blocks by number, and of each move four words, which the type
--- of what gives them keeps below 2^32
+-- what moves are made from: a design on an array, its fixed blocks by number, and four words for each move, which the type of
+-- their source keeps below 2^32
 pub record Problem : Type 0 where
   pub design : Netlist
   pub grid : GridShape
@@ -44,7 +43,7 @@ has_mark m xs = list_any (same_mark m) xs
 abbrev pub meet : List Mark → List Mark → Bool
 meet xs ys = list_any (λ m. has_mark m xs) ys
 
--- a block, and the nets of it that are not global
+-- a block, and its nets that are not global
 abbrev pub block_marks : Netlist → BlockId → List Mark
 block_marks d b = Block b ∷ map (λ n. Net (record { 0 = n })) (nets_of d b.0)
 
@@ -52,35 +51,35 @@ abbrev pub other_marks : Netlist → Option BlockId → List Mark
 other_marks d None = []
 other_marks d (Some b) = block_marks d b
 
--- what a proposal rests on: its target and its block, and for a swap also the block on the target, and the nets of both;
--- as a list in this order, though only the set counts
+-- what a proposal rests on: its target and its block; for a swap also the block on the target, and the nets of both blocks. The
+-- order of the list does not matter
 abbrev pub footprint : Netlist → Proposal → List Mark
 footprint d Nothing = []
 footprint d (Void b to) = Place to ∷ Block b ∷ []
 footprint d (Move s) = Place s.to ∷ (block_marks d s.block ++ other_marks d s.other)
 
--- what a swap touches once it is accepted: both its sites, its blocks, and their nets
+-- what an accepted swap touches: both its sites, its blocks, and their nets
 abbrev pub touched : Netlist → Swap → List Mark
 touched d s = Place s.from ∷ Place s.to ∷ (block_marks d s.block ++ other_marks d s.other)
 
--- what a move comes to: its swap, if any, the change of cost of that, whether it is accepted, and what all this rests on
+-- the judgement of a move: its swap, if any, the change of cost, whether it is accepted, and what all this rests on
 pub record Judged : Type 0 where
   pub swap : Option Swap
   pub change : ℤ
   pub accepted : Bool
   pub footprint : List Mark
 
--- what a verdict says of its move, beside the move's number
+-- what a verdict says of its move, apart from the move's number
 abbrev pub says : Verdict → Judged
 says v = record { swap = v.swap; change = v.delta; accepted = v.accepted; footprint = v.footprint.items }
 
--- what is decided of a move, without what it rests on
+-- the decision is that of the judgement, whose footprint it leaves out
 pub record IsDecision (d : Decision) (j : Judged) : Type 0 where
   pub swap : d.swap ≡ j.swap
   pub change : d.delta ≡ j.change
   pub accepted : d.accepted ≡ j.accepted
 
--- a proposal on these sites at a temperature, by a word
+-- the judgement of a proposal on these sites, at temperature t and with word w for the acceptance
 abbrev pub judged_as : Problem → List Site → ℕ → ℕ → Proposal → Judged
 judged_as p sites t w Nothing = record { swap = None; change = pos 0; accepted = false; footprint = [] }
 judged_as p sites t w (Void b to) = record { swap = None; change = pos 0; accepted = false; footprint = footprint p.design (Void b to) }
@@ -92,7 +91,7 @@ judged_as p sites t w (Move s) =
       footprint = footprint p.design (Move s);
     }
 
--- move k on these sites, at a temperature and with a range
+-- the judgement of move k on these sites, at a temperature and with a range
 unfoldable pub judged : Problem → List Site → ℕ → ℕ → ℕ → Judged
 judged p sites k t range =
     judged_as p sites t (slice_index (p.words k) 3) (proposal p.design p.grid p.fixed sites range (p.words k))
@@ -101,7 +100,7 @@ judged p sites k t range =
 abbrev pub moved : List Site → Judged → List Site
 moved sites j = if j.accepted then swapped_by sites j.swap else sites
 
--- a block on net 1 alone, and another on nets 0 and 1
+-- a block on net 1 only, and another on nets 0 and 1
 abbrev two_blocks : Netlist
 two_blocks = record {
   kinds = Logic ∷ Logic ∷ [];
@@ -119,13 +118,13 @@ the_footprint_of_a_swap = refl
 pub a_void_move_has_a_footprint : footprint two_blocks (Void (record { 0 = 0 }) (site 1 1 0)) ≡ Place (site 1 1 0) ∷ Block (record { 0 = 0 }) ∷ []
 a_void_move_has_a_footprint = refl
 
--- the marks of two blocks meet in a net alone
+-- the marks of two blocks meet only in a net
 pub marks_meet_in_a_net : meet (block_marks two_blocks (record { 0 = 0 })) (block_marks two_blocks (record { 0 = 1 })) ≡ true
 marks_meet_in_a_net = refl
 
 pub marks_of_other_sites_do_not_meet : meet (Place (site 1 1 0) ∷ []) (Place (site 2 1 0) ∷ Block (record { 0 = 0 }) ∷ []) ≡ false
 marks_of_other_sites_do_not_meet = refl
 
--- an accepted swap touches the site that its block left too
+-- an accepted swap also touches the site that its block left
 pub a_swap_touches_both_sites : touched two_blocks to_the_other ≡ Place (site 1 1 0) ∷ footprint two_blocks (Move to_the_other)
 a_swap_touches_both_sites = refl

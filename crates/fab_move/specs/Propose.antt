@@ -20,39 +20,39 @@ is_fixed fixed b = is_some (fixed_at fixed b)
 abbrev pub movable : Netlist → List (Option Site) → List ℕ
 movable d fixed = free_below fixed (length d.kinds)
 
--- a coordinate of 1 to n, at most `reach` from `here`, by a word: so a window is cut off at the edge of the array
+-- the coordinate from 1 to n that a word picks among those at most `reach` from `here`: the window is cut off at the array's edge
 abbrev pub near : ℕ → ℕ → ℕ → ℕ → ℕ
 near here reach n w =
     let low = max 1 (here - reach) in
     low + pick_of w (min n (here + reach) - low + 1)
 
--- where a logic block goes
+-- the target of a logic block
 abbrev pub logic_target : GridShape → Site → ℕ → List ℕ → Site
 logic_target g from reach ws =
     site (near from.x reach g.nx (slice_index ws 1)) (near from.y reach g.ny (slice_index ws 2)) 0
 
--- two coordinates are at most so far apart
+-- two coordinates are at most `reach` apart
 abbrev pub within : ℕ → ℕ → ℕ → Bool
 within reach a b = nat_le a (b + reach) && nat_le b (a + reach)
 
--- the positions round the array near a site, in perimeter order, its own included
+-- the pad positions near a site, in perimeter order, including its own
 abbrev pub near_positions : GridShape → Site → ℕ → List (ℕ × ℕ)
 near_positions g from reach =
     filter (λ p. within reach from.x p.0 && within reach from.y p.1) (perimeter g)
 
--- where a pad goes
+-- the target of a pad
 abbrev pub pad_target : GridShape → Site → ℕ → List ℕ → Site
 pad_target g from reach ws =
     let positions = near_positions g from reach in
     let p = slice_index_or positions (pick_of (slice_index ws 1) (length positions)) (0, 0) in
     site p.0 p.1 (pick_of (slice_index ws 2) g.io_rat)
 
--- where a block goes that stands at `from`; the range is in thousandths
+-- the target of a block that is at `from`; the range is in thousandths
 unfoldable pub target : Netlist → GridShape → ℕ → Site → ℕ → List ℕ → Site
 target d g b from range ws =
     if is_logic_at d b then logic_target g from (range / 1000) ws else pad_target g from (range / 1000) ws
 
--- to a site that this block holds, if any
+-- the proposal for a target with this holder, if any
 abbrev pub propose_held : List (Option Site) → BlockId → Site → Site → Option BlockId → Proposal
 propose_held fixed b from to None = Move (record { block = b; from = from; to = to; other = None })
 propose_held fixed b from to (Some holder) =
@@ -66,8 +66,8 @@ propose_for d g fixed sites range ws None = Nothing
 propose_for d g fixed sites range ws (Some b) =
     propose_to fixed sites (record { 0 = b }) (site_of sites b) (target d g b (site_of sites b) range ws)
 
--- what four words propose: nothing where no block may move; nothing to do where the target is the block's own site or
--- is held by a fixed block; else a swap
+-- what four words propose: nothing if no block may move; a void move if the target is the block's own site or is held by a fixed
+-- block; otherwise a swap
 unfoldable pub proposal : Netlist → GridShape → List (Option Site) → List Site → ℕ → List ℕ → Proposal
 proposal d g fixed sites range ws =
     propose_for d g fixed sites range ws (slice_get (movable d fixed) (pick_of (slice_index ws 0) (length (movable d fixed))))
@@ -112,12 +112,12 @@ pub all_blocks_fixed : proposal clock_and_two (shape 2 2 1) (Some (site 0 1 0) �
 unfolding proposal target
 all_blocks_fixed = refl
 
--- the last word picks the last position of the window, behind the corner
+-- the greatest word picks the last position of the window, round the corner
 pub a_pad_goes_round_the_corner : proposal clock_and_two (shape 2 2 1) [] three_sites 1000 (0 ∷ 4294967295 ∷ 0 ∷ 0 ∷ []) ≡ Move (record { block = record { 0 = 0 }; from = site 0 1 0; to = site 1 0 0; other = None })
 unfolding proposal target
 a_pad_goes_round_the_corner = refl
 
--- the block that is fixed is left out: the second word picks among the two others
+-- the fixed block is left out: the first word picks among the two others
 pub a_fixed_block_is_not_chosen : proposal clock_and_two (shape 2 2 1) (Some (site 0 1 0) ∷ []) three_sites 2000 (0 ∷ half ∷ 0 ∷ 0 ∷ []) ≡ Move (record { block = record { 0 = 1 }; from = site 1 1 0; to = site 2 1 0; other = None })
 unfolding proposal target
 a_fixed_block_is_not_chosen = refl

@@ -1,4 +1,4 @@
--- The positions near a pad's: on each side of the array one run of them (our own).
+-- The positions near a pad: one run on each side of the array (our own).
 use Rattle.std.specs.Prelude.{ℕ, ◌≡◌, ◌+◌, List, [], ◌∷◌, ◌++◌, map, reverse, refl}
 use Rattle.std.specs.List.{range_with_len}
 use Rattle.fab_move.specs.declared.runs.Run.{Run}

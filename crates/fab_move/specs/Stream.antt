@@ -1,5 +1,4 @@
--- The random words of a seed: two streams of the ChaCha cipher with eight rounds (which words a move and a start have, our
--- own).
+-- The random words of a seed: two streams of the ChaCha cipher with eight rounds (which words a move and a start use is our own).
 use Rattle.std.specs.Prelude.{ℕ, ◌+◌, ◌*◌, List, [], ◌∷◌, ◌++◌, replicate}
 use Rattle.std.specs.Int.{w64, to_le_bytes}
 use Rattle.rand_chacha.specs.ChaCha.{word_at, key_of}
@@ -8,7 +7,7 @@ use Rattle.rand_chacha.specs.ChaCha.{word_at, key_of}
 abbrev pub cipher_seed : ℕ → List ℕ
 cipher_seed seed = to_le_bytes w64 seed ++ replicate 24 0
 
--- the word at a place of a stream; the cipher makes its rounds two at a time
+-- the word at a place of a stream; 4 is the number of double rounds
 abbrev pub stream_word : ℕ → ℕ → ℕ → ℕ
 stream_word seed stream place = word_at 4 (key_of (cipher_seed seed)) stream place
 

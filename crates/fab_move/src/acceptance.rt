@@ -3,20 +3,20 @@
 ghost use Rattle.std.specs.Prelude.{◌≡◌, ◌*◌, ◌/◌, ◌<◌};
 ghost use Rattle.fab_move.specs.Accept.{chance_of, is_accepted, millionths};
 
-/// The chance of a change of so many whole temperatures, in millionths; beyond it there is none.
+/// Entry n is the chance of accepting a change of n temperatures, in millionths. Beyond the table the chance is 0.
 const WHOLE_CHANCES: [u32; 15] = [
     1_000_000, 367_879, 135_335, 49_787, 18_316, 6_738, 2_479, 912, 335, 123, 45, 17, 6, 2, 1,
 ];
 
-/// The factor of so many sixteenths of a temperature more, in millionths.
+/// Entry n is the factor for n more sixteenths of a temperature, in millionths.
 const SIXTEENTH_CHANCES: [u32; 16] = [
     1_000_000, 939_413, 882_497, 829_029, 778_801, 731_616, 687_289, 645_649, 606_531, 569_783,
     535_261, 502_832, 472_367, 443_747, 416_862, 391_606,
 ];
 
 #[tactic(auto, unfolding(crate::specs::Accept::is_accepted))]
-/// Whether a change of cost is accepted at a temperature `t`, both in ten-thousandths, by the word `w`. What makes
-/// nothing worse is; at temperature 0 nothing else is.
+/// Whether the word `w` accepts a change of cost at temperature `t`, both in ten-thousandths. A change that makes nothing worse is
+/// always accepted. At temperature 0 no other change is.
 pub fn accepts(delta: i64, t: u64, w: u32) -> bool
     ensures { result ≡ is_accepted delta t w }
 {
@@ -29,7 +29,7 @@ pub fn accepts(delta: i64, t: u64, w: u32) -> bool
     }
 }
 
-/// A word as a fraction of one, in millionths.
+/// A word as a fraction of 2^32, in millionths, rounded down.
 fn fraction(w: u32) -> u64
     ensures { result ≡ millionths w }
 {
@@ -49,7 +49,7 @@ fn sixteenths(delta: u64, t: u64) -> u128
 }
 
 #[tactic(auto, unfolding(crate::specs::Accept::chance_of))]
-/// The chance of a change of so many sixteenths of a temperature, in millionths.
+/// The chance of accepting a change of `z` sixteenths of a temperature, in millionths.
 fn chance(z: u128) -> u64
     ensures { result ≡ chance_of z }
 {

@@ -81,7 +81,7 @@ fn cost_of(
     Ok(Some(Boxes::new(alloc, design, grid, &placement)?.cost()))
 }
 
-/// The same of texts, on an array of `nx` by `ny`.
+/// The same from texts, on an array of `nx` by `ny`.
 fn cost_on(
     alloc: Global,
     arch: &[u8],
@@ -177,7 +177,7 @@ fn a_net_of_500_terminals(rt: HostRuntime) -> Result<(), Fail> {
     Ok(())
 }
 
-// Where a block stands, if there is one of this number.
+// The site of a block; `None` if there is no block with this number.
 fn site_of_block(placement: &Placement, block: BlockId) -> Option<Site>
     ensures { IfSome result (λ s. slice_get placement.now.sites block.0 ≡ Some s) }
 {
@@ -188,7 +188,7 @@ fn site_of_block(placement: &Placement, block: BlockId) -> Option<Site>
     }
 }
 
-// The swap of a block to another site of the kind where it stands.
+// The swap of a block to another site of the same kind as its own; `None` if `to` is not such a site.
 fn swap_to(placement: &Placement, grid: &Grid, block: BlockId, to: Site) -> Option<Swap>
     ensures { IfSome result (λ s. IsSwapOf grid.now placement.now.sites s) }
 {
@@ -206,7 +206,7 @@ fn swap_to(placement: &Placement, grid: &Grid, block: BlockId, to: Site) -> Opti
     })
 }
 
-// Makes the swap: what it changes, and the cost after it.
+// Makes the swap. Returns the change of cost, and the cost after it.
 fn made<W: WireCost>(
     wire: &mut W,
     design: &Design,
@@ -224,7 +224,7 @@ fn made<W: WireCost>(
     (delta, wire.cost())
 }
 
-// The edge counts of the first net, xmin, xmax, ymin and ymax, where there is one that is not global.
+// The edge counts of the first net (xmin, xmax, ymin, ymax); `None` if there is no net.
 fn first_counts(design: &Design, edges: &EdgeBoxes) -> Option<[u32; 4]>
     requires { (g : GridShape) × (sites : List ArraySite) × CountedStandsFor edges.now design.now g sites }
 {
@@ -234,7 +234,7 @@ fn first_counts(design: &Design, edges: &EdgeBoxes) -> Option<[u32; 4]>
     Some(edges.edge_counts(NetId(0)))
 }
 
-// A cost with the edge counts of the first net, a swap and what it changes.
+// The cost and the edge counts of the first net before and after a swap, the change of cost, and the cost of an unchanged copy.
 #[derive(Clone, Copy, PartialEq, Eq, Debug)]
 struct Row {
     cost: u64,
@@ -245,7 +245,7 @@ struct Row {
     cost_of_the_copy: u64,
 }
 
-// What the swap of a block to a site makes of edge counts, and of a copy that is left alone.
+// The row of a swap that is made on `edges`, and not on a copy.
 fn swapped_row(
     design: &Design,
     grid: &Grid,
@@ -270,7 +270,7 @@ fn swapped_row(
     })
 }
 
-// The row of these blocks, or `None` where there is no such placement or swap.
+// The row of a swap from these sites; `None` if there is no such placement or swap.
 fn row_on(
     alloc: Global,
     design: &Design,
@@ -290,7 +290,7 @@ fn row_on(
     }
 }
 
-// The same of texts, on an array of `side` by `side`.
+// The same from texts, on an array of `side` by `side`.
 fn row_of(
     alloc: Global,
     arch: &[u8],
@@ -350,7 +350,7 @@ fn a_box_shrinks_where_its_last_terminal_leaves(rt: HostRuntime) -> Result<(), F
     Ok(())
 }
 
-// Makes the swap with both kinds: whether both agree with the whole sums before and after it.
+// Makes the swap with both kinds of cost. Returns whether both agree with the whole sums before and after it.
 fn agree(
     alloc: Global,
     boxes: &mut Boxes,
@@ -390,7 +390,7 @@ fn drawn(state: u64, count: u16) -> u16
     ((state >> 33) % u64::from(count)) as u16
 }
 
-// Makes so many swaps of blocks and sites that are drawn: whether both kinds agree with the whole sums at each.
+// Makes `wanted` swaps of randomly drawn blocks and sites. Returns whether both kinds of cost agree with the whole sums at each.
 fn agree_at_each(
     alloc: Global,
     boxes: &mut Boxes,
@@ -426,7 +426,7 @@ fn agree_at_each(
     Ok(false)
 }
 
-// The same from these sites, or `None` where they are not legal.
+// The same from these sites; `None` if they are not legal.
 fn both_agree(
     alloc: Global,
     design: &Design,
@@ -452,13 +452,13 @@ fn both_agree(
     .map(Some)
 }
 
-// Nets of both blocks of a swap, of two and three pins of a block, of one terminal, of pads, and a global one.
+// Has nets on both blocks of a swap, nets on two and three pins of a block, nets with one terminal, nets on pads, and a global net.
 const TEN_BLOCKS: &[u8] = b".global clk\n.input ck\npinlist: clk\n.input a\npinlist: m\n\
     .output z\npinlist: n\n.clb b1\npinlist: m clk m n\n.clb b2\npinlist: n n m p\n\
     .clb b3\npinlist: p m open q\n.clb b4\npinlist: q p n r\n.clb b5\npinlist: m m m s\n\
     .clb b6\npinlist: open open open t\n.clb b7\npinlist: r s q open\n";
 
-// Whether both kinds agree over so many swaps, or `None` where the blocks have no legal sites.
+// Whether both kinds of cost agree over `wanted` swaps; `None` if the blocks have no legal sites.
 fn agree_over(alloc: Global, wanted: u32) -> Result<Option<bool>, Fail> {
     let arch = read_arch(
         alloc,
@@ -487,7 +487,7 @@ fn both_kinds_agree_with_whole_sums(rt: HostRuntime) -> Result<(), Fail> {
     Ok(())
 }
 
-// Whether both have the same edge counts of each net.
+// Whether both have the same edge counts for each net.
 fn have_same_counts(design: &Design, one: &EdgeBoxes, other: &EdgeBoxes) -> bool
     requires one { length one.now.boxes ≡ length design.now.terminals }
     requires other { length other.now.boxes ≡ length design.now.terminals }
@@ -503,7 +503,7 @@ fn have_same_counts(design: &Design, one: &EdgeBoxes, other: &EdgeBoxes) -> bool
 }
 
 #[tactic(auto, using(fab_cost::proofs::Sited::block_below))]
-// The cost of a copy before and after it takes over a swap, and whether it then is as the value that made the swap.
+// The cost of a copy before and after it takes over a swap, and whether it then has the cost and counts of the value that made it.
 fn caught_up(
     design: &Design,
     grid: &Grid,
@@ -526,7 +526,7 @@ fn caught_up(
     ))
 }
 
-// The same from these sites, or `None` where they are not legal or there is no such swap.
+// The same from these sites; `None` if they are not legal or there is no such swap.
 fn caught_up_on(
     alloc: Global,
     design: &Design,
@@ -546,7 +546,7 @@ fn caught_up_on(
     }
 }
 
-// A ring of four blocks whose first goes to this site: what `caught_up` says of it.
+// What `caught_up` returns for a ring of four blocks of which the first goes to this site.
 fn ring_caught_up(alloc: Global, to: Site) -> Result<Option<(u64, u64, bool)>, Fail> {
     let arch = read_arch(
         alloc,

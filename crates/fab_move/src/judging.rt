@@ -17,8 +17,8 @@ use fab_site::{Swap, Words};
 use smallvec::SmallVec;
 use std::alloc::{AllocError, Global};
 
-/// Judges a move on a view: what it proposes, what that makes of the cost, whether it is accepted, and what all this
-/// rests on. The placement is legal and the wire cost stands for it by condition.
+/// Judges a move on a view: its swap, the change of cost, whether it is accepted, and the marks that this rests on. By contract the
+/// placement is legal and the wire cost is that of the placement. An error means that memory ran out.
 pub fn judge<C: WireCost, W: Words>(
     alloc: Global,
     view: &View<'_, C, W>,
@@ -42,8 +42,8 @@ pub fn judge<C: WireCost, W: Words>(
     })
 }
 
-/// Decides a move on a view: what [`judge`] says of it, without what that rests on. Takes no memory. The placement is
-/// legal and the wire cost stands for it by condition.
+/// Decides a move on a view: the result of [`judge`] without the footprint. Allocates nothing. By contract the placement is legal and
+/// the wire cost is that of the placement.
 pub fn decide<C: WireCost, W: Words>(view: &View<'_, C, W>, k: u64) -> Decision
     requires legal { IsLegal view.now.design.now view.now.grid.now view.now.fixed.now view.now.placement.now.sites }
     requires stands { C.StandsFor view.now.cost.now view.now.design.now view.now.grid.now view.now.placement.now.sites }
@@ -54,7 +54,7 @@ pub fn decide<C: WireCost, W: Words>(view: &View<'_, C, W>, k: u64) -> Decision
     weighed(view, proposal, word)
 }
 
-/// What a move proposes, and the word that it is accepted by.
+/// What a move proposes, and the word that decides whether it is accepted.
 #[inline(always)]
 fn proposed<C: WireCost, W: Words>(view: &View<'_, C, W>, k: u64) -> (Proposal, u32)
     requires legal { IsLegal view.now.design.now view.now.grid.now view.now.fixed.now view.now.placement.now.sites }
@@ -74,7 +74,7 @@ fn proposed<C: WireCost, W: Words>(view: &View<'_, C, W>, k: u64) -> (Proposal, 
     (proposal, words[3])
 }
 
-/// What a proposal makes of the cost, and whether it is accepted by a word.
+/// The change of cost that a proposal makes, and whether a word accepts it.
 #[inline(always)]
 fn weighed<C: WireCost, W: Words>(view: &View<'_, C, W>, proposal: Proposal, word: u32) -> Decision
     requires stands { C.StandsFor view.now.cost.now view.now.design.now view.now.grid.now view.now.placement.now.sites }
@@ -98,7 +98,7 @@ fn weighed<C: WireCost, W: Words>(view: &View<'_, C, W>, proposal: Proposal, wor
     }
 }
 
-/// What comes of a move that proposes no swap.
+/// The decision for a move that proposes no swap.
 fn without_swap() -> Decision
     ensures { result ≡ record { swap = None; delta = pos 0; accepted = false } }
 {
@@ -109,7 +109,7 @@ fn without_swap() -> Decision
     }
 }
 
-/// What a proposal rests on.
+/// The marks that a proposal rests on.
 fn footprint_of(alloc: Global, design: &Design, proposal: Proposal) -> Result<Footprint, AllocError>
     requires block { (s : Swap) → proposal ≡ proposes s → s.block.0 < length design.now.kinds }
     requires other { (s : Swap) (b : BlockId) → proposal ≡ proposes s → s.other ≡ Some b → b.0 < length design.now.kinds }

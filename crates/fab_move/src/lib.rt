@@ -1,4 +1,4 @@
-//! Moves: their random words, what they propose, and what comes of it.
+//! Moves: their random words, their proposals, and their judgement.
 #![tactic(auto)]
 
 pub mod acceptance;

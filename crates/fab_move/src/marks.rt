@@ -15,12 +15,12 @@ pub enum Mark {
     Net(NetId),
 }
 
-/// What fills an inline place that is not in use.
+/// Fills the inline slots that are not in use.
 impl Default for Mark {
     fn default() -> Mark {
         Mark::Net(NetId(0))
     }
 }
 
-/// The marks that a judgement rests on. Those of swaps of two blocks with a dozen nets each stay inline.
+/// The marks that a judgement rests on. The marks of a swap of two blocks with a dozen nets each still fit inline.
 pub type Footprint = SmallVec<Mark, 28>;

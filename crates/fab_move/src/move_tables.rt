@@ -1,7 +1,7 @@
 //! Judgements of moves, as an independent slow placer makes them.
 
-/// What comes of 200 moves, each on the start placement of seed 5. On each line stand the
-/// swap, the change of cost, whether it is accepted, and the marks.
+/// The judgements of 200 moves, each on the start placement of seed 5. Each line has the swap, the change of cost, whether it is
+/// accepted, and the marks.
 pub(crate) fn wanted_lines() -> &'static str {
     "\
 b10 4.2.0 4.1.0 10000 no: 4.1.0 b10 n7\n\

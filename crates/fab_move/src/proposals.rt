@@ -27,9 +27,8 @@ pub enum Proposal {
     Move(Swap),
 }
 
-/// What four words propose on a legal placement: a block that may move, and a target of its kind at most `range`, in
-/// thousandths, from it in both coordinates. Takes no memory, and looks at no other block than the chosen one and the
-/// holder of the target.
+/// What four words propose on a legal placement: a block that may move, and a target site of its kind at most `range` (in
+/// thousandths) from it in both coordinates. Allocates nothing. Looks only at the chosen block and at the block on the target.
 pub fn propose(
     design: &Design,
     grid: &Grid,
@@ -52,7 +51,7 @@ pub fn propose(
     }
 }
 
-/// The block that a word picks among those that may move, if there is one.
+/// The block that a word picks among those that may move; `None` if no block may move.
 fn chosen(design: &Design, fixed: &Fixed, word: u32) -> Option<BlockId>
     requires { (b : ℕ) (s : Site) → fixed_at fixed.now b ≡ Some s → b < length design.now.kinds }
     ensures { number_of result ≡ slice_get (movable design.now fixed.now) (pick_of word (length (movable design.now fixed.now))) }
@@ -65,7 +64,7 @@ fn chosen(design: &Design, fixed: &Fixed, word: u32) -> Option<BlockId>
     Some(fixed.free_block(blocks, pick(word, free)))
 }
 
-/// A coordinate of 1 to `n`, at most `reach` from one of these, by a word.
+/// The coordinate from 1 to `n` that a word picks among those at most `reach` from `here`.
 fn near(here: u16, reach: u64, n: u16, word: u32) -> u16
     requires low { 1 ≤ here }
     requires high { here ≤ n }
@@ -78,7 +77,7 @@ fn near(here: u16, reach: u64, n: u16, word: u32) -> u16
     (low as u32 + pick(word, (high - low + 1) as u32)) as u16
 }
 
-/// Where a logic block goes.
+/// The target of a logic block.
 fn logic_target(grid: &Grid, from: Site, reach: u64, words: [u32; 4]) -> Site
     requires from { is_logic_site grid.now from ≡ true }
     requires reach { reach < 2 ^ 63 }
@@ -92,7 +91,7 @@ fn logic_target(grid: &Grid, from: Site, reach: u64, words: [u32; 4]) -> Site
     }
 }
 
-/// Where a pad goes.
+/// The target of a pad.
 fn pad_target(grid: &Grid, from: Site, reach: u64, words: [u32; 4]) -> Site
     requires from { is_pad_site grid.now from ≡ true }
     requires reach { reach < 2 ^ 63 }
@@ -111,7 +110,7 @@ fn pad_target(grid: &Grid, from: Site, reach: u64, words: [u32; 4]) -> Site
 }
 
 #[tactic(auto, using(crate::proofs::Targets::target_logic, crate::proofs::Targets::target_pad, crate::proofs::Targets::fits_logic, crate::proofs::Targets::fits_pad))]
-/// Where a block goes that stands at `from`.
+/// The target of a block that is at `from`. The range is in thousandths.
 fn target(
     design: &Design,
     grid: &Grid,
@@ -133,7 +132,7 @@ fn target(
 }
 
 #[tactic(auto, using(crate::proofs::Targets::kind_known))]
-/// Whether a block is a logic block, and no pad.
+/// Whether a block is a logic block and not a pad.
 fn is_logic_block(design: &Design, block: BlockId) -> bool
     requires { block.0 < length design.now.kinds }
     ensures { result ≡ is_logic_at design.now block.0 }
@@ -144,7 +143,7 @@ fn is_logic_block(design: &Design, block: BlockId) -> bool
     }
 }
 
-/// What is proposed for a block and its target.
+/// The proposal for a block and its target.
 fn propose_to(
     fixed: &Fixed,
     placement: &Placement,
@@ -169,7 +168,7 @@ fn propose_to(
     })
 }
 
-/// Whether a block, if there is one, is fixed.
+/// Whether there is a block and it is fixed.
 fn is_fixed(fixed: &Fixed, block: Option<BlockId>) -> bool
     ensures { result ≡ holder_is_fixed fixed.now block }
 {

@@ -2,7 +2,7 @@
 
 ghost use Rattle.std.specs.Prelude.{◌+◌, ◌≤◌};
 
-/// A run of whole numbers.
+/// The `count` whole numbers from `first` on.
 #[derive(Clone, Copy)]
 pub(crate) struct Run {
     pub(crate) first: u16,
@@ -10,7 +10,7 @@ pub(crate) struct Run {
     ghost bound: { first + count ≤ 1001 },
 }
 
-/// The pad positions near one, side by side in perimeter order.
+/// The pad positions near a site: one run for each side, in perimeter order.
 #[derive(Clone, Copy)]
 pub(crate) struct Window {
     pub(crate) nx: u16,

@@ -9,7 +9,7 @@ use rand_core::SeedableRng;
 use rand_core::utils::NextWord;
 use std::marker::Model;
 
-/// The words that a seed gives: the same on every machine.
+/// The random words of a seed. They are the same on every machine.
 #[derive(Drop)]
 pub struct StreamWords {
     seed: u64,
@@ -63,7 +63,7 @@ impl Words for StreamWords {
     }
 }
 
-/// The seed of the cipher: the eight bytes of the number, the lowest first, and zeros.
+/// The seed of the cipher: the eight bytes of `seed`, the lowest first, and then zeros.
 fn cipher_seed_of(seed: u64) -> [u8; 32]
     ensures { result ≡ cipher_seed seed }
 {

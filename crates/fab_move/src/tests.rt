@@ -40,7 +40,7 @@ struct Placed {
 }
 
 impl Drop for Placed {
-    // One call at each exit of a test; a derived `drop` is proved anew there.
+    // This is one call at each exit of a test. A derived `drop` would be proved again at each.
     fn drop(self) {
         let Placed {
             design: _,
@@ -60,7 +60,7 @@ fn no_pins(alloc: Global) -> Pins
     }
 }
 
-// The start placement by these words, with no block given.
+// The start placement by these words, with no block pinned.
 fn started<W: Words>(
     alloc: Global,
     design: &Design,
@@ -71,7 +71,7 @@ fn started<W: Words>(
     Ok(start(alloc, design, grid, &no_pins(alloc), words)?)
 }
 
-// The same of a text, with no block fixed.
+// The same from texts, with no block fixed.
 fn placed_at_start<W: Words>(
     alloc: Global,
     arch: &[u8],
@@ -90,7 +90,7 @@ fn placed_at_start<W: Words>(
     })
 }
 
-// Fixes a block where it stands.
+// Fixes a block at its site.
 fn fix(placed: &mut Placed, block: u32) -> Result<(), Fail> {
     let block = BlockId(block);
     if (block.0 as usize) < placed.placement.blocks() && placed.fixed.site_of(block).is_none() {
@@ -107,7 +107,7 @@ fn fix_each(placed: &mut Placed, blocks: &[u32]) -> Result<(), Fail> {
     Ok(())
 }
 
-// What four words propose.
+// What four words propose; `None` if the placement is not legal.
 fn proposed(placed: &Placed, range: u64, words: [u32; 4]) -> Option<Proposal> {
     let Placed {
         design,
@@ -121,7 +121,7 @@ fn proposed(placed: &Placed, range: u64, words: [u32; 4]) -> Option<Proposal> {
     Some(propose(design, grid, fixed, placement, range, words))
 }
 
-// What comes of a move: no answer where a decision says anything else than the judgement.
+// The verdict on a move. Fails if the placement is not legal, or if `decide` and `judge` differ.
 fn judged<W: Words>(
     alloc: Global,
     placed: &Placed,
@@ -213,7 +213,7 @@ fn two_beside(alloc: Global) -> Result<Placed, Fail> {
     two_drivers(alloc, &[QUARTER, 0])
 }
 
-// The two beside each other, with b2 fixed.
+// The two next to each other, with b2 fixed.
 fn second_fixed(alloc: Global) -> Result<Placed, Fail> {
     let mut placed = two_beside(alloc)?;
     fix(&mut placed, 1)?;
@@ -264,7 +264,7 @@ fn changes_are_accepted_by_the_tables(rt: HostRuntime) {
     }
 }
 
-// Whether a first move by these words, in a range of 2, is told so at each temperature.
+// Whether the line of a first move by these words, in a range of 2, is `wanted` at each temperature.
 fn is_told(
     alloc: Global,
     placed: &Placed,
@@ -331,7 +331,7 @@ fn a_fixed_logic_block_stays(rt: HostRuntime) -> Result<(), Fail> {
     let fixed = second_fixed(alloc)?;
     let held = Proposal::Void(BlockId(0), site(1, 1, 0));
     assert_eq!(rt; proposed(&fixed, 2000, [0; 4]), Some(held));
-    // The only block that may move is taken by any word.
+    // Every word picks the only block that may move.
     assert_eq!(rt; proposed(&fixed, 2000, [MOST, 0, 0, 0]), Some(held));
     let wanted = "b0 2.1.0 1.2.0 0 yes: 1.2.0 b0 n0";
     let is_so = is_told(alloc, &fixed, [0, 0, HALF, 0], &[0], wanted);
@@ -379,7 +379,7 @@ fn words_of_the_published_vectors(rt: HostRuntime) {
     assert_eq!(rt; StreamWords::new(1).move_words(0), first);
 }
 
-// One bit of the stream's number.
+// The published vector with one bit of the stream's number set.
 #[test]
 fn start_words_of_a_published_vector(rt: HostRuntime) {
     let words = StreamWords::new(0);
@@ -405,7 +405,7 @@ fn start_words_of_a_published_vector(rt: HostRuntime) {
     }
 }
 
-// Made by another program, a slow placer in another language.
+// Computed by another program: a slow placer in another language.
 #[test]
 fn words_of_moves(rt: HostRuntime) {
     const FAR: u64 = 1 << 60;
@@ -495,7 +495,7 @@ fn words_of_moves(rt: HostRuntime) {
     }
 }
 
-// Made by the other program too.
+// Computed by the same slow placer.
 #[test]
 fn words_of_starts(rt: HostRuntime) {
     for (seed, i, wanted) in [
@@ -575,7 +575,7 @@ fn line_of(alloc: Global, verdict: &Verdict) -> Result<String, AllocError> {
     Ok(line)
 }
 
-// Eleven blocks on an array of 4 by 3, a pad and two logic blocks of them fixed.
+// Eleven blocks on an array of 4 by 3. One pad and two logic blocks are fixed.
 fn eleven_blocks(alloc: Global, words: &StreamWords) -> Result<Placed, Fail> {
     let arch = b"io_rat 2\ninpin class: 0 left\ninpin class: 0 top\noutpin class: 1 right\n";
     let net =
@@ -585,7 +585,7 @@ fn eleven_blocks(alloc: Global, words: &StreamWords) -> Result<Placed, Fail> {
     Ok(placed)
 }
 
-// The temperature and the range at which the table has a move.
+// The temperature and the range of a move in the table.
 fn setting_of(k: u64) -> (u64, u64) {
     let t = match k / 4 % 4 {
         0 => 0,

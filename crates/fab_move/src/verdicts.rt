@@ -1,12 +1,12 @@
-//! What a judgement looks at, and what comes of it.
+//! What a judgement reads, and what it returns.
 
 use crate::marks::Footprint;
 use fab_arch::Grid;
 use fab_net::Design;
 use fab_site::{Fixed, Placement, Swap};
 
-/// What a judgement looks at: a placement with its wire cost, the words of all moves, and the running stage's
-/// temperature, in ten-thousandths, and range, in thousandths. It is lent, and nothing of it is changed.
+/// What a judgement reads: a placement with its wire cost, the words of all moves, and the temperature `t` (in ten-thousandths) and
+/// the `range` (in thousandths) of the running stage. All of it is borrowed, and nothing is changed.
 #[derive(Drop)]
 pub struct View<'a, C, W> {
     pub design: &'a Design,
@@ -19,28 +19,28 @@ pub struct View<'a, C, W> {
     pub range: u64,
 }
 
-/// What comes of a move.
+/// The judgement of a move.
 #[derive(Drop)]
 pub struct Verdict {
     /// The move's number.
     pub k: u64,
-    /// The swap, if one was proposed that is not void.
+    /// The proposed swap; `None` if the move proposes nothing or is void.
     pub swap: Option<Swap>,
-    /// The change of cost that it makes, in ten-thousandths: 0 without a swap.
+    /// The change of cost that the swap makes, in ten-thousandths; 0 without a swap.
     pub delta: i64,
-    /// Whether it is accepted; without a swap it is not.
+    /// Whether the move is accepted. Without a swap it never is.
     pub accepted: bool,
-    /// What all this rests on.
+    /// The marks that the judgement rests on.
     pub footprint: Footprint,
 }
 
-/// What is decided of a move, without what it rests on.
+/// The judgement of a move without its number and footprint.
 #[derive(Clone, Copy, Debug, PartialEq, Eq)]
 pub struct Decision {
-    /// The swap, if one was proposed that is not void.
+    /// The proposed swap; `None` if the move proposes nothing or is void.
     pub swap: Option<Swap>,
-    /// The change of cost that it makes, in ten-thousandths: 0 without a swap.
+    /// The change of cost that the swap makes, in ten-thousandths; 0 without a swap.
     pub delta: i64,
-    /// Whether it is accepted; without a swap it is not.
+    /// Whether the move is accepted. Without a swap it never is.
     pub accepted: bool,
 }

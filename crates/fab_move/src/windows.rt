@@ -1,4 +1,4 @@
-//! The pad positions near one: at most one run of positions on each side of the array, counted and indexed by arithmetic.
+//! The pad positions near a site: at most one run on each side of the array, counted and indexed by arithmetic.
 
 ghost use Rattle.std.specs.Prelude.{◌≡◌, ℕ, ◌+◌, ◌-◌, ◌<◌, ◌≤◌, ◌^◌, ◌&&◌, min, max, filter, length, slice_index_or};
 ghost use Rattle.std.specs.List.{range_with_len};
@@ -8,8 +8,7 @@ ghost use Rattle.fab_move.specs.Sides.{positions};
 use crate::runs::{Run, Window};
 use fab_arch::{Grid, Site};
 
-/// The least and the greatest number from 1 to `n` that are at most `reach` from `here`; where there is none, the least is above
-/// the greatest.
+/// The least and the greatest number from 1 to `n` at most `reach` from `here`. If there is none, the least is above the greatest.
 pub(crate) fn bounds_near(here: u16, reach: u64, n: u16) -> (u64, u64)
     requires { reach < 2 ^ 63 }
     ensures least { result.0 ≡ max 1 (here - reach) }
@@ -34,7 +33,7 @@ fn run_near(here: u16, reach: u64, n: u16) -> Run
     }
 }
 
-/// Whether two coordinates are at most so far apart.
+/// Whether two coordinates are at most `reach` apart.
 fn are_near(reach: u64, a: u16, b: u16) -> bool
     requires { reach < 2 ^ 63 }
     ensures { result ≡ within reach a b }
@@ -43,8 +42,8 @@ fn are_near(reach: u64, a: u16, b: u16) -> bool
 }
 
 #[tactic(auto, using(crate::proofs::Nearby::side_none))]
-/// The positions along a side that are near one: those of 1 to `n` at most `reach` from `along`, or none where the
-/// side, at coordinate `side`, is farther than that from `across`.
+/// The positions near a site along the side at coordinate `side`: the numbers from 1 to `n` at most `reach` from `along`, or none if
+/// `side` is farther than that from `across`.
 fn run_of_side(side: u16, across: u16, along: u16, reach: u64, n: u16) -> Run
     requires along { along ≤ 1001 }
     requires bound { n ≤ 1000 }
@@ -87,7 +86,7 @@ impl Window {
             + u32::from(self.bottom.count)
     }
 
-    /// The position of a number.
+    /// Position number `i`, in perimeter order.
     pub(crate) fn at(&self, i: u32) -> (u16, u16)
         requires { i < length (positions self.now) }
         ensures { result ≡ slice_index_or (positions self.now) i (0, 0) }

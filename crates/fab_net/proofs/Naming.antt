@@ -141,7 +141,7 @@ pushed names pins name p new nets within grows number =
       within = All-push (λ (q : Pin). q.net < length new) pins p (All-weaker (λ (q : Pin). q.net < length names) (λ (q : Pin). q.net < length new) (λ q h. omega arith) pins within) at.0;
     }
 
--- the terminals of nets stand on blocks that there are
+-- the terminals of nets are on blocks that exist
 pub terminals_blocks : (pins : List PinOf) (limit : ℕ) (names : List (List ℕ)) → All (λ p. p.block < limit) pins → (n : ℕ) → n < length names → All (λ t. t.block.0 < limit) (get_or (map (terminals_of pins) names) n [])
 terminals_blocks pins limit names h n lt =
     let e : get_or (map (terminals_of pins) names) n [] ≡ terminals_of pins (get_or names n []) = get_or-map (terminals_of pins) names n [] [] lt in

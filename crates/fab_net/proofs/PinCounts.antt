@@ -20,7 +20,7 @@ pins_more row j b t lt is =
 pub pins_few : (b : ℕ) (row : List Terminal) → pins_at b row ≤ length row
 pins_few b row = count_by-le-length (is_at b) row
 
--- what is counted once so many terminals were passed
+-- the counts after the first `j` terminals
 pub record Counting (blocks : ℕ) (row : List Terminal) (j : ℕ) (counts : List ℕ) : Type 0 where
   pub size : length counts ≡ blocks
   pub each : (b : ℕ) → b < blocks → get_or counts b 0 ≡ pins_at b (take j row)
@@ -48,7 +48,7 @@ one_counted blocks row j counts t lt is k c =
           omega (arith, v, m, c.each b bl)
     ]
 
--- what stands once the counts of so many terminals' blocks were taken
+-- what holds after the counts of the first `j` terminals' blocks were taken
 pub record Taking (blocks : ℕ) (row : List Terminal) (j : ℕ) (before entries : List (ℕ × ℕ)) (counts : List ℕ) : Type 0 where
   pub size : length counts ≡ blocks
   pub left : (b : ℕ) → b < blocks → get_or counts b 0 ≡ cond (list_any (is_at b) (take j row)) 0 (pins_at b row)

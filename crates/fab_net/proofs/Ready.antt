@@ -76,7 +76,7 @@ ready_of arch ls s h u w =
       within = said_blocks arch ls s h;
     }
 
--- the terminals of any net stand on blocks that there are
+-- the terminals of any net are on blocks that exist
 rows_within : (pins : List PinOf) (limit : ℕ) (names : List (List ℕ)) (n : ℕ) → All (λ p. p.block < limit) pins → All (λ (x : Terminal). x.block.0 < limit) (get_or (map (terminals_of pins) names) n [])
 rows_within pins limit names n h = elim (cases_Bool (ltb n (length names))) [
   | inl y ↦ terminals_blocks pins limit names h n (ltb-true n (length names) y)

@@ -38,7 +38,7 @@ stays_named x h w e = let same : x ≡ w = same_name x w e in let f : is_open w 
 any_connected : (x : List ℕ) (ws : List (List ℕ)) → is_open x ≡ false → list_any (bytes_eq x) (connected ws) ≡ list_any (bytes_eq x) ws
 any_connected x ws h = any-filter_same (bytes_eq x) (λ w. not (is_open w)) true (stays_named x h) ws
 
--- whether a name is new behind the nets' names and words
+-- whether a word would add a name, after these names and words
 abbrev pub is_new : List (List ℕ) → List (List ℕ) → List ℕ → Bool
 is_new names before x = (not (is_open x) && not (is_some (number_of x names))) && not (list_any (bytes_eq x) before)
 

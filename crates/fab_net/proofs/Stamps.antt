@@ -12,7 +12,7 @@ use Rattle.fab_net.specs.declared.pieces.Terminal.{Terminal}
 use Rattle.fab_net.specs.Rows.{of_row, item_of, row_of, rows_of}
 use Rattle.fab_net.specs.BlockNets.{is_at, net_id, net_where, touches, nets_on, block_nets}
 
--- what stands once so many terminals were passed
+-- what holds after the first `j` terminals
 pub record Stamping (blocks net : ℕ) (row : List Terminal) (j : ℕ) (before entries : List (ℕ × NetId)) (stamps : List ℕ) : Type 0 where
   pub size : length stamps ≡ blocks
   pub upto : (b : ℕ) → b < blocks → get_or stamps b 0 ≤ net + 1
@@ -163,7 +163,7 @@ filled blocks terminals globals n entries new stamps after lt g size upto within
           ∙ sym (range_more net_id (touches terminals globals b) n ∙ ap (λ c. map net_id (filter (touches terminals globals b) (range_with_len 0 n)) ++ cond c (net_id n ∷ []) []) touch);
     }
 
--- once all nets stand on their blocks
+-- once all nets are on their blocks
 pub all_filled : (blocks : ℕ) (terminals : List (List Terminal)) (globals : List Bool) (n : ℕ) (entries : List (ℕ × NetId)) (stamps : List ℕ) → n ≡ length terminals → Filled blocks terminals globals n entries stamps
     → rows_of blocks entries ≡ block_nets blocks terminals globals
 all_filled blocks terminals globals n entries stamps e f =

@@ -104,7 +104,7 @@ said_by arch ls l head.Unknown h k = cc
 pub said_push : (arch : List PinKind) (ls : List TextLine) (l : TextLine) → said_fault arch (said arch ls) l ≡ None → said arch (ls ++ l ∷ []) ≡ after arch (said arch ls) l
 said_push arch ls l k = said_by arch ls l (head_of l) refl k
 
--- pins stand on blocks that there are
+-- pins are on blocks that exist
 
 pins_at_blocks : (arch : List PinKind) (kind : BlockKind) (block i limit : ℕ) (es : List Entry) → block < limit → All (λ p. p.block < limit) (pins_at arch kind block i es)
 pins_at_blocks arch kind block i limit [] h = All-nil (λ (p : PinOf). p.block < limit)

@@ -80,7 +80,7 @@ more_names ns (m ∷ ms) =
 fewer_nets : (ps qs : List PinOf) → length (net_names ps) ≤ length (net_names (ps ++ qs))
 fewer_nets ps qs = let e : first_names (map net_of_pin (ps ++ qs)) ≡ first_names (map net_of_pin ps ++ map net_of_pin qs) = ap first_names (map-append net_of_pin ps qs) in omega (arith, more_names (map net_of_pin ps) (map net_of_pin qs), ap length e)
 
--- sections of which the last may still wait for its pinlist
+-- sections, the last of which may still lack its pinlist
 
 pub record HasPins (arch : List PinKind) (s : Section) : Type 0 where
   pub line : TextLine
@@ -342,7 +342,7 @@ pins_on arch ls l h k u =
     zero_plus : (n : ℕ) → 0 + n - 1 ≡ n - 1
     zero_plus n = omega arith
 
--- a line that stands ahead of all blocks
+-- a line ahead of all blocks
 ahead_last : (ss : List Section) (a : List TextLine) (l : TextLine) → AllByRecursion (λ l. IsLineAhead (head_of l)) (late ss a l) → (0 < length ss) ⊎ IsLineAhead (head_of l)
 ahead_last [] a l h = inr (all_pop (λ l. IsLineAhead (head_of l)) a l h).1
 ahead_last (s ∷ ss) a l h = inl (omega arith)

@@ -14,18 +14,18 @@ touches terminals globals b n = not (slice_index_or globals n false) && list_any
 abbrev pub net_id : ℕ → NetId
 net_id n = record { 0 = n }
 
--- the nets of a block, ascending, without global ones
+-- the nets of a block, in ascending order, without global ones
 abbrev pub nets_on : List (List Terminal) → List Bool → ℕ → List NetId
 nets_on terminals globals b = map net_id (filter (touches terminals globals b) (range_with_len 0 (length terminals)))
 
 abbrev pub block_nets : ℕ → List (List Terminal) → List Bool → List (List NetId)
 block_nets blocks terminals globals = map (nets_on terminals globals) (range_with_len 0 blocks)
 
--- a net, where one of these terminals is on a block
+-- a net, if one of these terminals is on a block
 abbrev pub net_where : ℕ → List Terminal → ℕ → List NetId
 net_where net row b = if list_any (is_at b) row then net_id net ∷ [] else []
 
--- how many of some terminals are on a block
+-- how many of these terminals are on a block
 abbrev pub pins_at : ℕ → List Terminal → ℕ
 pins_at b row = count_by (is_at b) row
 
@@ -40,6 +40,6 @@ pins_on terminals globals b = map (pins_of terminals b) (filter (touches termina
 abbrev pub block_pins : ℕ → List (List Terminal) → List Bool → List (List ℕ)
 block_pins blocks terminals globals = map (pins_on terminals globals) (range_with_len 0 blocks)
 
--- how many of these terminals are on a block, where any is
+-- how many of these terminals are on a block, if any is
 abbrev pub pins_where : List Terminal → ℕ → List ℕ
 pins_where row b = if list_any (is_at b) row then pins_at b row ∷ [] else []

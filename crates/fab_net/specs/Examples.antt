@@ -33,7 +33,7 @@ pub small_text_means : netlist two_pins small_text ≡ small_netlist
 unfolding lines_from trimmed content is_continued without_backslash words_of head_of
 small_text_means = refl
 
--- the same with carriage returns, a comment and a joined line, and no line feed at the end
+-- the same with carriage returns, a comment, a joined line, and no line feed at the end
 abbrev joined_text : List ℕ
 joined_text = codes ".input a\r\npinlist: n1 # drives\r\n.output z\r\npinlist: n2\r\n.clb b\r\npinlist: n1 \\\r\n n2\r\nsubblock: b 0 1"
 
@@ -45,12 +45,12 @@ pub joined_text_has_no_fault : first_fault two_pins (lines joined_text) ≡ None
 unfolding lines_from trimmed content is_continued without_backslash words_of head_of
 joined_text_has_no_fault = refl
 
--- the line that should go on is empty: the pinlist of line 6 is one entry short
+-- the continuing line is empty: the pinlist of line 6 is one entry short
 pub a_join_of_nothing : first_fault two_pins (lines (codes ".input a\npinlist: n1\n.output z\npinlist: n2\n.clb b\npinlist: n1 \\\n\nsubblock: b 0 1")) ≡ Some (PinCount 6)
 unfolding lines_from trimmed content is_continued without_backslash words_of head_of
 a_join_of_nothing = refl
 
--- two pins of a block on one net are two terminals, `open` is none, and `.global` may name nets that are not there
+-- two pins of a block on one net are two terminals, `open` is none, and `.global` may name nets that do not exist
 pub repeats_and_globals : netlist (Reads ∷ Reads ∷ Drives ∷ []) (codes ".clb b\npinlist: open open n\n.clb c\npinlist: n n m\n.global m q") ≡ record {
   kinds = Logic ∷ Logic ∷ [];
   names = codes "b" ∷ codes "c" ∷ [];
@@ -60,7 +60,7 @@ pub repeats_and_globals : netlist (Reads ∷ Reads ∷ Drives ∷ []) (codes ".c
 unfolding lines_from trimmed content is_continued without_backslash words_of head_of
 repeats_and_globals = refl
 
--- the net's first appearance is the fault's place
+-- the fault's place is the net's first appearance
 pub a_net_without_driver : first_fault two_pins (lines (codes ".output z\npinlist: n")) ≡ Some (NoDriver (record { start = 19; stop = 20 }))
 unfolding lines_from trimmed content is_continued without_backslash words_of head_of
 a_net_without_driver = refl
@@ -69,7 +69,7 @@ pub a_net_with_two_drivers : first_fault two_pins (lines (codes ".input a\npinli
 unfolding lines_from trimmed content is_continued without_backslash words_of head_of
 a_net_with_two_drivers = refl
 
--- a missing pinlist comes before a name that stands twice, and its place is the open block's name
+-- a missing pinlist is reported before a repeated name, and its place is the open block's name
 pub a_missing_pinlist_comes_first : first_fault two_pins (lines (codes ".input a\n.input a")) ≡ Some (MissingPinlist (record { start = 7; stop = 8 }))
 unfolding lines_from trimmed content is_continued without_backslash words_of head_of
 a_missing_pinlist_comes_first = refl

@@ -1,5 +1,5 @@
--- What is printed of a fault (our own): its code and its name, and the line where it has one. Who has the text adds the name that a
--- span gives.
+-- How a fault is printed (our own): its code and its name, and the line where it has one. A caller that has the text adds the
+-- name at the span.
 use Rattle.std.specs.Prelude.{ℕ, ◌≡◌, List, ◌++◌, decimal, codes, refl}
 use Rattle.std.specs.Fmt.{digits}
 use Rattle.fab_net.specs.declared.fault.NetFault.{NetFault}

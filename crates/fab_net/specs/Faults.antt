@@ -25,7 +25,7 @@ abbrev pub without_pinlist : Option Section → Option Span
 without_pinlist None = None
 without_pinlist (Some s) = if length (filter is_pinlist s.body) == 0 then Some (span_of_name s.opening) else None
 
--- the place of the open block's name, where its pinlist is still to come
+-- the place of the open block's name, if the block still has no pinlist
 abbrev pub awaiting : List TextLine → Option Span
 awaiting before = without_pinlist (open_section (sections before))
 
@@ -50,7 +50,7 @@ open_kind (Some s) = s.kind
 abbrev pub pins_added : List PinKind → List TextLine → TextLine → List PinOf
 pins_added arch before l = pins_at arch (open_kind (open_section (sections before))) (length (sections before) - 1) 0 (entries_in l)
 
--- so many terminals and nets are within the limits
+-- the terminals and nets are within the limits
 abbrev pub are_few : List PinOf → Bool
 are_few pins = nat_le (length pins) 1048576 && nat_le (length (net_names pins)) 65535
 
@@ -76,24 +76,24 @@ fault_by arch before l head.Unknown = Some (UnknownWord l.number)
 abbrev pub fault_of : List PinKind → List TextLine → TextLine → Option NetFault
 fault_of arch before l = fault_by arch before l (head_of l)
 
--- the place where a net stands first in a pinlist
+-- the place where a net is first named in a pinlist
 abbrev pub first_span : List PinOf → List ℕ → Span
 first_span [] name = no_span
 first_span (p ∷ ps) name = if bytes_eq name p.name then p.span else first_span ps name
 
--- the fault of a net that has not exactly one driver
+-- the fault of a net whose number of drivers is not one
 abbrev pub net_fault : List PinOf → List ℕ → Option NetFault
 net_fault pins name =
     if count_by (is_driver name) pins == 1 then None
     else if count_by (is_driver name) pins == 0 then Some (NoDriver (first_span pins name))
     else Some (TwoDrivers (first_span pins name))
 
--- the first fault of nets
+-- the first fault of these nets
 abbrev pub driver_fault : List PinOf → List (List ℕ) → Option NetFault
 driver_fault pins [] = None
 driver_fault pins (n ∷ ns) = or_else (net_fault pins n) (driver_fault pins ns)
 
--- the first fault of a whole text, whose lines have none
+-- the first fault of a whole text whose lines have none
 abbrev pub text_fault : List PinKind → List TextLine → Option NetFault
 text_fault arch ls = or_else (missing_fault (awaiting ls)) (driver_fault (pins_in arch ls) (net_names (pins_in arch ls)))
 
@@ -101,12 +101,12 @@ text_fault arch ls = or_else (missing_fault (awaiting ls)) (driver_fault (pins_i
 abbrev pub first_fault : List PinKind → List TextLine → Option NetFault
 first_fault arch ls = fault_of_all (fault_of arch) (text_fault arch) ls
 
--- a fault that was answered is this one, or want of memory, which may come for any text
+-- a returned fault is this one, or out of memory, which may come for any text
 abbrev pub FaultIs : NetFault → Option NetFault → Type 0
 FaultIs NoMemory fault = Unit {0}
 FaultIs e fault = fault ≡ Some e
 
--- a text's lines mean a netlist, or have a first fault, and never both
+-- a text's lines either mean a netlist or have a first fault, never both
 abbrev pub MeansOrFaults : List PinKind → List TextLine → Type 0
 MeansOrFaults arch ls =
     ((d : Netlist) → IsNetlist arch ls d → first_fault arch ls ≡ None)

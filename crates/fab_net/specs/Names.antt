@@ -1,4 +1,4 @@
--- Names, and the numbers that their first appearance gives them (VPR manual).
+-- Names, numbered by first appearance (VPR manual).
 use Rattle.std.specs.Prelude.{ℕ, ◌≡◌, Bool, false, not, List, [], ◌∷◌, ◌++◌, if◌then◌else◌, is_some, Option, Some, filter, position, codes, refl}
 use Rattle.std.specs.List.{list_any}
 use Rattle.std.specs.Str.{bytes_eq}
@@ -7,7 +7,7 @@ use Rattle.std.specs.Str.{bytes_eq}
 abbrev pub number_of : List ℕ → List (List ℕ) → Option ℕ
 number_of name names = position (λ other. bytes_eq name other) names
 
--- with a name at the end, where it is not there yet
+-- with a name added at the end, if it is new
 abbrev pub with_name : List ℕ → List (List ℕ) → List (List ℕ)
 with_name name names = if is_some (number_of name names) then names else names ++ name ∷ []
 
@@ -19,7 +19,7 @@ abbrev pub first_names : List (List ℕ) → List (List ℕ)
 first_names [] = []
 first_names (n ∷ ns) = n ∷ filter (is_other n) (first_names ns)
 
--- no name stands twice
+-- no name occurs twice
 abbrev pub AllDistinct : List (List ℕ) → Type 0
 AllDistinct [] = Unit {0}
 AllDistinct (n ∷ ns) = (list_any (bytes_eq n) ns ≡ false) × AllDistinct ns

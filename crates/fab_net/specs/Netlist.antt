@@ -9,14 +9,14 @@ use Rattle.fab_net.specs.declared.pieces.BlockKind.TheVariants.{InputPad, Output
 use Rattle.fab_net.specs.declared.pieces.Terminal.{Terminal}
 use Rattle.fab_net.specs.Names.{AllDistinct}
 
--- of each block its kind and name, and of each net its terminals and whether it is global
+-- each block's kind and name, and each net's terminals and whether it is global
 pub record Netlist : Type 0 where
   pub kinds : List BlockKind
   pub names : List (List ℕ)
   pub terminals : List (List Terminal)
   pub globals : List Bool
 
--- a net, as placement sees it: of each terminal the block, so that a block may stand here more than once
+-- a net, as placement sees it: the block of each terminal, so a block may occur more than once
 pub record Net : Type 0 where
   pub global : Bool
   pub blocks : List ℕ
@@ -24,7 +24,7 @@ pub record Net : Type 0 where
 abbrev pub block_on : Terminal → ℕ
 block_on t = t.block.0
 
--- the net with a number; past the last one a global net without terminals
+-- the net with number `n`; past the last one, a global net without terminals
 abbrev pub net_at : Netlist → ℕ → Net
 net_at d n = record { global = slice_index_or d.globals n true; blocks = map block_on (slice_index_or d.terminals n []) }
 
@@ -48,7 +48,7 @@ is_logic InputPad = false
 is_logic OutputPad = false
 is_logic Logic = true
 
--- whether a block is a logic block, and no pad (past the last block it reads as one)
+-- whether a block is a logic block, and no pad (past the last block, it reads as a logic block)
 abbrev pub is_logic_at : Netlist → ℕ → Bool
 is_logic_at d b = is_logic (slice_index_or d.kinds b Logic)
 
@@ -61,8 +61,8 @@ pad_count d = count_by (λ k. not (is_logic k)) d.kinds
 abbrev pub terminal_count : Netlist → ℕ
 terminal_count d = sum_by length d.terminals
 
--- the limits of a design, that each block has a name and each net is global or not, that the names of its blocks are distinct and can be words of a
--- line, and that its nets have terminals, on its blocks alone
+-- a design is within the limits, each block has a name, and each net is global or not; names of blocks are distinct and can
+-- be words of a line; each net has terminals, only on blocks of the design
 pub record IsLawful (d : Netlist) : Type 0 where
   pub few_blocks : length d.kinds ≤ 65535
   pub few_nets : length d.terminals ≤ 65535

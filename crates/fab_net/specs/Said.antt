@@ -1,4 +1,4 @@
--- What lines have said so far, as one value: what a reader keeps between two lines, and what the next line adds.
+-- What lines have said so far, as one value: what a reader keeps between two lines, and what the next line adds to it.
 use Rattle.std.specs.List.{All}
 use Rattle.std.specs.Prelude.{ℕ, ◌≡◌, ◌≤◌, ◌<◌, ◌-◌, ◌==◌, not, nat_lt, List, [], ◌∷◌, ◌++◌, is_some, length, map, drop, slice_get, filter, Option, Some, None, Result, Ok, Err, Bool, false}
 use Rattle.fab_text.specs.Lines.{TextLine}
@@ -66,11 +66,11 @@ said_fault_by arch s l head.Subblock = unless (is_logic_last (last_kind s.kinds)
 said_fault_by arch s l head.Global = None
 said_fault_by arch s l head.Unknown = Some (UnknownWord l.number)
 
--- the first fault of a line behind what was said
+-- the first fault of a line after what was said
 abbrev pub said_fault : List PinKind → Said → TextLine → Option NetFault
 said_fault arch s l = said_fault_by arch s l (head_of l)
 
--- the fault of an answer, if it is one
+-- the fault of a result, if it is one
 abbrev pub err_of : {A : Type 0} → Result A NetFault → Option NetFault
 err_of (Ok value) = None
 err_of (Err e) = Some e
@@ -94,14 +94,14 @@ after_by arch s l head.Subblock = s
 after_by arch s l head.Global = with_globals s l
 after_by arch s l head.Unknown = s
 
--- what is said with one more line
+-- what is said, with one more line
 abbrev pub after : List PinKind → Said → TextLine → Said
 after arch s l = after_by arch s l (head_of l)
 
 abbrev pub netlist_said : Said → Netlist
 netlist_said s = record { kinds = s.kinds; names = s.names; terminals = map (terminals_of s.pins) (net_names s.pins); globals = map (is_global_in s.globals) (net_names s.pins) }
 
--- what all lines of a text have said, before the last checks
+-- what holds once all lines of a text are taken, before the last checks
 pub record IsReady (s : Said) : Type 0 where
   pub distinct : AllDistinct s.names
   pub words : AreWords s.names

@@ -1,4 +1,4 @@
--- What a netlist text means (VPR manual). Behind the lines ahead of the first block its lines fall into sections: a
+-- What a netlist text means (VPR manual). After the lines ahead of the first block, its lines form sections: a
 -- line that opens a block, and the lines after it up to the next such line.
 use Rattle.std.specs.Prelude.{ℕ, ◌+◌, ◌≡◌, ◌≤◌, ◌<◌, Bool, true, false, ◌&&◌, List, [], ◌∷◌, ◌++◌, if◌then◌else◌, length, map, filter, count_by, drop, slice_get, slice_index_or, codes, Option, Some, None}
 use Rattle.std.specs.List.{list_any, AllByRecursion, flat_map}
@@ -40,7 +40,7 @@ entries [] spans = []
 entries (w ∷ ws) [] = []
 entries (w ∷ ws) (s ∷ ss) = record { name = w; span = s } ∷ entries ws ss
 
--- the words behind the first
+-- the words after the first
 abbrev pub entries_in : TextLine → List Entry
 entries_in l = entries (drop 1 l.words) (drop 1 l.spans)
 
@@ -118,7 +118,7 @@ pub record PinOf : Type 0 where
   pub span : Span
   pub drives : Bool
 
--- `open` stands for a pin on no net
+-- `open` marks a pin on no net
 abbrev pub is_open : List ℕ → Bool
 is_open name = bytes_eq name (codes "open")
 
@@ -133,7 +133,7 @@ drives_at arch InputPad i = true
 drives_at arch OutputPad i = false
 drives_at arch Logic i = is_drives (slice_index_or arch i Reads)
 
--- the pins on nets of a block, for its entries from pin i on
+-- the pins on nets of a block, for its entries, the first of which is pin `i`
 abbrev pub pins_at : List PinKind → BlockKind → ℕ → ℕ → List Entry → List PinOf
 pins_at arch kind block i [] = []
 pins_at arch kind block i (e ∷ es) =
@@ -143,7 +143,7 @@ pins_at arch kind block i (e ∷ es) =
 abbrev pub pins_of_lines : List PinKind → BlockKind → ℕ → List TextLine → List PinOf
 pins_of_lines arch kind block ls = flat_map (λ l. pins_at arch kind block 0 (entries_in l)) ls
 
--- the pins on nets of sections, the first of which is block number `block`
+-- the pins on nets of sections; the first section is block number `block`
 abbrev pub pins_from : List PinKind → ℕ → List Section → List PinOf
 pins_from arch block [] = []
 pins_from arch block (s ∷ ss) = pins_of_lines arch s.kind block (filter is_pinlist s.body) ++ pins_from arch (block + 1) ss
@@ -168,7 +168,7 @@ is_driver name p = bytes_eq name p.name && p.drives
 abbrev pub terminal_of : PinOf → Terminal
 terminal_of p = record { block = record { 0 = p.block }; pin = p.pin }
 
--- the terminals of a net: the pins that bear its name
+-- the terminals of a net: the pins with its name
 abbrev pub terminals_of : List PinOf → List ℕ → List Terminal
 terminals_of pins name = map terminal_of (filter (is_on name) pins)
 
@@ -178,7 +178,7 @@ pin_count arch InputPad = 1
 pin_count arch OutputPad = 1
 pin_count arch Logic = length arch
 
--- ahead of the first block stand `.global` lines alone
+-- only `.global` lines are allowed ahead of the first block
 abbrev pub IsLineAhead : Head → Type 0
 IsLineAhead (head.Opens kind) = ⊥
 IsLineAhead head.Pinlist = ⊥
@@ -186,7 +186,7 @@ IsLineAhead head.Subblock = ⊥
 IsLineAhead head.Global = Unit {0}
 IsLineAhead head.Unknown = ⊥
 
--- after a block's line stand pinlists and `.global` lines, and `subblock:` lines where it is a logic block
+-- a block's line is followed by pinlists and `.global` lines, and for a logic block also by `subblock:` lines
 abbrev pub IsBodyLine : BlockKind → Head → Type 0
 IsBodyLine kind (head.Opens other) = ⊥
 IsBodyLine kind head.Pinlist = Unit {0}
@@ -215,7 +215,7 @@ is_global_in globals name = list_any (bytes_eq name) globals
 abbrev pub HasOneDriver : List PinOf → List ℕ → Type 0
 HasOneDriver pins name = count_by (is_driver name) pins ≡ 1
 
--- the netlist of sections, of which these are the pins, and of the names of global nets
+-- the netlist of sections, from their pins and the names of global nets
 abbrev pub netlist_of : List Section → List PinOf → List (List ℕ) → Netlist
 netlist_of ss pins globals = record {
   kinds = map kind_in ss;
@@ -224,8 +224,8 @@ netlist_of ss pins globals = record {
   globals = map (is_global_in globals) (net_names pins);
 }
 
--- what lines mean: each section is lawful, names of blocks are distinct, the limits are kept, each net has exactly one
--- driver, and the netlist is that of the sections
+-- what lines mean: only `.global` lines ahead of the first block, each section is lawful, names of blocks are distinct, the
+-- limits are kept, each net has exactly one driver, and the netlist is that of the sections
 pub record IsNetlist (arch : List PinKind) (ls : List TextLine) (d : Netlist) : Type 0 where
   pub lines_ahead : AllByRecursion (λ l. IsLineAhead (head_of l)) (ahead ls)
   pub lawful : AllByRecursion (IsSection arch) (sections ls)

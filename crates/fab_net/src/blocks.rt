@@ -9,8 +9,8 @@ use crate::pieces::{NetId, Terminal};
 use crate::rows::{Rows, gather};
 use std::alloc::{AllocError, Global};
 
-/// Adds a net to each block that it has a terminal on. No stamp is above the net's number before, and none is past
-/// the next after.
+/// Adds a net to each block that it has a terminal on. Stamps are at most `net` before the call, and at most
+/// `net + 1` after it.
 fn push_net(
     entries: &mut Vec<(u32, NetId)>,
     stamps: &mut [u32],
@@ -36,7 +36,7 @@ fn push_net(
     Ok(())
 }
 
-/// The nets of each block, ascending, without global ones.
+/// The nets of each block, in ascending order, without global ones.
 pub fn gather_nets(
     alloc: Global,
     blocks: usize,
@@ -59,7 +59,7 @@ pub fn gather_nets(
     gather(alloc, blocks, &entries, NetId(0))
 }
 
-/// Counts the terminals on each block, where nothing was counted before.
+/// Counts the terminals of a net on each block. All counts are 0 before.
 fn count_pins(counts: &mut [u32], row: &[Terminal])
     requires few { length row.now < 2 ^ 32 }
     requires blocks { All (λ t. t.block.0 < length counts.old) row.now }
@@ -71,7 +71,7 @@ fn count_pins(counts: &mut [u32], row: &[Terminal])
     }
 }
 
-/// Adds what was counted to each block that has any, and counts nothing from then on.
+/// Adds its count to each block that has one, and resets all counts to 0.
 fn push_counts(
     entries: &mut Vec<(u32, u32)>,
     counts: &mut [u32],

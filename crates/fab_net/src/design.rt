@@ -1,4 +1,4 @@
-//! Designs: what a netlist text says, in flat arrays that placement reads without a search.
+//! Designs: what a netlist text says, in flat arrays that placement reads without searching.
 
 use crate::names::BlockNames;
 use crate::pieces::{BlockId, BlockKind, NetId, Terminal};
@@ -29,7 +29,7 @@ impl Model for Design {
 }
 
 impl Drop for Design {
-    // A `drop` that is called is one step wherever a design goes out of scope; a derived one is proved anew there.
+    // A written `drop` is one step of a proof wherever a design goes out of scope; a derived one is proved again each time.
     fn drop(self) {
         let Design {
             kinds: _,
@@ -50,7 +50,7 @@ impl Design {
     ghost use Rattle.fab_net.specs.Netlist.{IsLawful, net_at, nets_of as nets_on_block, pin_count, logic_count, pad_count};
     ghost use Rattle.fab_net.specs.Shown.{netlist};
 
-    /// A design of its parts. Callers read designs by `read_net`.
+    /// Makes a design from its parts. Callers use `read_net`.
     pub(crate) fn new(
         kinds: Vec<BlockKind>,
         names: BlockNames,
@@ -74,7 +74,7 @@ impl Design {
         }
     }
 
-    /// How many blocks there are, at most 65,535. Blocks have the numbers below it.
+    /// The number of blocks, at most 65,535. Blocks are numbered from 0.
     pub fn blocks(&self) -> usize
         ensures count { result ≡ length self.now.kinds }
         ensures lawful { IsLawful self.now }
@@ -82,7 +82,7 @@ impl Design {
         self.kinds.len()
     }
 
-    /// How many nets there are, global ones too, at most 65,535. Nets have the numbers below it.
+    /// The number of nets, global ones included, at most 65,535. Nets are numbered from 0.
     pub fn nets(&self) -> usize
         ensures count { result ≡ length self.now.terminals }
         ensures lawful { IsLawful self.now }
@@ -90,7 +90,7 @@ impl Design {
         self.terminals.len()
     }
 
-    /// How many blocks are logic blocks; the others are pads.
+    /// The number of logic blocks; all other blocks are pads.
     pub fn logic_blocks(&self) -> usize
         ensures { result ≡ logic_count self.now }
     {
@@ -100,7 +100,7 @@ impl Design {
             .count()
     }
 
-    /// How many blocks are pads.
+    /// The number of pads.
     pub fn pads(&self) -> usize
         ensures { result ≡ pad_count self.now }
     {
@@ -110,7 +110,7 @@ impl Design {
             .count()
     }
 
-    /// What a block is.
+    /// The kind of a block.
     pub fn kind(&self, block: BlockId) -> BlockKind
         requires { block.0 < length self.now.kinds }
         ensures { slice_get self.now.kinds block.0 ≡ Some result }
@@ -118,7 +118,7 @@ impl Design {
         self.kinds[block.0 as usize]
     }
 
-    /// A block's name, any bytes but separators, line feeds and `#`.
+    /// A block's name: any bytes except separators, line feeds and `#`.
     pub fn name(&self, block: BlockId) -> &[u8]
         requires { block.0 < length self.now.kinds }
         ensures { result.now ≡ slice_index_or self.now.names block.0 [] }
@@ -126,7 +126,7 @@ impl Design {
         self.names.name(block.0 as usize)
     }
 
-    /// The block of this name.
+    /// The block with this name, if there is one.
     pub fn block_named(&self, name: &[u8]) -> Option<BlockId>
         ensures { option_map (λ b. b.0) result ≡ number_of name.now self.now.names }
     {
@@ -136,7 +136,7 @@ impl Design {
         }
     }
 
-    /// A net's terminals, in the order of the text; a block with two pins on the net stands here twice.
+    /// A net's terminals, in the order of the text. A block with two pins on the net occurs twice.
     pub fn terminals(&self, net: NetId) -> &[Terminal]
         requires { net.0 < length self.now.terminals }
         ensures { result.now ≡ slice_index_or self.now.terminals net.0 [] }
@@ -144,7 +144,7 @@ impl Design {
         self.terminals.row(net.0 as usize)
     }
 
-    /// Whether a net is global, so that placement does not count it.
+    /// Whether a net is global, so that placement ignores it.
     pub fn is_global(&self, net: NetId) -> bool
         requires { net.0 < length self.now.terminals }
         ensures { result ≡ (net_at self.now net.0).global }
@@ -160,7 +160,7 @@ impl Design {
         self.block_nets.row(block.0 as usize)
     }
 
-    /// How many pins of the block are on each of the nets of `nets_of`, in the same order.
+    /// How many pins of the block are on each net of `nets_of`, in the same order.
     pub fn pins_of(&self, block: BlockId) -> &[u32]
         requires { block.0 < length self.now.kinds }
         ensures { result.now ≡ map (pin_count self.now block.0) (nets_on_block self.now block.0) }

@@ -9,17 +9,17 @@ use std::alloc::{AllocError, AllocFailed};
 use std::fmt;
 use thiserror::Error;
 
-/// Why a text is no netlist: its first fault. A number is that of the faulty line, a span the place of a name in
-/// the text.
+/// Why a text is no netlist: its first fault. A number is that of the faulty line, and a span is the place of a name
+/// in the text.
 #[derive(Clone, Copy, Debug, PartialEq, Eq, Error)]
 pub enum NetFault {
-    /// A line begins with none of the words of a netlist.
+    /// A line begins with no word of the netlist format.
     UnknownWord(u64),
     /// A line opens a block without a name.
     NoName(u64),
-    /// A pinlist where no block is open, or where the open block has its pinlist.
+    /// A pinlist where no block is open, or where the open block already has its pinlist.
     PinlistWithoutBlock(u64),
-    /// A block ends without a pinlist; the span is its name.
+    /// A block ends without a pinlist; the span is that of its name.
     MissingPinlist(Span),
     /// A pinlist with more or fewer entries than its block has pins.
     PinCount(u64),
@@ -27,13 +27,13 @@ pub enum NetFault {
     SubblockWithoutLogic(u64),
     /// A block with the name of an earlier one.
     DuplicateBlock(u64),
-    /// A net that nothing drives; the span is its first appearance in a pinlist.
+    /// A net without a driver; the span is its first appearance in a pinlist.
     NoDriver(Span),
     /// A net with two drivers or more; the span is its first appearance in a pinlist.
     TwoDrivers(Span),
     /// A block or net above the 65,535th, or a terminal above the 1,048,576th.
     TooLarge(u64),
-    /// There was no memory to read on.
+    /// Memory ran out.
     NoMemory,
 }
 

@@ -1,4 +1,4 @@
-//! Netlists: blocks, the nets that join their pins, and the text that says them.
+//! Netlists: blocks, the nets that join their pins, and the text format.
 #![tactic(auto)]
 
 pub mod blocks;

@@ -1,4 +1,4 @@
-//! Names and their numbers: each name has the number of its first appearance.
+//! Names and their numbers: names are numbered by first appearance.
 
 ghost use Rattle.std.specs.Prelude.{◌≡◌, ℕ, ◌+◌, ◌<◌, ◌≤◌, ◌&&◌, ◌++◌, ◌∷◌, [], List, None, Some, is_some, length, map, not, slice_index_or, IfOk, OnOk, OnErr};
 ghost use Rattle.std.specs.List.{list_any, count_by};
@@ -31,7 +31,7 @@ fn stands_among(name: &[u8], others: &[&[u8]]) -> bool
     others.iter().any(|other| name == *other)
 }
 
-/// The names of nets while a text is read, as parts of the text.
+/// The names of nets while a text is read, as slices of the text.
 pub struct NetNames<'a> {
     names: IndexSet<&'a [u8]>,
 }
@@ -71,7 +71,7 @@ impl<'a> NetNames<'a> {
         self.names.get_index_of(name)
     }
 
-    /// Whether a word of a pinlist would add a name, behind other words of it.
+    /// Whether a word of a pinlist, after the words `before` it, would add a name.
     fn is_new(&self, word: &[u8], before: &[&[u8]]) -> bool
         ensures { result ≡ ((not (is_open word.now) && not (is_some (number_of word.now self.now))) && not (list_any (λ w. bytes_eq word.now w.now) before.now)) }
     {
@@ -91,7 +91,7 @@ impl<'a> NetNames<'a> {
         count
     }
 
-    /// The number of a name, which is added where it is not there yet. Want of memory changes nothing.
+    /// The number of a name, which is added if it is new. If memory runs out, nothing changes.
     pub fn intern(&mut self, name: &'a [u8]) -> Result<usize, AllocError>
         ensures found { IfOk result (λ i. number_of name.now self.new ≡ Some i) }
         ensures names { OnOk result (self.new ≡ with_name name.now self.old) }
@@ -102,7 +102,7 @@ impl<'a> NetNames<'a> {
     }
 }
 
-/// The names of blocks, of which a design has its own copy.
+/// The names of blocks, copied from the text.
 pub struct BlockNames {
     names: IndexSet<Vec<u8>>,
 }
@@ -142,7 +142,7 @@ impl BlockNames {
         self.names.get_index_of(name)
     }
 
-    /// The name with a number.
+    /// The name with this number.
     pub fn name(&self, number: usize) -> &[u8]
         requires { number < length self.now }
         ensures { result.now ≡ slice_index_or self.now number [] }
@@ -153,7 +153,7 @@ impl BlockNames {
         }
     }
 
-    /// Adds a name that is not there yet. Want of memory changes nothing.
+    /// Adds a new name. If memory runs out, nothing changes.
     pub fn push(&mut self, alloc: Global, name: &[u8]) -> Result<(), AllocError>
         requires { number_of name.now self.old ≡ None }
         ensures names { OnOk result (self.new ≡ self.old ++ name.now ∷ []) }

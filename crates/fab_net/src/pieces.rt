@@ -2,7 +2,7 @@
 
 use fab_text::Span;
 
-/// What a block is.
+/// The kind of a block.
 #[derive(Clone, Copy, Debug, PartialEq, Eq)]
 pub enum BlockKind {
     /// A pad that drives its net: `.input`.
@@ -29,7 +29,7 @@ pub struct Terminal {
     pub pin: u16,
 }
 
-/// What a line of a netlist is, by its first word.
+/// What a line of a netlist says, by its first word.
 #[derive(Clone, Copy, Debug, PartialEq, Eq)]
 pub enum Head {
     Opens(BlockKind),
@@ -39,7 +39,7 @@ pub enum Head {
     Unknown,
 }
 
-/// A pin on a net, by numbers; its place is that of its net's name in the text.
+/// A pin on a net, by numbers. `span` is the place of its net's name in the text.
 #[derive(Clone, Copy, Debug, PartialEq, Eq)]
 pub struct Pin {
     pub block: u32,

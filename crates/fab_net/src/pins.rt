@@ -1,4 +1,4 @@
-//! Pins, whose nets are numbered by first appearance.
+//! Pins, with nets numbered by first appearance.
 
 ghost use Rattle.std.specs.Prelude.{◌≡◌, ◌++◌, ◌∷◌, ◌^◌, ◌<◌, ◌≤◌, [], List, nat_le, length, map, filter, count_by, slice_index_or, IfOk};
 ghost use Rattle.std.specs.List.{sum_by};
@@ -52,7 +52,7 @@ fn span_at(net: u32, pins: &[Pin]) -> Span
     Span { start: 0, stop: 0 }
 }
 
-/// Which of these names stand among others.
+/// For each of the names, whether it is among `globals`.
 fn marks_of(alloc: Global, names: &NetNames, globals: &[&[u8]]) -> Result<Vec<bool>, AllocError>
     requires { AllDistinct names.now }
     ensures { IfOk result (λ v. v.items ≡ map (is_global_in (map (λ w. w.now) globals.now)) names.now) }
@@ -78,7 +78,7 @@ fn are_few_nets(count: usize) -> bool
     count <= 65535
 }
 
-/// Connected pins, whose nets are numbered by first appearance.
+/// Connected pins, with nets numbered by first appearance.
 pub struct Pins<'a> {
     names: NetNames<'a>,
     pins: Vec<Pin>,
@@ -125,8 +125,8 @@ impl<'a> Pins<'a> {
         self.names.len()
     }
 
-    /// Whether the pins of one more pinlist of at most 1,024 words are within the limits: 1,048,576 terminals and 65,535
-    /// nets. That the words name new nets is looked up only where there might be too many.
+    /// Whether the pins of one more pinlist, of at most 1,024 words, are within the limits: 1,048,576 terminals and 65,535
+    /// nets. New names are counted only where there might be too many.
     pub(crate) fn have_room(&self, words: &[&[u8]]) -> bool
         requires words { length words.now ≤ 1024 }
         requires few { length self.now ≤ 1048576 }
@@ -140,7 +140,7 @@ impl<'a> Pins<'a> {
         are_few_nets(nets + added) || are_few_nets(nets + self.names.count_new(words))
     }
 
-    /// With one more pin.
+    /// Adds a pin at the end.
     pub fn push(
         self,
         name: &'a [u8],
@@ -168,7 +168,7 @@ impl<'a> Pins<'a> {
         Ok(Pins { names, pins })
     }
 
-    /// The terminals of each net.
+    /// The terminals of each net, by net number.
     pub fn terminals(&self, alloc: Global) -> Result<Rows<Terminal>, AllocError>
         requires { length self.now < 2 ^ 32 }
         ensures found { IfOk result (λ rows. rows ≡ map (terminals_of self.now) (net_names self.now)) }
@@ -182,7 +182,7 @@ impl<'a> Pins<'a> {
         gather(alloc, self.names.len(), &entries, blank)
     }
 
-    /// How many drivers each net has.
+    /// The number of drivers of each net, by net number.
     pub fn driver_counts(&self, alloc: Global) -> Result<Vec<u32>, AllocError>
         requires { length self.now < 2 ^ 32 }
         ensures { IfOk result (λ v. v.items ≡ map (λ name. count_by (is_driver name) self.now) (net_names self.now)) }
@@ -191,7 +191,7 @@ impl<'a> Pins<'a> {
         row_counts(alloc, self.names.len(), &entries)
     }
 
-    /// The place where a net is named first.
+    /// The place in the text where a net is first named.
     pub fn first_span(&self, net: u32) -> Span
         requires { net < length (net_names self.now) }
         ensures { result ≡ first_span self.now (slice_index_or (net_names self.now) net []) }
@@ -199,7 +199,7 @@ impl<'a> Pins<'a> {
         span_at(net, &self.pins)
     }
 
-    /// Which nets bear one of these names.
+    /// For each net, whether its name is among `globals`.
     pub fn marks(&self, alloc: Global, globals: &[&[u8]]) -> Result<Vec<bool>, AllocError>
         ensures { IfOk result (λ v. v.items ≡ map (is_global_in (map (λ w. w.now) globals.now)) (net_names self.now)) }
     {

@@ -1,4 +1,4 @@
-//! Reading a netlist text: its lines one by one, what they have said so far, and the design at the end.
+//! Reading a netlist text: its lines one by one, what they have said so far, and at the end the design.
 
 ghost use Rattle.std.specs.Prelude.{◌≡◌, ℕ, ◌++◌, [], ◌≤◌, ◌<◌, ◌^◌, drop, length, map, slice_get, IfOk, IfErr, OnOk, MatchResult, List, None, IsTrue, count_by};
 ghost use Rattle.std.specs.Option.{option_map};
@@ -96,7 +96,7 @@ fn pin_count(arch: &[PinKind], kind: BlockKind) -> usize
     }
 }
 
-/// With the connected pins of a block's entries.
+/// Adds the connected pins among a block's entries.
 fn push_entries<'a>(
     arch: &[PinKind],
     kind: BlockKind,
@@ -149,7 +149,7 @@ fn rest_spans<'b>(line: &'b Line) -> &'b [Span]
     &line.spans[from..]
 }
 
-/// With the pins that a line gives the last block.
+/// Adds the pins that a line gives the last block.
 fn add_pins<'a>(
     arch: &[PinKind],
     kinds: &[BlockKind],
@@ -168,7 +168,7 @@ fn add_pins<'a>(
     push_entries(arch, kind, block, words, spans, before)
 }
 
-/// Whether each net has exactly one driver, where these are the counts of them.
+/// Whether each net has exactly one driver; `counts` are the numbers of drivers.
 fn check_drivers(counts: &[u32], pins: &Pins) -> Result<(), NetFault>
     requires counts { counts.now ≡ map (λ name. count_by (is_driver name) pins.now) (net_names pins.now) }
     requires few { length pins.now < 2 ^ 32 }
@@ -208,7 +208,7 @@ impl<'a> Model for Seen<'a> {
 }
 
 impl<'a> Drop for Seen<'a> {
-    // A `drop` that is called is one step wherever the value goes out of scope; a derived one is proved anew there.
+    // A written `drop` is one step of a proof wherever the value goes out of scope; a derived one is proved again each time.
     fn drop(self) {
         let Seen {
             kinds: _,
@@ -220,8 +220,8 @@ impl<'a> Drop for Seen<'a> {
     }
 }
 
-/// Each line is taken in two steps: first it is judged, which needs no memory, so that a fault is always told as that
-/// fault; then it is added, which only want of memory can stop.
+/// Each line takes two steps. First it is checked. That needs no memory, so a faulty line always gives its fault.
+/// Then it is added. That fails only if memory runs out.
 impl<'a> Seen<'a> {
     /// Whether a line may open a block.
     fn check_open(&self, line: &Line) -> Result<(), NetFault>
@@ -328,7 +328,7 @@ impl<'a> Seen<'a> {
         })
     }
 
-    /// Whether a line is lawful behind those before it.
+    /// Whether a line is lawful after those before it.
     fn check_line(&self, arch: &[PinKind], line: &Line) -> Result<(), NetFault>
         requires { length arch.now ≤ 1024 }
         ensures { said_fault arch.now self.now (shown line.now) ≡ err_of result }
@@ -348,7 +348,7 @@ impl<'a> Seen<'a> {
         }
     }
 
-    /// Adds what a line says that is lawful.
+    /// Adds what a lawful line says.
     fn take_line(self, alloc: Global, arch: &[PinKind], line: &Line<'a>) -> Result<Self, AllocError>
         requires arch { length arch.now ≤ 1024 }
         requires lawful { said_fault arch.now self (shown line.now) ≡ None }
@@ -363,7 +363,7 @@ impl<'a> Seen<'a> {
         }
     }
 
-    /// Whether the whole text is lawful, whose lines are. Only to count the drivers of the nets needs memory.
+    /// Whether the whole text is lawful, given that its lines are. Only counting the drivers of the nets needs memory.
     fn check_end(&self, alloc: Global) -> Result<(), NetFault>
         ensures ok { OnOk result (end_fault self.now ≡ None) }
         ensures fault { IfErr result (λ e. FaultIs e (end_fault self.now)) }
@@ -375,7 +375,7 @@ impl<'a> Seen<'a> {
         check_drivers(&drivers, &self.pins)
     }
 
-    /// The design of what lawful lines have said.
+    /// The design that lawful lines have described.
     fn design(self, alloc: Global) -> Result<Design, AllocError>
         requires ready { IsReady self }
         requires lawful { end_fault self ≡ None }
@@ -395,7 +395,7 @@ impl<'a> Seen<'a> {
         Ok(Design::new(kinds, names, terminals, marks, nets, counts))
     }
 
-    /// The design of what lines have said, where the whole text is lawful.
+    /// The design that the lines have described, if the whole text is lawful.
     fn finish(self, alloc: Global) -> Result<Design, NetFault>
         requires { IsReady self }
         ensures sound { OnOk result (end_fault self.entry ≡ None) }
@@ -407,7 +407,7 @@ impl<'a> Seen<'a> {
     }
 }
 
-/// What all lines of a text say, where none has a fault.
+/// What all lines of a text say, if none has a fault.
 fn read<'a>(alloc: Global, bytes: &'a [u8], arch: &Arch) -> Result<Seen<'a>, NetFault>
     ensures said { IfOk result (λ r. r ≡ said arch.now.pins.items (lines bytes.now)) }
     ensures ready { IfOk result (λ r. IsReady r) }
@@ -429,14 +429,14 @@ fn read<'a>(alloc: Global, bytes: &'a [u8], arch: &Arch) -> Result<Seen<'a>, Net
     Ok(seen)
 }
 
-/// The design that a netlist text means, over an architecture, or the text's first fault: that of the first line
-/// with one, else that of the whole text.
+/// Reads the design that a netlist text means over an architecture, or returns the text's first fault: that of the
+/// first faulty line, else that of the whole text.
 pub fn read_net(alloc: Global, bytes: &[u8], arch: &Arch) -> Result<Design, NetFault>
     // What is read is what the lines mean.
     ensures found { IfOk result (λ d. IsNetlist arch.now.pins.items (lines bytes.now) d) }
     // What they mean is read, unless memory runs out.
     ensures only { (d : Netlist) → IsNetlist arch.now.pins.items (lines bytes.now) d → MatchResult result (λ r. r ≡ d) (λ e. e ≡ NoMemory) }
-    // An error is the first fault, or want of memory.
+    // An error is the first fault, or out of memory.
     ensures fault { IfErr result (λ e. FaultIs e (first_fault arch.now.pins.items (lines bytes.now))) }
 {
     let seen = read(alloc, bytes, arch)?;

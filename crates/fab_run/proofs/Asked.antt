@@ -54,7 +54,7 @@ least_one g h l p io_rat s t =
     ] in
     s.is_square ∙ ap (λ n. square n io_rat) same ∙ sym t.is_square
 
--- faults, each behind what is in order
+-- faults, each after the checks that pass
 
 pub design_run : (t : Texts) (o : Options) (e : RunFault) → IsDesignFault t.arch t.net e → IsRunFault t o e
 design_run t o (run_fault.Arch e) h = h

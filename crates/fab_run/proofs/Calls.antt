@@ -39,7 +39,7 @@ names_kept : (t : Texts) (ls : List Later) → last_names t ls ≡ with_names t 
 names_kept t [] = refl
 names_kept t (l ∷ ls) = names_kept (with_names t l.texts) ls
 
--- the place text shows the names alone
+-- of the texts, the place text depends only on the names
 place_named : (t u : Texts) (d : Netlist) (g : GridShape) (sites : List Site) (e : Ending) (old new : Option (List ℕ)) → t.net_label ≡ u.net_label → t.arch_label ≡ u.arch_label → IsPlaceOut t d g sites e old new → IsPlaceOut u d g sites e old new
 place_named t u d g sites Finished old new net arch p =
     subst (λ a. IsPlaceOut (record u { arch_label = a }) d g sites Finished old new) arch (subst (λ n. IsPlaceOut (record u { net_label = n; arch_label = t.arch_label }) d g sites Finished old new) net (record { text = p.text; back = p.back }))

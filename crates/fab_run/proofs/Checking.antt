@@ -83,7 +83,7 @@ design_text arch net run_fault.WorkersOutOfRange h = tt
 design_text arch net run_fault.Report h = absurd h
 design_text arch net run_fault.NoMemory h = tt
 
--- a fault of a placement text, behind its header
+-- a fault of a placement text, after its header
 pub placed : (arch net place : List ℕ) (io_rat : ℕ) (d : Netlist) (g : GridShape) (e : PlaceFault) → MeanDesign arch net io_rat d → g.io_rat ≡ io_rat → place_size_of (lines place) ≡ Some (g.nx, g.ny) → FitsOn d g → FaultIs e (first_fault d g (lines place)) → FaultOf arch net place (of_place e)
 placed arch net place io_rat d g place_fault.BadHeader m r s f h = (io_rat, d, m, inr (g, r, s, f, h))
 placed arch net place io_rat d g place_fault.WrongSize m r s f h = (io_rat, d, m, inr (g, r, s, f, h))

@@ -1,4 +1,4 @@
--- A run reads the list of its fixed blocks by block alone, so two lists that are read the same make the same pieces.
+-- A run reads the list of its fixed blocks only by block, so two lists that are read the same make the same pieces.
 use Rattle.std.proofs.Common.{◌≡◌, ℕ, zero, suc, ◌==◌, List, [], ◌∷◌, ◌++◌, length, filter, map, Option, Some, None, is_some, not, refl, sym, ap, subst, ◌∙◌, inl, inr}
 use Rattle.std.specs.Prelude.{◌/◌, ◌+◌, ◌-◌, if◌then◌else◌, slice_get, slice_index}
 use Rattle.std.specs.List.{count_by, range_with_len}
@@ -13,6 +13,7 @@ use Rattle.fab_site.specs.Placement.{IsLegal, at, fixed_at, same_site, site_of}
 use Rattle.fab_site.specs.Words.{pick_of}
 use Rattle.fab_site.specs.Start.{deal, logic_sites, pad_sites, sites_left, start_sites}
 use Rattle.fab_cost.specs.Cost.{cost_of}
+use Rattle.fab_dial.specs.declared.readings.Reading.{Reading}
 use Rattle.fab_move.specs.declared.proposals.Proposal.{Proposal}
 use Rattle.fab_move.specs.declared.proposals.Proposal.TheVariants.{Nothing, Void, Move}
 use Rattle.fab_move.specs.Judge.{Judged, judged, judged_as, problem}
@@ -21,6 +22,7 @@ use Rattle.fab_move.specs.Stream.{stream_moves}
 use Rattle.fab_sched.specs.Annealing.{Plan}
 use Rattle.fab_commit.specs.Commits.{run}
 use Rattle.fab_commit.specs.History.{accepted_from, is_redone}
+use Rattle.fab_commit.specs.Readings.{reading_at, readings, shown_after}
 use Rattle.fab_commit.specs.Serial.{Standing, accepted_among, after_move, from, judged_here, moves_left, numbers_if, one_if, or_zero, step}
 use Rattle.fab_commit.specs.Turns.{base_of, redone_in_run}
 use Rattle.fab_commit.specs.World.{accepted_now, clash}
@@ -31,12 +33,13 @@ use Rattle.fab_run.specs.Piece.{cost_at, end_line, line_here, stage_costs, stage
 use Rattle.fab_run.specs.Placed.{IsMade}
 use Rattle.fab_run.specs.RunReport.{stage_line}
 use Rattle.fab_run.specs.Setting.{Texts}
+use Rattle.fab_run.specs.Shown.{AreShown}
 
 -- two lists of given sites are read the same by block
 abbrev pub ReadTheSame : List (Option Site) → List (Option Site) → Type 0
 ReadTheSame f h = (b : ℕ) → fixed_at f b ≡ fixed_at h b
 
--- moves read the list of fixed blocks by block alone
+-- moves read the list of fixed blocks only by block
 
 held_same : (f h : List (Option Site)) (b : BlockId) (here to : Site) (o : Option BlockId) → ReadTheSame f h → propose_held f b here to o ≡ propose_held h b here to o
 held_same f h b here to None same = refl
@@ -139,6 +142,12 @@ redone_same d g w p f h x batch n same =
     λ i. λ k. is_redone_same d g w p f h x (base_of p.moves x.done batch k) k same i in
     ap (λ q. count_by q (range_with_len x.done n)) each
 
+readings_same : (d : Netlist) (g : GridShape) (w : ℕ → List ℕ) (p : Plan) (f h : List (Option Site)) (x : Standing) (batch n : ℕ) → ReadTheSame f h → readings (run d g f w p) x batch n ≡ readings (run d g h w p) x batch n
+readings_same d g w p f h x batch n same =
+    let each : (λ k. reading_at (run d g f w p) (from (run d g f w p) x k)) ≡ (λ k. reading_at (run d g h w p) (from (run d g h w p) x k)) =
+    λ i. λ k. reading_at (run d g h w p) (from_same d g w p f h x k same i) in
+    ap (λ q. map q (shown_after p.moves x.done batch n)) each
+
 -- a piece of a run of a design on an array, with these blocks fixed
 abbrev pub piece_at : Netlist → GridShape → List (Option Site) → ℕ → Plan → Standing → List ℕ → Option ℕ → Piece
 piece_at d g fixed seed plan x head stop = record { run = run d g fixed (stream_moves seed) plan; start = x; head = head; stop = stop }
@@ -200,4 +209,15 @@ are_redone_same d g f h seed p x head stop batch n same r =
       piece = piece_same d g w p f h x stop r.moves same r.piece;
       made = ap (λ (y : Standing). y.done) (sym (from_same d g w p f h x r.moves same)) ∙ r.made;
       count = r.count ∙ redone_same d g w p f h x batch r.moves same;
+    }
+
+pub are_shown_same : (d : Netlist) (g : GridShape) (f h : List (Option Site)) (seed : ℕ) (p : Plan) (x : Standing) (head : List ℕ) (stop : Option ℕ) (batch : ℕ) (old new : List Reading) → ReadTheSame f h
+    → AreShown (piece_at d g f seed p x head stop) batch old new → AreShown (piece_at d g h seed p x head stop) batch old new
+are_shown_same d g f h seed p x head stop batch old new same r =
+    let w = stream_moves seed in
+    record {
+      moves = r.moves;
+      piece = piece_same d g w p f h x stop r.moves same r.piece;
+      made = ap (λ (y : Standing). y.done) (sym (from_same d g w p f h x r.moves same)) ∙ r.made;
+      shown = r.shown ∙ ap (λ l. old ++ l) (readings_same d g w p f h x batch r.moves same);
     }

@@ -1,13 +1,15 @@
--- A piece answers one thing alone.
+-- A piece has only one answer.
 use Rattle.std.proofs.Common.{◌≡◌, ℕ, zero, suc, ◌==◌, ◌+◌, true, List, [], ◌∷◌, ◌++◌, Option, Some, None, is_some, refl, sym, ap, subst, ◌∙◌, inl, inr, arith}
 use Rattle.std.specs.Prelude.{◌/◌, if◌then◌else◌}
 use Rattle.std.proofs.lemmas.Bool.{false≢true}
 use Rattle.fab_arch.specs.Grid.{GridShape}
 use Rattle.fab_net.specs.Netlist.{Netlist}
+use Rattle.fab_dial.specs.declared.readings.Reading.{Reading}
 use Rattle.fab_move.specs.Stream.{stream_moves}
 use Rattle.fab_sched.specs.declared.schedules.Stage.{Stage}
 use Rattle.fab_commit.specs.declared.points.Point.{Point}
 use Rattle.fab_commit.specs.Points.{IsPoint, standing_at}
+use Rattle.fab_commit.specs.Readings.{readings}
 use Rattle.fab_commit.specs.Serial.{Run, Standing, accepted_among, accepted_here, from, judged_here, left_at, numbers_if, one_if, or_zero, stage_at, step}
 use Rattle.fab_commit.specs.Turns.{redone_in_run}
 use Rattle.fab_commit.proofs.Standings.{points_are_told_again}
@@ -20,6 +22,7 @@ use Rattle.fab_run.specs.PointMeaning.{IsSamePoint}
 use Rattle.fab_run.specs.RunReport.{stage_line}
 use Rattle.fab_run.specs.SameAnswers.{AreTheSame, Call, EndAlike}
 use Rattle.fab_run.specs.Setting.{Texts}
+use Rattle.fab_run.specs.Shown.{AreShown}
 use Rattle.fab_run.proofs.Pieces.{from_still, still}
 
 among_still : (r : Run) (x : Standing) (n : ℕ) → x.heat ≡ None → accepted_among r x n ≡ []
@@ -77,7 +80,7 @@ piece_once r x stop m n (inl s) (inr t) = not_both (from r x m).heat s.going (t.
 piece_once r x stop m n (inr s) (inl t) = not_both (from r x n).heat t.going (s.passed n t.here)
 piece_once r x stop m n (inr s) (inr t) = ends_same r x m n s.over t.over
 
--- a point is told by where its run stands
+-- the standing of a run determines its point
 
 stage_once : (d : Netlist) (g : GridShape) (p q : Point) → IsPoint d g p → IsPoint d g q → p.schedule ≡ q.schedule → standing_at p ≡ standing_at q → p.stage ≡ q.stage
 stage_once d g p q a b schedule stands =
@@ -153,3 +156,13 @@ redone_once p batch m n a b =
     let two = b.made in
     let same : a.moves ≡ b.moves = omega (arith, done, one, two) in
     a.count ∙ ap (redone_in_run p.run p.start batch) same ∙ sym b.count
+
+-- and the same readings are shown
+pub shown_once : (p : Piece) (batch : ℕ) (old a b : List Reading) → AreShown p batch old a → AreShown p batch old b → a ≡ b
+shown_once p batch old a b one two =
+    let e = piece_once p.run p.start p.stop one.moves two.moves one.piece two.piece in
+    let done = ap (λ (s : Standing). s.done) e.stands in
+    let first = one.made in
+    let second = two.made in
+    let same : one.moves ≡ two.moves = omega (arith, done, first, second) in
+    one.shown ∙ ap (λ n. old ++ readings p.run p.start batch n) same ∙ sym two.shown

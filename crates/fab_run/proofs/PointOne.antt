@@ -1,4 +1,4 @@
--- A checkpoint text that stands for a point has no fault, and stands for one point alone.
+-- A checkpoint text that stands for a point has no fault, and stands for only one point.
 use Rattle.std.proofs.Common.{◌≡◌, ◌⊎◌, ℕ, ◌<◌, ◌≤◌, Bool, true, false, cond, not, eqb, List, [], ◌∷◌, ◌++◌, Option, Some, None, length, get_or, map, replicate, set, take, drop, codes, zero, suc, refl, sym, ap, ◌∙◌, subst, arith, inl, inr}
 use Rattle.std.specs.Prelude.{option_map, Result, Ok, Err, IfOk, IfErr, MatchResult}
 use Rattle.std.specs.List.{AllByRecursion, list_any}
@@ -42,7 +42,7 @@ use Rattle.fab_run.proofs.PointParts.{end_by}
 use Rattle.fab_run.proofs.PointLists.{named_on, none_named}
 use Rattle.fab_run.proofs.PointWhole.{BehindHead, BehindNames, BehindStage}
 
--- a fault of a text lies behind what was read
+-- a fault of a text is after what was read
 
 due_through : {A : Type 0} (e : PointFault) (read : TextLine → Option A) (IsIn : A → Type 0) (B : A → List TextLine → Type 0) (ls : List TextLine) (a : A) (behind : List TextLine) → IsRead read IsIn ls a behind → DueFault e read B ls → B a behind
 due_through e read IsIn B ls a behind r h =
@@ -302,7 +302,7 @@ never_both io_rat d ls seed g p e law t h =
     let five = seats_through e d g p.placement.sites (EndFault e) t.place_part (t.last ∷ []) law (loose d g p.fixed p.placement.sites t.point.legal) t.says_places four in
     end_clear e t.last t.end five
 
--- one point alone
+-- only one point
 
 read_same : {A : Type 0} (read : TextLine → Option A) (I J : A → Type 0) (ls : List TextLine) (a b : A) (x y : List TextLine) → IsRead read I ls a x → IsRead read J ls b y → (a ≡ b) × (x ≡ y)
 read_same read I J ls a b x y r s =

@@ -7,7 +7,7 @@ use Rattle.fab_text.specs.FirstFault.{or_else, unless, fault_behind, fault_of_al
 use Rattle.fab_run.specs.declared.point_fault.PointFault.{PointFault}
 use Rattle.fab_run.specs.declared.point_fault.PointFault.TheVariants.{BadField}
 
--- the fault where so many lines are due and others are there
+-- the fault when `many` lines are due and another number of lines is there
 abbrev pub end_by : ℕ → List TextLine → Option PointFault
 end_by many there = unless (eqb (length there) many) (BadField 0)
 
@@ -86,7 +86,7 @@ taking_all of_line many all before left t =
       rest = sym (ap (drop many) t.text ∙ ap (λ n. drop n (before ++ left)) (sym t.long) ∙ drop_front before left);
     }
 
--- lines without a fault are as many as are due, and each has none behind those before it
+-- lines without a fault are as many as are due, and each has no fault after those before it
 
 pub or_none : {E : Type 0} (a b : Option E) → or_else a b ≡ None → (a ≡ None) × (b ≡ None)
 or_none None b h = (refl, h)

@@ -1,4 +1,4 @@
--- Lines of a checkpoint text that are written one behind the other.
+-- Lines of a checkpoint text that are written one after another.
 use Rattle.std.proofs.Common.{◌≡◌, ℕ, ◌+◌, ◌≤◌, true, false, cond, List, [], ◌∷◌, ◌++◌, Option, length, map, sym, ap, ◌∙◌, arith, append_assoc}
 use Rattle.std.specs.Prelude.{filter, is_some}
 use Rattle.std.specs.List.{flat_map, range_with_len}
@@ -49,6 +49,6 @@ fixed_same f fixed old text i h t = t ∙ ap (λ bs. old ++ flat_map ended (map 
 pub behind_first : (old first rest text more : List ℕ) → text ≡ old ++ first → more ≡ text ++ rest → more ≡ old ++ (first ++ rest)
 behind_first old first rest text more h k = k ∙ ap (λ x. x ++ rest) h ∙ append_assoc old first rest
 
--- four lines, one behind the other
+-- four lines, one after another
 pub four_pieces : (old a b c d t1 t2 t3 t4 : List ℕ) → t1 ≡ old ++ a → t2 ≡ t1 ++ b → t3 ≡ t2 ++ c → t4 ≡ t3 ++ d → t4 ≡ old ++ (a ++ (b ++ (c ++ (d ++ []))))
 four_pieces old a b c d t1 t2 t3 t4 h1 h2 h3 h4 = rw (h4, h3, h2, h1) (simp (append_assoc, append-nil))

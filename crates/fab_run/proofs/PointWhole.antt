@@ -19,7 +19,7 @@ use Rattle.fab_run.specs.PointFaults.{DueFault, EndFault, FaultBehind, FieldFaul
 use Rattle.fab_run.specs.PointReading.{HeadRead, HeatRead, IsAny, IsRead, NamesRead, SeatsRead, StageRead}
 use Rattle.fab_run.proofs.PointParts.{end_by}
 
--- a fault of what stands behind is one of the whole
+-- a fault of the rest is one of the whole
 
 line_map : {A : Type 0} (e : PointFault) (B C : A → List TextLine → Type 0) (n : ℕ) (ls : List TextLine) (o : Option A) → ((a : A) (xs : List TextLine) → B a xs → C a xs) → LineFault e B n ls o → LineFault e C n ls o
 line_map e B C n ls None f h = h
@@ -64,7 +64,7 @@ names_map e v d B C ls f h = field_map e (number_in (codes "fixed")) (λ n. n �
 pub seats_map : (e : PointFault) (d : Netlist) (g : GridShape) (B C : List TextLine → Type 0) (ls : List TextLine) → ((xs : List TextLine) → B xs → C xs) → SeatsFault e d g B ls → SeatsFault e d g C ls
 seats_map e d g B C ls f h = field_map e (number_in (codes "places")) (λ m. m ≡ length d.kinds) field.Places _ _ ls (λ m xs. list_map e (seat_fault d g) m B C xs f) h
 
--- a fault behind what was read
+-- a fault after what was read
 
 pub due_past : {A : Type 0} (e : PointFault) (read : TextLine → Option A) (IsIn : A → Type 0) (B : A → List TextLine → Type 0) (ls : List TextLine) (a : A) (behind : List TextLine) → IsRead read IsIn ls a behind → B a behind → DueFault e read B ls
 due_past e read IsIn B ls a behind r h =

@@ -26,11 +26,12 @@ use Rattle.fab_run.specs.Going.{Going, HasPoint}
 use Rattle.fab_run.specs.Piece.{head_text}
 use Rattle.fab_run.specs.Placed.{head_by, piece_by, piece_from, start_by}
 use Rattle.fab_run.specs.PointMeaning.{IsSamePoint, StandsForPoint}
-use Rattle.fab_run.specs.SameAnswers.{AnswersAreTold, AsksTheSame, RedoneIsTold, ResumedAreTold, ResumedRedoneIsTold}
+use Rattle.fab_run.specs.SameAnswers.{AnswersAreTold, AsksTheSame, RedoneIsTold, ResumedAreTold, ResumedRedoneIsTold, ShownIsTold}
 use Rattle.fab_run.specs.Setting.{AreStageMoves, ArePinned, IsAskedPlan, IsSetting, IsSized, Setting, Texts}
+use Rattle.fab_run.specs.Shown.{AreShown}
 use Rattle.fab_run.proofs.Asked.{least_one}
-use Rattle.fab_run.proofs.FixedAlike.{ReadTheSame, are_redone_same, made_same, piece_at, start_same}
-use Rattle.fab_run.proofs.MadeOnce.{IsMadeAlone, made_once, redone_once}
+use Rattle.fab_run.proofs.FixedAlike.{ReadTheSame, are_redone_same, are_shown_same, made_same, piece_at, start_same}
+use Rattle.fab_run.proofs.MadeOnce.{IsMadeAlone, made_once, redone_once, shown_once}
 use Rattle.fab_run.proofs.PointOne.{names_of_meaning, same}
 
 -- what an architecture text means is one thing
@@ -143,7 +144,7 @@ answers_are_told t o p a b asks one two =
     made_once t (piece_by u o.seed o.stop) a b first
     (made_same t u.design u.grid v.fixed u.fixed o.seed u.plan (start_by u o.seed) (head_by u o.seed) o.stop b.answer (Some []) (Some b.report) (Some []) (Some b.place) (λ n. sym (alike.fixed n)) second)
 
--- two points that are the same stand at one place
+-- two points that are the same are at one standing
 
 pub standing_same : (p q : Point) → IsSamePoint p q → standing_at p ≡ standing_at q
 standing_same p q s =
@@ -153,7 +154,7 @@ standing_same p q s =
     let total = s.total in
     λ i. standing_in (schedule i) (stage i) (placement i).sites (total i)
 
--- what a text stands for is one point, but for the list of fixed blocks
+-- a text stands for only one point, up to the list of fixed blocks
 
 pub record AreGoing (s u : Going) : Type 0 where
   pub design : s.design ≡ u.design
@@ -204,6 +205,19 @@ redone_is_told t o p a b m n asks batch one two first second =
     subst (λ q. AreRedone q o.batch n) (two.2 ∙ sym (piece_alike u v o.seed p.seed o.stop p.stop alike asks.seed asks.stop)) (subst (λ k. AreRedone b k n) (sym batch) second) in
     redone_once (piece_by u o.seed o.stop) o.batch m n here
     (are_redone_same u.design u.grid v.fixed u.fixed o.seed u.plan (start_by u o.seed) (head_by u o.seed) o.stop o.batch n (λ k. sym (alike.fixed k)) there)
+
+pub shown_is_told : ShownIsTold
+shown_is_told t o p old a b asks batch one two =
+    let u = one.1.0 in
+    let v = two.1.0 in
+    let is = one.1.2 in
+    let also = two.1.2 in
+    let alike = setting_once t o p u v asks one.1.1 two.1.1 in
+    let first : AreShown (piece_by u o.seed o.stop) o.batch old a = subst (λ q. AreShown q o.batch old a) is one.2 in
+    let second : AreShown (piece_at u.design u.grid v.fixed o.seed u.plan (start_by u o.seed) (head_by u o.seed) o.stop) o.batch old b =
+    subst (λ q. AreShown q o.batch old b) (also ∙ sym (piece_alike u v o.seed p.seed o.stop p.stop alike asks.seed asks.stop)) (subst (λ k. AreShown two.0 k old b) (sym batch) two.2) in
+    shown_once (piece_by u o.seed o.stop) o.batch old a b first
+    (are_shown_same u.design u.grid v.fixed u.fixed o.seed u.plan (start_by u o.seed) (head_by u o.seed) o.stop o.batch old b (λ k. sym (alike.fixed k)) second)
 
 pub resumed_redone_is_told : ResumedRedoneIsTold
 resumed_redone_is_told t point batch workers other_workers stop a b m n one two first second =

@@ -1,19 +1,16 @@
 -- What the turns of a piece show.
-use Rattle.std.proofs.Common.{◌≡◌, ℕ, ◌+◌, ◌-◌, ◌<◌, ◌≤◌, ◌⊎◌, min, List, [], ◌∷◌, ◌++◌, Ok, Option, Some, true, is_some, refl, sym, ap, subst, ◌∙◌, arith, inl, inr}
-use Rattle.std.specs.Prelude.{Result, Err, OnOk, OnErr}
+use Rattle.std.proofs.Common.{◌≡◌, ℕ, ◌+◌, ◌-◌, ◌<◌, ◌≤◌, ◌⊎◌, min, List, [], ◌∷◌, ◌++◌, Ok, Option, sym, ap, subst, ◌∙◌, arith, inl, inr}
+use Rattle.std.specs.Prelude.{Err, OnOk, OnErr}
 use Rattle.std.proofs.lemmas.List.{append-nil}
-use Rattle.std.specs.declared.alloc.AllocError.{AllocError}
 use Rattle.fab_dial.specs.declared.readings.Reading.{Reading}
 use Rattle.fab_commit.specs.declared.turns.Turn.{Turn}
 use Rattle.fab_commit.specs.Serial.{Run, Standing, from, moves_left}
 use Rattle.fab_commit.specs.Commits.{AnnealOf, run_of}
-use Rattle.fab_commit.specs.Readings.{HasShown, IsShown, IsTurnEnd, reading_at, readings}
+use Rattle.fab_commit.specs.Readings.{HasShown, IsShown, reading_at, readings}
 use Rattle.fab_commit.specs.Turned.{IsTurned}
-use Rattle.fab_commit.proofs.Showing.{cut_first, shown_behind, shown_first, shown_on}
+use Rattle.fab_commit.proofs.Showing.{cut_first, shown_behind, shown_on}
 use Rattle.fab_run.specs.Ends.{IsPiece, IsWithin, Piece}
 use Rattle.fab_run.specs.Shown.{AreShown, AreShownBegun, AreShownInPart, EndsShown, HaveShown, HaveShownInPart, LeadsShown, LeadsShownWithin}
-use Rattle.fab_run.specs.declared.fault.RunFault.{RunFault}
-use Rattle.fab_run.specs.declared.inputs.Outcome.{Outcome}
 use Rattle.fab_run.proofs.Lifting.{Answered}
 use Rattle.fab_run.proofs.Whole.{none_within, within_by}
 
@@ -67,7 +64,7 @@ shown_all r batch x before y now has = (let done = has.done in has.shown ∙ ap 
 pub ends_leads : (r : Run) (batch : ℕ) (a b : Standing) (old new : List Reading) → LeadsShown r batch a b old new → EndsShown r batch a b old new
 ends_leads r batch a b old new leads = record { on = λ x before has. shown_all r batch x before b new (leads.on x before has) }
 
--- what was shown from x, where it went on to at most so many moves behind y, none of them past the stop
+-- what was shown from x up to at most `most` moves after y, none of them past the stop
 pub begun_within : (r : Run) (batch : ℕ) (x : Standing) (before : List Reading) (y : Standing) (now : List Reading) (most : ℕ) (stop : Option ℕ) (new : List Reading)
     → HasShown r batch x before y now → LeadsShownWithin r batch y most now new → IsWithin r x stop (y.done - x.done + most) → AreShownBegun r x stop batch before new
 begun_within r batch x before y now most stop new has within far =
@@ -78,6 +75,7 @@ begun_within r batch x before y now most stop new has within far =
     record {
       moves = there.count;
       within = λ m here going. (let low = far m here going in omega (arith, low, near, done, was));
+      made = ap (λ (z : Standing). z.done) (sym there.stands) ∙ done;
       end = there.end;
       shown = there.shown;
     }
@@ -88,20 +86,22 @@ none_shown p batch old =
     record {
       moves = 0;
       within = none_within p.run p.start p.stop;
+      made = omega arith;
       end = inl (cut_first p.run.plan.moves p.start.done batch);
       shown = sym (append-nil old);
     }
 
 pub part_begun : (p : Piece) (batch : ℕ) (old new : List Reading) → AreShownBegun p.run p.start p.stop batch old new → AreShownInPart p batch old new
-part_begun p batch old new begun = record { moves = begun.moves; within = begun.within; end = inl begun.end; shown = begun.shown }
+part_begun p batch old new begun = record { moves = begun.moves; within = begun.within; made = begun.made; end = inl begun.end; shown = begun.shown }
 
 pub part_whole : (p : Piece) (batch : ℕ) (old new : List Reading) → AreShown p batch old new → AreShownInPart p batch old new
 part_whole p batch old new shown =
-    record { moves = shown.moves; within = within_by p.run p.start p.stop shown.moves shown.piece; end = inr shown.piece; shown = shown.shown }
+    record { moves = shown.moves; within = within_by p.run p.start p.stop shown.moves shown.piece; made = shown.made; end = inr shown.piece; shown = shown.shown }
 
-pub whole_shown : (p : Piece) (batch count done : ℕ) (old new : List Reading) → IsPiece p.run p.start p.stop count → done ≡ p.start.done + count → new ≡ old ++ readings p.run p.start batch (done - p.start.done) → AreShown p batch old new
-whole_shown p batch count done old new piece is shown =
-    record { moves = count; piece = piece; shown = shown ∙ ap (λ n. old ++ readings p.run p.start batch n) (omega (arith, is)) }
+pub whole_shown : (p : Piece) (batch count : ℕ) (y : Standing) (old new : List Reading) → IsPiece p.run p.start p.stop count → y ≡ from p.run p.start count → y.done ≡ p.start.done + count
+    → new ≡ old ++ readings p.run p.start batch (y.done - p.start.done) → AreShown p batch old new
+whole_shown p batch count y old new piece stands is shown =
+    record { moves = count; piece = piece; made = ap (λ (z : Standing). z.done) (sym stands) ∙ is; shown = shown ∙ ap (λ n. old ++ readings p.run p.start batch n) (omega (arith, is)) }
 
 -- said of the piece that is asked for
 pub shown_asked : (Asked : Piece → Type 0) (p : Piece) (batch : ℕ) (r : Answered) (old new : List Reading) → Asked p → OnOk r (AreShown p batch old new) → OnOk r (HaveShown Asked batch old new)

@@ -39,11 +39,11 @@ turn_makes_all r q x y made size count same there low part =
     let rest = left_from r x made (omega (arith, low, part)) in
     omega (arith, here, rest, low, part)
 
--- what is judged again behind turns of one batch
+-- what is judged again after turns of one batch
 pub counted_by_turns : {W : Type 0} (r : Run) (batch : ℕ) (a b : AnnealOf W) → 0 < r.plan.moves → LeadsByTurns r batch a b → AreCountedOn r batch a b
 counted_by_turns r batch a b pos turns = record { on = λ x by. redone_by_turns r x batch b pos (turns.on x by) }
 
--- and behind a shorter turn
+-- and after a shorter turn
 pub counted_behind : {W : Type 0} (moves : W → ℕ → List ℕ) (r : Run) (batch short : ℕ) (a y z : AnnealOf W) (t : Turn) → 0 < r.plan.moves → short ≤ batch → run_of moves y ≡ r
     → LeadsByTurns r batch a y → IsTurned moves short y z (Ok t) → AreCountedOn r batch a z
 counted_behind moves r batch short a y z t pos low same turns turned =

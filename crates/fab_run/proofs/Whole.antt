@@ -32,7 +32,7 @@ begins_head [] ys (suc k) = (0, refl, λ h. absurd (omega (arith, h)))
 begins_head (x ∷ xs) ys zero = (0, refl, λ h. omega arith)
 begins_head (x ∷ xs) ys (suc k) = (let r = begins_head xs ys k in let more = r.2 in (suc r.0, ap (λ l. x ∷ l) r.1, λ h. (let less = more (omega (arith, h)) in omega (arith, less))))
 
--- so much went out of the report of so many moves, which is not all of it under this premise
+-- the first j bytes of the report of n moves were written, which is not all of it under the premise P
 abbrev IsToldTo : Type 0 → Piece → Option (List ℕ) → Option (List ℕ) → Type 0
 IsToldTo P p old new = (n : ℕ) × (j : ℕ) × IsWithin p.run p.start p.stop n × Appends old new (take j (piece_report p n)) × (P → j < length (piece_report p n))
 
@@ -172,7 +172,7 @@ redone_piece a b head stop batch costs0 costs mid more fresh made (Ok out) count
       count = count ∙ made.counted.on a.standing (by_no_turn r batch a fresh.ahead fresh.swaps fresh.redone) ∙ ap (redone_in_run r a.standing batch) all;
     }
 
--- a fault of the report alone leaves the writer of the place text as it was
+-- a fault of only the report leaves the writer of the place text as it was
 pub no_place : (old new : ℕ) (e : RunFault) → IsReportFault old new e → e ≡ Place Write → ⊥
 no_place old new e (inl h) q = (let k : NoMemory ≡ Place Write = sym h.0 ∙ q in absurd cc)
 no_place old new e (inr h) q = (let k : Report ≡ Place Write = sym h.0 ∙ q in absurd cc)

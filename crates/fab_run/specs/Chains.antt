@@ -1,4 +1,4 @@
--- Pieces of a run, one after another (our own): each goes on from where the one before stopped, and the last one ends the run.
+-- Pieces of a run (our own): each goes on from where the one before stopped, and the last one ends the run.
 use Rattle.std.specs.Prelude.{ℕ, ◌≡◌, List, [], ◌∷◌, ◌++◌, Option, None, drop}
 use Rattle.fab_text.specs.Lines.{lines}
 use Rattle.fab_net.specs.Netlist.{Netlist}
@@ -16,7 +16,7 @@ use Rattle.fab_run.specs.PointMeaning.{StandsForPoint}
 use Rattle.fab_run.specs.SameAnswers.{Call, IsCalled}
 use Rattle.fab_run.specs.Setting.{Texts}
 
--- pieces with these stops have so many moves each; the last one ends the run
+-- pieces with these stops have these numbers of moves; the last one ends the run
 abbrev pub IsChain : Run → Standing → List (Option ℕ) → List ℕ → Type 0
 IsChain r x [] ns = ⊥
 IsChain r x (stop ∷ stops) [] = ⊥
@@ -24,17 +24,17 @@ IsChain r x (stop ∷ []) (n ∷ []) = EndsAfter r x stop n
 IsChain r x (stop ∷ []) (n ∷ m ∷ ns) = ⊥
 IsChain r x (stop ∷ next ∷ stops) (n ∷ ns) = StopsAfter r x stop n × IsChain r (from r x n) (next ∷ stops) ns
 
--- where pieces of so many moves lead
+-- where pieces of these numbers of moves lead
 abbrev pub chain_end : Run → Standing → List ℕ → Standing
 chain_end r x [] = x
 chain_end r x (n ∷ ns) = chain_end r (from r x n) ns
 
--- what they accept, joined
+-- the moves that they accept, joined
 abbrev pub chain_accepted : Run → Standing → List ℕ → List ℕ
 chain_accepted r x [] = []
 chain_accepted r x (n ∷ ns) = accepted_among r x n ++ chain_accepted r (from r x n) ns
 
--- the lines that they tell, joined: of the stages that end in each, and at the end the last line
+-- the lines that they report, joined: those of the stages that end in each, and the last line at the end
 abbrev pub chain_lines : Run → Standing → List ℕ → List ℕ
 chain_lines r x [] = []
 chain_lines r x (n ∷ ns) = (stage_lines r x n ++ end_line r (from r x n)) ++ chain_lines r (from r x n) ns
@@ -44,7 +44,7 @@ abbrev pub chain_costs : Run → Standing → List ℕ → List ℕ
 chain_costs r x [] = []
 chain_costs r x (n ∷ ns) = stage_costs r x n ++ chain_costs r (from r x n) ns
 
--- what the unbroken run from here has after n moves is what the pieces have
+-- the unbroken run from here has, after n moves, what the pieces have
 pub record IsUnbroken (r : Run) (x : Standing) (ns : List ℕ) (n : ℕ) : Type 0 where
   pub over : IsOver r x n
   pub end : chain_end r x ns ≡ from r x n
@@ -62,7 +62,7 @@ pub record IsTextOfPoint (t : Texts) (seed : ℕ) (q : Point) (text : List ℕ) 
   pub mean : MeanDesign t.arch t.net q.placement.grid.io_rat design
   pub stands : StandsForPoint q.placement.grid.io_rat design (lines text) seed q.placement.grid q
 
--- a later call of a chain: its texts, and the numbers that it is given
+-- a later call of a chain: its texts and its numbers
 pub record Later : Type 0 where
   pub texts : Texts
   pub point : List ℕ
@@ -71,8 +71,8 @@ pub record Later : Type 0 where
   pub stop : Option ℕ
   pub call : Call
 
--- the call goes on with the same architecture and netlist, from a text of the point where the one before stopped; the names that its
--- place text shows are its own
+-- the call goes on with the same architecture and netlist, from a text of the point where the one before stopped; its place text shows its
+-- own file names
 pub record GoesOnFrom (t : Texts) (seed : ℕ) (q : Point) (l : Later) : Type 0 where
   pub arch : l.texts.arch ≡ t.arch
   pub net : l.texts.net ≡ t.net
@@ -83,13 +83,13 @@ abbrev pub GoesOn : Texts → ℕ → Ending → Later → Type 0
 GoesOn t seed Finished l = ⊥
 GoesOn t seed (Stopped q) l = GoesOnFrom t seed q l
 
--- after this call come others, each from where the one before stopped, and the last one ends the run
+-- other calls follow this one, each from where the one before stopped, and the last one ends the run
 abbrev pub AreCalls : Texts → ℕ → Call → List Later → Type 0
 AreCalls t seed c [] = c.answer.ending ≡ Finished
 AreCalls t seed c (l ∷ ls) = GoesOn t seed c.answer.ending l × AreCalls l.texts seed l.call ls
 
--- two calls as one: what they accept and report is joined, and so are their costs, without the first cost of the second call, which is
--- that at its start; the second has the ending, the placement and the place text
+-- two calls as one: the accepted moves and the reports are joined, and so are the costs, without the first cost of the second call, which
+-- is that at its start; ending, placement and place text are those of the second call
 abbrev pub then : Call → Call → Call
 then a b =
     record {
@@ -108,7 +108,7 @@ abbrev pub joined : Call → List Later → Call
 joined c [] = c
 joined c (l ∷ ls) = then c (joined l.call ls)
 
--- the texts of the first call, with the names that the last one's place text shows
+-- the texts of the first call, with the names that the place text of the last call shows
 abbrev pub with_names : Texts → Texts → Texts
 with_names t u = record t { net_label = u.net_label; arch_label = u.arch_label }
 
@@ -120,12 +120,12 @@ last_names t (l ∷ ls) = last_names (with_names t l.texts) ls
 abbrev pub unstopped : Options → Options
 unstopped o = record o { stop = None }
 
--- calls one after another are what one call without a stop answers and writes, whatever their stops, batches and workers
+-- calls one after another answer and write what one call without a stop does, whatever their stops, batches and workers
 abbrev pub CallsAreRuns : Type 0
 CallsAreRuns = (t : Texts) (o : Options) (c : Call) (ls : List Later) → IsCalled (AskFor t o) t c → AreCalls t o.seed c ls
     → IsCalled (AskFor (last_names t ls) (unstopped o)) (last_names t ls) (joined c ls)
 
--- and calls that begin with one from a checkpoint text are one such call without a stop
+-- calls that begin with one from a checkpoint text are, in the same way, one such call without a stop
 abbrev pub ResumedCallsAreRuns : Type 0
 ResumedCallsAreRuns =
     (t : Texts) (point : List ℕ) (batch workers : ℕ) (stop : Option ℕ) (s : Going) (c : Call) (ls : List Later) → HasPoint t point s → IsCalled (AskToGoOn t point batch workers stop) t c → AreCalls t s.seed c ls

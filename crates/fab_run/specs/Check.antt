@@ -23,7 +23,7 @@ use Rattle.fab_run.specs.declared.fault.RunFault.{RunFault}
 use Rattle.fab_run.specs.declared.fault.RunFault.TheVariants.{Arch, Net, Place, Point, Size, Report, NoMemory}
 use Rattle.fab_run.specs.CheckReport.{check_report}
 
--- the two texts mean this design, and that a position of the array takes so many pads (the io_rat)
+-- the two texts mean this design, and `io_rat` pads at each position of the array
 pub record MeanDesign (arch net : List ℕ) (io_rat : ℕ) (d : Netlist) : Type 0 where
   pub pins : List PinKind
   pub architecture : IsArch (lines arch) io_rat pins
@@ -34,7 +34,7 @@ pub record GiveArray (arch net place : List ℕ) (d : Netlist) (g : GridShape) :
   pub design : MeanDesign arch net g.io_rat d
   pub size : place_size_of (lines place) ≡ Some (g.nx, g.ny)
 
--- there is such an array, and the design finds its sites on it
+-- the size of the array is within its limits, and the design fits on it
 pub record FitsOn (d : Netlist) (g : GridShape) : Type 0 where
   pub limits : AreLimits g.nx g.ny g.io_rat
   pub holds : Holds g (logic_count d) (pad_count d)
@@ -45,28 +45,27 @@ pub record AreChecked (arch net place : List ℕ) (d : Netlist) (g : GridShape) 
   pub fits : FitsOn d g
   pub stands : StandsFor d g (lines place) sites
 
--- the first that is wrong with a size
+-- the first fault of a size
 abbrev pub IsSizeFault : Netlist → GridShape → GridFault → Type 0
 IsSizeFault d g SizeOutOfRange = ¬ AreLimits g.nx g.ny g.io_rat
 IsSizeFault d g TooFewLogicSites = AreLimits g.nx g.ny g.io_rat × (¬ HasLogicSites g (logic_count d))
 IsSizeFault d g TooFewPadSites = AreLimits g.nx g.ny g.io_rat × HasLogicSites g (logic_count d) × (¬ HasPadSites g (pad_count d))
 
--- a fault of the placement text, where the other two mean this design: in its header, or behind it where the array that
--- the header gives holds the design
+-- a fault of the placement text, when the other two mean this design: in its header, or after it if the array that the header gives holds
+-- the design
 abbrev pub IsPlaceFault : List ℕ → Netlist → ℕ → PlaceFault → Type 0
 IsPlaceFault place d io_rat e =
     (size_fault (place_size_of (lines place)) ≡ Some e)
     ⊎ ((g : GridShape) × (g.io_rat ≡ io_rat) × (place_size_of (lines place) ≡ Some (g.nx, g.ny)) × FitsOn d g × (first_place_fault d g (lines place) ≡ Some e))
 
--- the fault of an architecture text, or of a netlist behind it
+-- the first fault of an architecture text, or of the netlist that follows it
 abbrev pub IsDesignFault : List ℕ → List ℕ → RunFault → Type 0
 IsDesignFault arch net (Arch e) = first_arch_fault (lines arch) ≡ Some e
 IsDesignFault arch net (Net e) = (io_rat : ℕ) × (pins : List PinKind) × IsArch (lines arch) io_rat pins × (first_net_fault pins (lines net) ≡ Some e)
 IsDesignFault arch net NoMemory = Unit {0}
 IsDesignFault arch net e = ⊥
 
--- the first check that fails; a report that cannot be written is told of checked texts alone, and want of memory may come
--- for any texts
+-- the first check that fails; a report that cannot be written is told only if the texts pass, and memory may run out for any texts
 abbrev pub FaultOf : List ℕ → List ℕ → List ℕ → RunFault → Type 0
 FaultOf arch net place (Arch e) = IsDesignFault arch net (Arch e)
 FaultOf arch net place (Net e) = IsDesignFault arch net (Net e)
@@ -76,7 +75,7 @@ FaultOf arch net place Report = (d : Netlist) × (g : GridShape) × (sites : Lis
 FaultOf arch net place NoMemory = Unit {0}
 FaultOf arch net place e = ⊥
 
--- the texts are checked, and this is the cost and the report
+-- the texts pass every check, and this is the cost and the report
 pub record IsReport (arch net place : List ℕ) (cost : ℕ) (report : List ℕ) : Type 0 where
   pub design : Netlist
   pub grid : GridShape
@@ -85,11 +84,11 @@ pub record IsReport (arch net place : List ℕ) (cost : ℕ) (report : List ℕ)
   pub value : cost ≡ cost_of design grid sites
   pub text : report ≡ check_report (length design.kinds) grid cost
 
--- what went out is the report
+-- what was written is the report
 abbrev pub IsReported : List ℕ → List ℕ → List ℕ → ℕ → Option (List ℕ) → Option (List ℕ) → Type 0
 IsReported arch net place cost old new = (report : List ℕ) × IsReport arch net place cost report × Appends old new report
 
--- what went out is a beginning of the report, and not all of it
+-- what was written is a beginning of the report, but not all of it
 abbrev pub IsCut : List ℕ → List ℕ → List ℕ → Option (List ℕ) → Option (List ℕ) → Type 0
 IsCut arch net place old new = (cost : ℕ) × (report : List ℕ) × IsReport arch net place cost report × (n : ℕ) × (n < length report) × Appends old new (take n report)
 
@@ -100,7 +99,7 @@ IsTextFault (Point PointWrite) = ⊥
 IsTextFault Report = ⊥
 IsTextFault e = Unit {0}
 
--- how often a report's writer has failed, where a check or a run ended with a fault: once more only where the fault says so
+-- how often the writer of the report has failed, after a check or a run that ended with this fault: once more only if the fault says so
 abbrev pub report_failed_with : RunFault → ℕ → ℕ
 report_failed_with Report n = grown n
 report_failed_with e n = n

@@ -1,4 +1,4 @@
--- A piece of a run (our own): from where it stands to a stop, or to the end of the run. The moves are made one at a time.
+-- A piece of a run (our own): from where it begins to a stop, or to the end of the run. The moves are made one at a time.
 use Rattle.std.specs.Prelude.{ℕ, ◌≡◌, ◌+◌, ◌≤◌, ◌⊎◌, true, List, ◌++◌, Option, Some, None, is_some, take}
 use Rattle.std.specs.Io.KnownBytes.{Appends}
 use Rattle.fab_site.specs.Placement.{IsLegal, PlacementOf, fixed_at}
@@ -13,7 +13,7 @@ use Rattle.fab_run.specs.declared.inputs.Ending.TheVariants.{Finished, Stopped}
 use Rattle.fab_run.specs.declared.inputs.Outcome.{Outcome}
 use Rattle.fab_run.specs.Piece.{IsOver, end_line, run_costs, stage_lines}
 
--- a piece that is asked for
+-- a requested piece
 pub record Piece : Type 0 where
   pub run : Run
   pub start : Standing  -- where it begins
@@ -25,7 +25,8 @@ pub record StopsAfter (r : Run) (x : Standing) (stop : Option ℕ) (n : ℕ) : T
   pub here : stop ≡ Some (x.done + n)
   pub going : is_some (from r x n).heat ≡ true
 
--- after n moves no move is left, and the piece met no stop: one before its beginning is passed, and so is one that no move follows
+-- after n moves no move is left, and the piece met no stop: a stop before its beginning is ignored, and so is one after which no move is
+-- left
 pub record EndsAfter (r : Run) (x : Standing) (stop : Option ℕ) (n : ℕ) : Type 0 where
   pub over : IsOver r x n
   pub passed : (m : ℕ) → stop ≡ Some (x.done + m) → IsOver r x m
@@ -34,27 +35,27 @@ pub record EndsAfter (r : Run) (x : Standing) (stop : Option ℕ) (n : ℕ) : Ty
 abbrev pub IsPiece : Run → Standing → Option ℕ → ℕ → Type 0
 IsPiece r x stop n = StopsAfter r x stop n ⊎ EndsAfter r x stop n
 
--- where the piece stands after n moves
+-- the standing of the piece after n moves
 abbrev pub piece_end : Piece → ℕ → Standing
 piece_end p n = from p.run p.start n
 
--- its report after n moves: the lines of the stages that ended, and the last line where no move is left
+-- its report after n moves: the lines of the stages that ended, and the last line if no move is left
 unfoldable pub piece_report : Piece → ℕ → List ℕ
 piece_report p n = p.head ++ (stage_lines p.run p.start n ++ end_line p.run (piece_end p n))
 
--- the point is that of a run which stands so: a later piece goes on from it
+-- the point is that of a run at this standing: a later piece goes on from it
 pub record IsPointAt (r : Run) (x : Standing) (q : Point) : Type 0 where
   pub stands : standing_at q ≡ x
   pub schedule : q.schedule ≡ r.plan
   pub fixed : (b : ℕ) → fixed_at q.fixed b ≡ fixed_at r.problem.fixed b
   pub lawful : IsPoint r.problem.design r.problem.grid q
 
--- a piece that ends at a standing ends so: finished where no move is left, else with the point there
+-- how a piece that ends at a standing ends: finished if no move is left, else with the point there
 abbrev pub EndsAs : Run → Standing → Ending → Type 0
 EndsAs r x Finished = x.heat ≡ None
 EndsAs r x (Stopped q) = IsPointAt r x q
 
--- what a run answers, beside the number of moves that were judged again
+-- what a run answers, except the number of moves that were judged again
 pub record Answer : Type 0 where
   pub ending : Ending
   pub placement : PlacementOf
@@ -74,32 +75,32 @@ pub record IsAnnealed (p : Piece) (n : ℕ) (a : Answer) : Type 0 where
   pub numbers : a.accepted ≡ accepted_among p.run p.start n
   pub values : a.costs ≡ run_costs p.run p.start n
 
--- the piece answers this, and what went out is its report
+-- the piece answers this, and what was written is its report
 pub record IsToldPiece (p : Piece) (a : Answer) (old new : Option (List ℕ)) : Type 0 where
   pub moves : ℕ
   pub annealed : IsAnnealed p moves a
   pub report : Appends old new (piece_report p moves)
 
--- so many moves of the piece are judged again, with turns of this batch
+-- this many moves of the piece are judged again, in turns of this batch
 pub record AreRedone (p : Piece) (batch redone : ℕ) : Type 0 where
   pub moves : ℕ
   pub piece : IsPiece p.run p.start p.stop moves
   pub made : (piece_end p moves).done ≡ p.start.done + moves
   pub count : redone ≡ redone_in_run p.run p.start batch moves
 
--- what went out is a beginning of a text
+-- what was written is a beginning of a text
 abbrev pub IsBegun : Option (List ℕ) → Option (List ℕ) → List ℕ → Type 0
 IsBegun old new text = (k : ℕ) × Appends old new (take k text)
 
--- n moves from here do not pass the stop: one that is met, since moves are left there
+-- n moves from here do not go past the stop, if it is met: if moves are left there
 abbrev pub IsWithin : Run → Standing → Option ℕ → ℕ → Type 0
 IsWithin r x stop n = (m : ℕ) → stop ≡ Some (x.done + m) → is_some (from r x m).heat ≡ true → n ≤ m
 
--- what went out is a beginning of the report of some moves of the piece
+-- what was written is a beginning of the report of some moves of the piece
 abbrev pub IsReportOf : Piece → Option (List ℕ) → Option (List ℕ) → Type 0
 IsReportOf p old new = (n : ℕ) × IsWithin p.run p.start p.stop n × IsBegun old new (piece_report p n)
 
--- what went out is a beginning of it, and not all
+-- what was written is a beginning of it, but not all of it
 abbrev pub IsReportCutOf : Piece → Option (List ℕ) → Option (List ℕ) → Type 0
 IsReportCutOf p old new = (n : ℕ) × IsWithin p.run p.start p.stop n × IsCut (piece_report p n) old new
 

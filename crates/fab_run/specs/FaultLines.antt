@@ -1,5 +1,5 @@
--- The line that tells of a fault (our own): `vplace: `, the role of what is at fault, the fault's code and name, and its detail: a line, a block, a
--- field or a name. Want of memory, and a writer that failed, are told in words.
+-- The line that reports a fault (our own): `vplace: `, the role of the faulty input, the fault's code and name, and its detail: a line, a
+-- block, a field or a name. A lack of memory, and a writer that failed, are told in words.
 use Rattle.std.specs.Prelude.{ℕ, ◌≡◌, nat_le, List, [], ◌++◌, Option, Some, None, if◌then◌else◌, length, codes, refl}
 use Rattle.std.specs.Fmt.{digits}
 use Rattle.fab_text.specs.declared.pieces.Span.{Span}
@@ -38,14 +38,14 @@ run_fault_text WorkersOutOfRange = codes "option: O2 WorkersOutOfRange"
 run_fault_text Report = codes "cannot write report"
 run_fault_text NoMemory = codes "no memory"
 
--- the place in the netlist text of the name that a fault is told with
+-- the span, in the netlist text, of the name that the line of a fault shows
 abbrev pub named_place : RunFault → Option Span
 named_place (Net (MissingPinlist span)) = Some span
 named_place (Net (NoDriver span)) = Some span
 named_place (Net (TwoDrivers span)) = Some span
 named_place fault = None
 
--- the bytes of a place; a place that does not lie in the text has none
+-- the bytes of a span; none if the span is not within the text
 abbrev pub named_bytes : List ℕ → Span → List ℕ
 named_bytes net span = if nat_le span.stop (length net) then bytes_at net span else []
 
@@ -53,7 +53,7 @@ abbrev pub name_text : Option Span → List ℕ → List ℕ
 name_text None net = []
 name_text (Some span) net = codes " name " ++ named_bytes net span
 
--- the line of a fault, whose spans are places in this netlist text
+-- the line of a fault, whose spans are within this netlist text
 abbrev pub fault_line : RunFault → List ℕ → List ℕ
 fault_line fault net = codes "vplace: " ++ run_fault_text fault ++ name_text (named_place fault) net
 

@@ -1,4 +1,4 @@
--- What a resumed run goes on with (our own), and which of its checks fails first: in the order architecture, netlist, checkpoint text,
+-- What a resumed run starts from (our own), and which of its checks fails first: in the order architecture, netlist, checkpoint text,
 -- labels, batch, workers.
 use Rattle.std.specs.Prelude.{ℕ, ◌≡◌, false, true, List}
 use Rattle.fab_text.specs.Lines.{lines}
@@ -27,22 +27,22 @@ pub record HasPoint (t : Texts) (point : List ℕ) (s : Going) : Type 0 where
   pub mean : MeanDesign t.arch t.net s.grid.io_rat s.design
   pub stands : StandsForPoint s.grid.io_rat s.design (lines point) s.seed s.grid s.point
 
--- all is in order, and means this
+-- every check passes, and the texts mean this
 pub record IsGoing (t : Texts) (point : List ℕ) (batch workers : ℕ) (s : Going) : Type 0 where
   pub text : HasPoint t point s
   pub labels : are_labels t.net_label t.arch_label ≡ true
   pub batch_fits : Within 4096 batch
   pub workers_fit : Within 64 workers
 
--- the texts are in order
+-- the texts pass their checks
 abbrev pub HasSomePoint : Texts → List ℕ → Type 0
 HasSomePoint t point = (s : Going) × HasPoint t point s
 
--- texts, labels and numbers are in order
+-- texts, labels and numbers pass their checks
 abbrev pub MayGoOn : Texts → List ℕ → ℕ → ℕ → Type 0
 MayGoOn t point batch workers = (s : Going) × IsGoing t point batch workers s
 
--- the first fault of the texts, or want of memory to read them
+-- the first fault of the texts, or a lack of memory to read them
 abbrev pub IsGoingTextFault : Texts → List ℕ → RunFault → Type 0
 IsGoingTextFault t point (Arch e) = IsDesignFault t.arch t.net (Arch e)
 IsGoingTextFault t point (Net e) = IsDesignFault t.arch t.net (Net e)
@@ -50,15 +50,15 @@ IsGoingTextFault t point (PointRole e) = (io_rat : ℕ) × (d : Netlist) × Mean
 IsGoingTextFault t point NoMemory = Unit {0}
 IsGoingTextFault t point e = ⊥
 
--- the first that is wrong behind the texts
+-- the first check after the texts that fails
 abbrev pub IsGoingNumberFault : Texts → ℕ → ℕ → RunFault → Type 0
 IsGoingNumberFault t batch workers (Place BadLabel) = are_labels t.net_label t.arch_label ≡ false
 IsGoingNumberFault t batch workers BatchOutOfRange = (are_labels t.net_label t.arch_label ≡ true) × IsThreadFault batch workers BatchOutOfRange
 IsGoingNumberFault t batch workers WorkersOutOfRange = (are_labels t.net_label t.arch_label ≡ true) × IsThreadFault batch workers WorkersOutOfRange
 IsGoingNumberFault t batch workers e = ⊥
 
--- the first check that fails; a report or a place text that cannot be written is told where none fails, and want of memory may come
--- for any inputs
+-- the first check that fails; a failure to write the report or the place text is told only if no check fails, and memory may run out for
+-- any inputs
 abbrev pub IsGoingFault : Texts → List ℕ → ℕ → ℕ → RunFault → Type 0
 IsGoingFault t point batch workers (Arch e) = IsGoingTextFault t point (Arch e)
 IsGoingFault t point batch workers (Net e) = IsGoingTextFault t point (Net e)

@@ -1,4 +1,4 @@
--- A run from its first move to its last: what it reports of the moves made one at a time (our own).
+-- A run from its first move to its last: what it reports about the moves, which are made one at a time (our own).
 use Rattle.std.specs.Prelude.{ℕ, ◌≡◌, zero, suc, ◌+◌, ◌/◌, if◌then◌else◌, ◌==◌, List, [], ◌∷◌, ◌++◌, None, is_some}
 use Rattle.fab_arch.specs.Grid.{GridShape}
 use Rattle.fab_net.specs.Netlist.{Netlist}
@@ -6,11 +6,11 @@ use Rattle.fab_cost.specs.Cost.{cost_of}
 use Rattle.fab_commit.specs.Serial.{Run, Standing, from, judged_here, moves_left, one_if, or_zero, step}
 use Rattle.fab_run.specs.RunReport.{blocks_line, start_line, stage_line, final_line}
 
--- the wire cost where a run stands: one sum over all nets, from positions alone
+-- the wire cost at a standing of a run: one sum over all nets, from positions alone
 abbrev pub cost_at : Run → Standing → ℕ
 cost_at r x = cost_of r.problem.design r.problem.grid x.sites
 
--- the line of the running stage, where the next move is its last one
+-- the line of the running stage, if the next move is its last one
 abbrev pub line_here : Run → Standing → List ℕ
 line_here r x =
     if moves_left r x == 1 then
@@ -22,7 +22,7 @@ abbrev pub stage_lines : Run → Standing → ℕ → List ℕ
 stage_lines r x zero = []
 stage_lines r x (suc n) = line_here r x ++ stage_lines r (step r x) n
 
--- the cost after the next move, where that is the last one of its stage
+-- the cost after the next move, if that is the last one of its stage
 abbrev pub cost_here : Run → Standing → List ℕ
 cost_here r x = if moves_left r x == 1 then cost_at r (step r x) ∷ [] else []
 
@@ -39,11 +39,11 @@ IsOver r x n = (from r x n).heat ≡ None
 abbrev pub head_text : Netlist → GridShape → ℕ → List ℕ
 head_text d g cost = blocks_line d g ++ start_line cost
 
--- the last line of a run that ends so
+-- the last line of a run that ends at this standing
 abbrev pub last_line : Run → Standing → List ℕ
 last_line r y = final_line (cost_at r y) y.total y.done
 
--- the last line where no move is left, and nothing before
+-- the last line if no move is left, nothing before
 abbrev pub end_line : Run → Standing → List ℕ
 end_line r y = if is_some y.heat then [] else last_line r y
 

@@ -1,4 +1,5 @@
--- Examples of a whole run and of pieces of it: two blocks without a common net on 2 x 2 sites, two moves at temperature 2.0 and two frozen ones.
+-- Examples of a whole run and of pieces of it: two blocks without a common net on 2 x 2 sites, two moves at temperature 2.0, then two
+-- frozen moves.
 use Rattle.std.specs.Prelude.{ℕ, ◌≡◌, if◌then◌else◌, ◌==◌, List, [], ◌∷◌, false, Some, None, codes, refl}
 use Rattle.std.specs.Fmt.{digits}
 use Rattle.fab_arch.specs.Grid.{shape}
@@ -48,13 +49,13 @@ pub the_costs_of_four_moves : run_costs four_moves before 4 ≡ 40000 ∷ 40000 
 unfolding is_accepted judged proposal target change cost_of net_cost net_box box_on half_perimeter cross_of clip next_range
 the_costs_of_four_moves = refl
 
--- one move before the end the frozen stage is not told yet
+-- one move before the end, the frozen stage is not reported yet
 pub the_report_of_three_moves : run_report four_moves before 3
     ≡ codes "blocks 2 logic 2 pads 0 nets 2 array 2 x 2\nstart cost 4.0000\nstage 0 t 2.0000 range 2.000 moves 2 accepted 2 cost 4.0000\n"
 unfolding digits is_accepted judged proposal target change cost_of net_cost net_box box_on half_perimeter cross_of clip next_range
 the_report_of_three_moves = refl
 
--- after two moves the run stops at its stop, where a stage has just ended
+-- after two moves the run is at its stop, where a stage has just ended
 pub stops_at_the_end_of_a_stage : StopsAfter four_moves before (Some 2) 2
 unfolding is_accepted judged proposal target change cost_of net_cost net_box box_on half_perimeter cross_of clip next_range
 stops_at_the_end_of_a_stage = record { here = refl; going = refl }
@@ -64,7 +65,7 @@ pub stops_where_it_begins : StopsAfter four_moves (from four_moves before 2) (So
 unfolding is_accepted judged proposal target change cost_of net_cost net_box box_on half_perimeter cross_of clip next_range
 stops_where_it_begins = record { here = refl; going = refl }
 
--- the piece from there to the end tells the rest of the report
+-- the piece from there to the end reports the rest
 pub the_report_of_the_last_two_moves : piece_report (record { run = four_moves; start = from four_moves before 2; head = []; stop = None }) 2
     ≡ codes "frozen range 2.000 moves 2 accepted 0 cost 4.0000\nfinal cost 4.0000 accepted 2 of 4\n"
 unfolding piece_report digits is_accepted judged proposal target change cost_of net_cost net_box box_on half_perimeter cross_of clip next_range

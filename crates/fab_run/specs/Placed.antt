@@ -1,5 +1,5 @@
--- What a run of texts answers and writes (our own): a piece of annealing its design one move at a time. No snapshot occurs here; batch
--- and workers occur where their limits are checked, and the batch where moves that are judged again are counted.
+-- What a run answers and writes (our own): a piece of annealing its design one move at a time. Snapshots do not occur here; batch and
+-- workers occur only where their limits are checked, and the batch where the moves that are judged again are counted.
 use Rattle.std.specs.Prelude.{ℕ, ◌≡◌, ◌⊎◌, List, [], Option}
 use Rattle.std.specs.Io.KnownBytes.{Appends}
 use Rattle.fab_text.specs.Lines.{lines}
@@ -45,7 +45,7 @@ piece_by s seed stop = record { run = run_by s seed; start = start_by s seed; he
 abbrev pub AskFor : Texts → Options → Piece → Type 0
 AskFor t o p = (s : Setting) × IsSetting t o s × (p ≡ piece_by s o.seed o.stop)
 
--- the piece that goes on from a point; its report shows no first two lines again
+-- the piece that goes on from a point; its report does not repeat the first two lines
 abbrev pub piece_from : Going → Option ℕ → Piece
 piece_from s stop =
     record { run = run s.design s.grid s.point.fixed (stream_moves s.seed) s.point.schedule; start = standing_at s.point; head = []; stop = stop }
@@ -58,22 +58,22 @@ AskToGoOn t point batch workers stop p = (s : Going) × IsGoing t point batch wo
 abbrev pub text_by : Texts → Netlist → GridShape → List Site → List ℕ
 text_by t d g sites = place_text t.net_label t.arch_label d g sites
 
--- the text of a placement went out, and it reads back
+-- the text of a placement was written, and it reads back
 pub record IsTextOut (t : Texts) (d : Netlist) (g : GridShape) (sites : List Site) (old new : Option (List ℕ)) : Type 0 where
   pub text : Appends old new (text_by t d g sites)
   pub back : StandsFor d g (lines (text_by t d g sites)) sites
 
--- what went to the place text: that of the placement where the run is finished, and nothing where it stopped
+-- what was written to the place text: that of the placement if the run is finished, nothing if it stopped
 abbrev pub IsPlaceOut : Texts → Netlist → GridShape → List Site → Ending → Option (List ℕ) → Option (List ℕ) → Type 0
 IsPlaceOut t d g sites Finished old new = IsTextOut t d g sites old new
 IsPlaceOut t d g sites (Stopped q) old new = new ≡ old
 
--- a piece answers this, and its report and its place text went out
+-- a piece answers this, and its report and its place text were written
 pub record IsMade (t : Texts) (p : Piece) (a : Answer) (report_old report_new place_old place_new : Option (List ℕ)) : Type 0 where
   pub told : IsToldPiece p a report_old report_new
   pub place : IsPlaceOut t p.run.problem.design p.run.problem.grid a.placement.sites a.ending place_old place_new
 
--- the piece that is asked for answers this, and its report and its place text went out
+-- the requested piece answers this, and its report and its place text were written
 abbrev pub IsPlaced : (Piece → Type 0) → Texts → Answer → Option (List ℕ) → Option (List ℕ) → Option (List ℕ) → Option (List ℕ) → Type 0
 IsPlaced Asked t a report_old report_new place_old place_new = (p : Piece) × Asked p × IsMade t p a report_old report_new place_old place_new
 
@@ -92,27 +92,27 @@ IsPlaceFault t d g sites ending old new failed_old failed_new e =
     ((e ≡ NoMemory) × (new ≡ old) × (failed_new ≡ failed_old))
     ⊎ ((e ≡ Place Write) × (ending ≡ Finished) × IsCut (text_by t d g sites) old new × (failed_new ≡ grown failed_old))
 
--- what went out is a beginning of the report of the piece that is asked for
+-- what was written is a beginning of the report of the requested piece
 abbrev pub IsReportBegun : (Piece → Type 0) → Option (List ℕ) → Option (List ℕ) → Type 0
 IsReportBegun Asked old new = (p : Piece) × Asked p × IsReportOf p old new
 
--- what went out is a beginning of it, and not all
+-- what was written is a beginning of it, but not all of it
 abbrev pub IsReportCut : (Piece → Type 0) → Option (List ℕ) → Option (List ℕ) → Type 0
 IsReportCut Asked old new = (p : Piece) × Asked p × IsReportCutOf p old new
 
--- what went out is the whole report of a finished piece, and a beginning of its place text, but not all of it
+-- what was written is the whole report of a finished piece, and a beginning of its place text, but not all of it
 pub record IsTextCut (t : Texts) (p : Piece) (report_old report_new place_old place_new : Option (List ℕ)) : Type 0 where
   pub answer : Answer
   pub told : IsToldPiece p answer report_old report_new
   pub finished : answer.ending ≡ Finished
   pub place : IsCut (text_by t p.run.problem.design p.run.problem.grid answer.placement.sites) place_old place_new
 
--- the writer of the place text was not ready: what went out is what the report shows before the first move
+-- the writer of the place text was not ready: only what the report shows before the first move was written
 pub record IsUnreadyFor (p : Piece) (report_old report_new place_old place_new : Option (List ℕ)) : Type 0 where
   pub told : Appends report_old report_new p.head
   pub place : place_new ≡ place_old
 
--- the writer of the place text failed: it was not ready, or it took a beginning alone
+-- the writer of the place text failed: it was not ready, or it took only a beginning
 abbrev pub IsPlaceCut : (Piece → Type 0) → Texts → Option (List ℕ) → Option (List ℕ) → Option (List ℕ) → Option (List ℕ) → Type 0
 IsPlaceCut Asked t report_old report_new place_old place_new =
     (p : Piece) × Asked p × (IsUnreadyFor p report_old report_new place_old place_new ⊎ IsTextCut t p report_old report_new place_old place_new)

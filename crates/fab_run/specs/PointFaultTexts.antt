@@ -1,4 +1,4 @@
--- What is printed of a fault of a checkpoint text (our own): its code and its name, and its detail.
+-- The text of a fault of a checkpoint text (our own): its code, its name and its detail.
 use Rattle.std.specs.Prelude.{ℕ, ◌≡◌, List, ◌++◌, decimal, codes, refl}
 use Rattle.std.specs.Fmt.{digits}
 use Rattle.fab_file.specs.declared.fault.PlaceFault.{PlaceFault}
@@ -28,7 +28,7 @@ point_fault_text (Block fault) = place_fault_text fault
 point_fault_text Write = codes "the writer failed"
 point_fault_text NoMemory = codes "no memory"
 
--- the fault of a line, or want of memory that its reader met
+-- the fault of a line, or the lack of memory that its reader met
 abbrev pub of_line_fault : PlaceFault → PointFault
 of_line_fault PlaceNoMemory = NoMemory
 of_line_fault fault = Block fault

@@ -1,7 +1,7 @@
--- The lines of a checkpoint text (our own). It tells a point of a run, where the run can be gone on with: fields, each on a
--- line of its own, then the names of the fixed blocks, then the site of each block, then `end`. There are two versions: the second gives the
--- temperature of the running stage, may cool by acceptance, and may fix any block. Numbers are whole: temperatures in
--- ten-thousandths, ranges and factors in thousandths.
+-- The lines of a checkpoint text (our own). It describes a point of a run, from which the run can be resumed: fields, one line for each,
+-- then the names of the fixed blocks, then the site of each block, then `end`. There are two versions: the second gives the temperature of
+-- the running stage, allows adaptive schedules, and may fix any block. Numbers are whole: temperatures in ten-thousandths, ranges and
+-- factors in thousandths.
 use Rattle.std.specs.Prelude.{ℕ, ◌≡◌, Bool, true, ◌&&◌, ◌==◌, List, [], ◌∷◌, if◌then◌else◌, length, codes, Option, Some, None, Result, Ok, Err, refl}
 use Rattle.fab_text.specs.Lines.{TextLine}
 use Rattle.fab_text.specs.Decimal.{decimal_of}
@@ -23,7 +23,7 @@ abbrev pub whole : Result ℕ NumFault → Option ℕ
 whole (Ok n) = Some n
 whole (Err e) = None
 
--- the whole number of 64 bits at a place of a line
+-- the whole number of 64 bits at word i of a line
 abbrev pub number_at : TextLine → ℕ → Option ℕ
 number_at l i = whole (decimal_of (word_at l i) 0)
 
@@ -48,7 +48,7 @@ abbrev pub factor : Option ℕ → Option Cooling
 factor None = None
 factor (Some f) = Some (Factor f)
 
--- how a schedule cools: by a factor, or, from the second version on, by acceptance
+-- how a schedule cools: by a factor or, in the second version, by the moves accepted
 abbrev pub cooling_in : Version → TextLine → Option Cooling
 cooling_in One l = factor (number_at l 3)
 cooling_in Two l = if is_word l 3 (codes "adaptive") then Some Adaptive else factor (number_at l 3)
@@ -60,7 +60,7 @@ schedule_from (Some init) (Some exit) None moves = None
 schedule_from (Some init) (Some exit) (Some cooling) None = None
 schedule_from (Some init) (Some exit) (Some cooling) (Some moves) = Some (init, exit, cooling, moves)
 
--- `schedule I E A M` or `schedule I E adaptive M`: the first temperature, the least one that is run, how it cools, the moves of a stage
+-- `schedule I E A M` or `schedule I E adaptive M`: the first temperature, the lowest one that is run, how it cools, the moves of a stage
 abbrev pub schedule_in : Version → TextLine → Option (ℕ × ℕ × Cooling × ℕ)
 schedule_in v l =
     if length l.words == 5 && is_word l 0 (codes "schedule") then

@@ -16,12 +16,12 @@ use Rattle.fab_run.specs.declared.point_words.Version.{Version}
 use Rattle.fab_run.specs.declared.point_words.Version.TheVariants.{One, Two}
 use Rattle.fab_run.specs.PointFields.{version_in, number_in, array_in, schedule_in, stage_in, is_fixed_line, is_end}
 
--- the temperature of the running stage stands on a line of its own; in the first version the schedule alone tells it
+-- the temperature of the running stage has a line of its own; in the first version only the schedule gives it
 abbrev pub SaysHeat : Version → List TextLine → ℕ → Type 0
 SaysHeat One ls t = ls ≡ []
 SaysHeat Two ls t = (l : TextLine) × (ls ≡ l ∷ []) × (number_in (codes "temperature") l ≡ Some t)
 
--- the fields from the seed to the moves accepted in all, and what stands behind them
+-- the fields from the seed to the moves accepted in all, and the lines after them
 pub record SaysFields (v : Version) (ls behind : List TextLine) (seed : ℕ) (g : GridShape) (p : Point) : Type 0 where
   pub seed_line : TextLine
   pub array_line : TextLine
@@ -39,7 +39,7 @@ pub record SaysFields (v : Version) (ls behind : List TextLine) (seed : ℕ) (g 
   pub range_is : number_in (codes "range") range_line ≡ Some p.stage.range
   pub total_is : number_in (codes "total") total_line ≡ Some p.total
 
--- the first version fixes pads alone
+-- the first version fixes only pads
 abbrev pub MayBeFixed : Version → Netlist → ℕ → Type 0
 MayBeFixed One d b = is_logic_at d b ≡ false
 MayBeFixed Two d b = Unit {0}
@@ -51,7 +51,7 @@ pub record NamesFixed (v : Version) (d : Netlist) (l : TextLine) : Type 0 where
   pub named : block_in d l ≡ Some block
   pub may : MayBeFixed v d block
 
--- the fixed blocks, each on one line, and each fixed where it stands
+-- the fixed blocks, one line for each, and each fixed at its site
 pub record SaysFixed (v : Version) (d : Netlist) (sites : List Site) (ls behind : List TextLine) (fixed : List (Option Site)) : Type 0 where
   pub count_line : TextLine
   pub names : List TextLine
@@ -61,7 +61,7 @@ pub record SaysFixed (v : Version) (d : Netlist) (sites : List Site) (ls behind 
   pub distinct : AllDistinct (map (λ l. word_at l 0) names)
   pub sites_are : (b : ℕ) → fixed_at fixed b ≡ (if is_repeated d names b then Some (site_of sites b) else None)
 
--- the site of each block, in any order: as many lines as blocks, no block has two, and each has one
+-- the site of each block, in any order: as many lines as blocks, no block twice, and none missing
 pub record SaysPlaces (d : Netlist) (ls behind : List TextLine) (sites : List Site) : Type 0 where
   pub count_line : TextLine
   pub places : List TextLine
@@ -72,7 +72,7 @@ pub record SaysPlaces (d : Netlist) (ls behind : List TextLine) (sites : List Si
   pub distinct : AllDistinct (map (λ l. word_at l 0) places)
   pub complete : AllByRecursion (λ name. list_any (names_block name) places ≡ true) d.names
 
--- an array with so many pads at a position, which holds the design
+-- an array with `io_rat` pads at a position, which holds the design
 pub record IsArrayFor (io_rat : ℕ) (d : Netlist) (g : GridShape) : Type 0 where
   pub limits : AreLimits g.nx g.ny g.io_rat
   pub ratio : g.io_rat ≡ io_rat

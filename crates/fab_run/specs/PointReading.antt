@@ -36,7 +36,7 @@ pub record HeadRead (v : Version) (io_rat : ℕ) (d : Netlist) (ls : List TextLi
   pub array_read : IsRead array_in (λ a. IsArrayFor io_rat d (grid_of a)) after_seed (g.nx, g.ny, g.io_rat) after_array
   pub schedule_read : IsRead (schedule_in v) (λ s. IsLawful (schedule_of s)) after_array (p.init, p.exit, p.cooling, p.moves) behind
 
--- the temperature of a stage: on a line, or by the schedule alone
+-- the temperature of a stage: on a line, or given only by the schedule
 abbrev pub HeatRead : Version → Plan → ℕ → List TextLine → ℕ → List TextLine → Type 0
 HeatRead One p x ls t behind = (behind ≡ ls) × MayStand p x t
 HeatRead Two p x ls t behind = IsRead (number_in (codes "temperature")) (MayStand p x) ls t behind
@@ -52,7 +52,7 @@ pub record StageRead (v : Version) (g : GridShape) (p : Plan) (ls : List TextLin
   pub total_read : IsRead (number_in (codes "total")) (IsTotal p (s.index, s.done, s.accepted)) after_range total behind
   pub frozen : s.frozen ≡ (s.t == 0)
 
--- so many names of fixed blocks: of each block whether it is one
+-- the names of `many` fixed blocks: for each block, whether it is fixed
 pub record AreNamed (v : Version) (d : Netlist) (many : ℕ) (ls : List TextLine) (named : List Bool) (behind : List TextLine) : Type 0 where
   pub clean : fault_of_all (fixed_fault v d) (λ there. unless (length there == many) (BadField 0)) (take many ls) ≡ None
   pub rest : behind ≡ drop many ls
@@ -65,7 +65,7 @@ pub record NamesRead (v : Version) (d : Netlist) (ls : List TextLine) (named : L
   pub count_read : IsRead (number_in (codes "fixed")) (λ n. n ≤ length d.kinds) ls many after
   pub names : AreNamed v d many after named behind
 
--- the places of all blocks
+-- the sites of all blocks
 pub record AreSeated (d : Netlist) (g : GridShape) (ls : List TextLine) (placement : PlacementOf) (behind : List TextLine) : Type 0 where
   pub clean : fault_of_all (seat_fault d g) (λ there. unless (length there == length d.kinds) (BadField 0)) (take (length d.kinds) ls) ≡ None
   pub rest : behind ≡ drop (length d.kinds) ls
@@ -80,7 +80,7 @@ pub record SeatsRead (d : Netlist) (g : GridShape) (ls : List TextLine) (placeme
   pub count_read : IsRead (number_in (codes "places")) (λ m. m ≡ length d.kinds) ls (length d.kinds) after
   pub seats : AreSeated d g after placement behind
 
--- the last line, and none behind it
+-- the last line, and no line after it
 pub record EndRead (ls : List TextLine) : Type 0 where
   pub line : TextLine
   pub text : ls ≡ line ∷ []

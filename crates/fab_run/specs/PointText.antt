@@ -1,5 +1,5 @@
--- The text of a point, as it is written (our own), in the second version: each line ends with a line feed, one space stands between
--- words, and blocks stand in order of number.
+-- The text of a point, as it is written (our own), in the second version: each line ends with a line feed, one space separates words, and
+-- blocks are in order of number.
 use Rattle.std.specs.Prelude.{ℕ, ◌≡◌, ◌<◌, ◌^◌, false, List, [], ◌∷◌, ◌++◌, length, map, filter, is_some, codes, decimal, slice_index_or, Option, Some, refl}
 use Rattle.std.specs.Fmt.{digits}
 use Rattle.std.specs.List.{flat_map, range_with_len}
@@ -54,7 +54,7 @@ place_line d sites b = seat_text (name_of d b) (site_of sites b)
 abbrev pub blocks_of : Netlist → List ℕ
 blocks_of d = range_with_len 0 (length d.kinds)
 
--- the fixed blocks, ascending
+-- the numbers of the fixed blocks, ascending
 abbrev pub fixed_blocks : Netlist → List (Option Site) → List ℕ
 fixed_blocks d fixed = filter (λ b. is_some (fixed_at fixed b)) (blocks_of d)
 
@@ -66,7 +66,7 @@ head_lines seed g p = codes "vplace point 2" ∷ field_text (codes "seed") seed 
 abbrev pub stage_lines : Stage → ℕ → List (List ℕ)
 stage_lines s total = stage_text s ∷ field_text (codes "temperature") s.t ∷ field_text (codes "range") s.range ∷ field_text (codes "total") total ∷ []
 
--- the fixed blocks, and the places of all blocks
+-- the number of fixed blocks and a line for each; below, the same for the sites of all blocks
 abbrev pub fixed_lines : Netlist → List (Option Site) → List (List ℕ)
 fixed_lines d fixed = field_text (codes "fixed") (length (fixed_blocks d fixed)) ∷ map (fixed_line d) (fixed_blocks d fixed)
 
@@ -83,7 +83,7 @@ pub record IsWritable (d : Netlist) (g : GridShape) (p : Point) : Type 0 where
   pub holds : Holds g (logic_count d) (pad_count d)
   pub point : IsPoint d g p
 
--- how often a writer has failed, where a point was not written for a fault: once more only where the fault says so
+-- how often a writer has failed, after a point was not written because of this fault: once more only if the fault says so
 abbrev pub failed_with : PointFault → ℕ → ℕ
 failed_with Write n = grown n
 failed_with e n = n

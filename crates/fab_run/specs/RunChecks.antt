@@ -20,34 +20,33 @@ use Rattle.fab_run.specs.declared.fault.RunFault.TheVariants.{Arch, Net, Pads, P
 use Rattle.fab_run.specs.Check.{IsDesignFault, IsSizeFault, MeanDesign}
 use Rattle.fab_run.specs.Setting.{HasArray, HasPins, IsAskedPlan, IsSetting, Setting, Texts, Within}
 
--- what is wrong with the array that is asked for: with the size that is given, or that no square up to the side 1,000 holds
--- the design
+-- the fault of the requested array: of its given size, or that no square up to side 1,000 holds the design
 abbrev pub IsArrayFault : Option (ℕ × ℕ) → Netlist → ℕ → GridFault → Type 0
 IsArrayFault None d io_rat e = (e ≡ SizeOutOfRange) × NoSquareHolds 1001 (logic_count d) (pad_count d) io_rat
 IsArrayFault (Some size) d io_rat e = IsSizeFault d (shape size.0 size.1 io_rat) e
 
--- the first fault of the location text, where there is one
+-- the first fault of the location text, if there is one
 abbrev pub IsPadsFault : Option (List ℕ) → Netlist → GridShape → PlaceFault → Type 0
 IsPadsFault None d g e = ⊥
 IsPadsFault (Some text) d g e = pins_fault d g (lines text) ≡ Some e
 
--- the fault of a location text, or want of memory to read it
+-- the fault of a location text, or a lack of memory to read it
 abbrev pub IsLocationFault : Option (List ℕ) → Netlist → GridShape → RunFault → Type 0
 IsLocationFault text d g (Pads e) = IsPadsFault text d g e
 IsLocationFault text d g NoMemory = Unit {0}
 IsLocationFault text d g e = ⊥
 
--- a lawful schedule is asked for
+-- the requested schedule is lawful
 abbrev pub HasLawfulPlan : Options → ℕ → Type 0
 HasLawfulPlan o blocks = (p : Plan) × IsAskedPlan o blocks p × IsLawful p
 
--- the first that is wrong with batch and workers
+-- the first fault of batch and workers
 abbrev pub IsThreadFault : ℕ → ℕ → RunFault → Type 0
 IsThreadFault batch workers BatchOutOfRange = ¬ Within 4096 batch
 IsThreadFault batch workers WorkersOutOfRange = Within 4096 batch × (¬ Within 64 workers)
 IsThreadFault batch workers e = ⊥
 
--- the first that is wrong behind the texts, with labels, schedule, batch and workers, for a design with so many blocks
+-- the first fault after the texts, of labels, schedule, batch and workers, for a design with this many blocks
 abbrev pub IsOptionFault : Texts → Options → ℕ → RunFault → Type 0
 IsOptionFault t o blocks (Place BadLabel) = are_labels t.net_label t.arch_label ≡ false
 IsOptionFault t o blocks (Schedule e) = (are_labels t.net_label t.arch_label ≡ true) × ((p : Plan) × IsAskedPlan o blocks p × (fault_of p ≡ Some e))
@@ -55,13 +54,13 @@ IsOptionFault t o blocks BatchOutOfRange = (are_labels t.net_label t.arch_label 
 IsOptionFault t o blocks WorkersOutOfRange = (are_labels t.net_label t.arch_label ≡ true) × HasLawfulPlan o blocks × IsThreadFault o.batch o.workers WorkersOutOfRange
 IsOptionFault t o blocks e = ⊥
 
--- the texts are in order, and this is the first that is wrong behind them
+-- the texts pass their checks, and this is the first fault after them
 abbrev pub IsFaultBehind : Texts → Options → RunFault → Type 0
 IsFaultBehind t o e =
     (d : Netlist) × (g : GridShape) × (fixed : List (Option Site)) × (begun : List (Option Site)) × HasPins t o d g fixed begun × IsOptionFault t o (length d.kinds) e
 
--- the first check that fails; a report or a place text that cannot be written is told where none fails, and want of memory
--- may come for any inputs
+-- the first check that fails; a failure to write the report or the place text is told only if no check fails, and memory may run out for
+-- any inputs
 abbrev pub IsRunFault : Texts → Options → RunFault → Type 0
 IsRunFault t o (Arch e) = IsDesignFault t.arch t.net (Arch e)
 IsRunFault t o (Net e) = IsDesignFault t.arch t.net (Net e)
@@ -84,7 +83,7 @@ IsRefusal Report = ⊥
 IsRefusal NoMemory = ⊥
 IsRefusal e = Unit {0}
 
--- how often the writer of the place text has failed, where a run ended with a fault
+-- how often the writer of the place text has failed, after a run that ended with this fault
 abbrev pub place_failed_with : RunFault → ℕ → ℕ
 place_failed_with (Place Write) n = grown n
 place_failed_with e n = n

@@ -1,4 +1,4 @@
--- What a run answers for a fault of one of its readers or writers (our own): the fault with its role, or want of memory.
+-- What a run answers for a fault of one of its readers or writers (our own): the fault with its role, or a lack of memory.
 use Rattle.fab_arch.specs.declared.fault.ArchFault.{ArchFault}
 use Rattle.fab_arch.specs.declared.fault.ArchFault.TheVariants.{NoMemory as ArchNoMemory}
 use Rattle.fab_net.specs.declared.fault.NetFault.{NetFault}
@@ -26,7 +26,7 @@ abbrev pub of_point : PointFault → RunFault
 of_point PointNoMemory = NoMemory
 of_point fault = Point fault
 
--- of a location text
+-- a fault of a location text
 abbrev pub of_pads : PlaceFault → RunFault
 of_pads PlaceNoMemory = NoMemory
 of_pads fault = Pads fault

@@ -15,7 +15,7 @@ design_text d =
 abbrev pub array_text : GridShape → List ℕ
 array_text g = codes " array " ++ decimal g.nx ++ codes " x " ++ decimal g.ny ++ codes "\n"
 
--- `blocks B logic L pads P nets N array NX x NY`, where global nets count too
+-- `blocks B logic L pads P nets N array NX x NY`; global nets count too
 abbrev pub blocks_line : Netlist → GridShape → List ℕ
 blocks_line d g = design_text d ++ array_text g
 
@@ -27,7 +27,7 @@ start_line cost = codes "start cost " ++ fixed4 cost ++ codes "\n"
 abbrev pub stage_name : ℕ → ℕ → List ℕ
 stage_name index t = if t == 0 then codes "frozen" else (codes "stage " ++ decimal index ++ codes " t " ++ fixed4 t)
 
--- the line of a stage that ended: ` range R moves M accepted S cost C` behind its name, with the range that it used
+-- the line of a stage that ended: its name, then ` range R moves M accepted S cost C`, with the range that the stage used
 abbrev pub stage_line : ℕ → ℕ → ℕ → ℕ → ℕ → ℕ → List ℕ
 stage_line index t range moves accepted cost =
     stage_name index t ++ codes " range " ++ fixed3 range ++ codes " moves " ++ decimal moves ++ codes " accepted " ++ decimal accepted

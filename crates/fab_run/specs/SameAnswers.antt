@@ -1,5 +1,6 @@
--- What is placed is told by the texts and the numbers that are asked for alone (our own): batch and workers have no part in it.
+-- The texts and the requested numbers alone determine what is placed (our own): batch and workers play no part.
 use Rattle.std.specs.Prelude.{ℕ, ◌≡◌, List, [], Option, Some}
+use Rattle.fab_dial.specs.declared.readings.Reading.{Reading}
 use Rattle.fab_run.specs.declared.inputs.Ending.{Ending}
 use Rattle.fab_run.specs.declared.inputs.Ending.TheVariants.{Finished, Stopped}
 use Rattle.fab_run.specs.declared.inputs.Options.{Options}
@@ -7,6 +8,7 @@ use Rattle.fab_run.specs.Ends.{Answer, AreRedone, Piece}
 use Rattle.fab_run.specs.Placed.{AskFor, AskToGoOn, IsPlaced}
 use Rattle.fab_run.specs.PointMeaning.{IsSamePoint}
 use Rattle.fab_run.specs.Setting.{Texts}
+use Rattle.fab_run.specs.Shown.{HaveShown}
 
 -- a call of a run: what it answers, and the bytes of its report and its place text
 pub record Call : Type 0 where
@@ -14,7 +16,7 @@ pub record Call : Type 0 where
   pub report : List ℕ
   pub place : List ℕ
 
--- the piece that is asked for has this call, where nothing stood in its outputs before
+-- the requested piece has this call, if its outputs were empty before
 abbrev pub IsCalled : (Piece → Type 0) → Texts → Call → Type 0
 IsCalled Asked t c = IsPlaced Asked t c.answer (Some []) (Some c.report) (Some []) (Some c.place)
 
@@ -47,18 +49,23 @@ pub record AsksTheSame (o p : Options) : Type 0 where
 abbrev pub AnswersAreTold : Type 0
 AnswersAreTold = (t : Texts) (o p : Options) (a b : Call) → AsksTheSame o p → IsCalled (AskFor t o) t a → IsCalled (AskFor t p) t b → AreTheSame a b
 
--- and so do runs that go on from one checkpoint text to one stop
+-- so do runs that go on from one checkpoint text to one stop
 abbrev pub ResumedAreTold : Type 0
 ResumedAreTold =
     (t : Texts) (point : List ℕ) (batch workers other_batch other_workers : ℕ) (stop : Option ℕ) (a b : Call) → IsCalled (AskToGoOn t point batch workers stop) t a → IsCalled (AskToGoOn t point other_batch other_workers stop) t b
     → AreTheSame a b
 
--- runs that ask for the same with one batch judge as many moves again, whatever their numbers of workers
+-- runs that ask for the same with the same batch judge equally many moves again, whatever their numbers of workers
 abbrev pub RedoneIsTold : Type 0
 RedoneIsTold = (t : Texts) (o p : Options) (a b : Piece) (m n : ℕ) → AsksTheSame o p → o.batch ≡ p.batch → AskFor t o a → AskFor t p b → AreRedone a o.batch m → AreRedone b p.batch n → m ≡ n
 
--- and so do runs that go on from one checkpoint text to one stop
+-- so do runs that go on from one checkpoint text to one stop
 abbrev pub ResumedRedoneIsTold : Type 0
 ResumedRedoneIsTold =
     (t : Texts) (point : List ℕ) (batch workers other_workers : ℕ) (stop : Option ℕ) (a b : Piece) (m n : ℕ) → AskToGoOn t point batch workers stop a → AskToGoOn t point batch other_workers stop b → AreRedone a batch m → AreRedone b batch n
     → m ≡ n
+
+-- and they show the same readings
+abbrev pub ShownIsTold : Type 0
+ShownIsTold =
+    (t : Texts) (o p : Options) (old a b : List Reading) → AsksTheSame o p → o.batch ≡ p.batch → HaveShown (AskFor t o) o.batch old a → HaveShown (AskFor t p) p.batch old b → a ≡ b

@@ -16,7 +16,7 @@ use Rattle.fab_run.specs.declared.inputs.Moves.TheVariants.{Given, Inner}
 use Rattle.fab_run.specs.declared.inputs.Options.{Options}
 use Rattle.fab_run.specs.Check.{FitsOn, MeanDesign}
 
--- the texts of a run, and the names of their files that its place text shows
+-- the texts of a run, and the file names that its place text shows
 pub record Texts : Type 0 where
   pub arch : List ℕ
   pub net : List ℕ
@@ -34,7 +34,7 @@ texts_of i =
       arch_label = i.labels.arch.now;
     }
 
--- the array has the size that is given, or is the least square one that holds the design
+-- the array has the given size, or is the smallest square one that holds the design
 abbrev pub IsSized : Option (ℕ × ℕ) → Netlist → GridShape → Type 0
 IsSized None d g = IsLeastSquare g (logic_count d) (pad_count d) g.io_rat
 IsSized (Some size) d g = (g.nx ≡ size.0) × (g.ny ≡ size.1)
@@ -55,13 +55,12 @@ pub record HasPins (t : Texts) (o : Options) (d : Netlist) (g : GridShape) (fixe
   pub array : HasArray t o d g
   pub pins : ArePinned t.pads d g fixed begun
 
--- so many moves are asked for in a stage, of a design with so many blocks; where VPR's rule gives no lawful number, 0
--- stands for it, which no schedule takes
+-- n moves are requested for each stage of a design with this many blocks; 0 if VPR's rule gives no allowed number, and no schedule takes 0
 abbrev pub AreStageMoves : Moves → ℕ → ℕ → Type 0
 AreStageMoves (Given m) blocks n = n ≡ m
 AreStageMoves (Inner inner) blocks n = AreMoves inner blocks n ⊎ (((m : ℕ) → ¬ AreMoves inner blocks m) × (n ≡ 0))
 
--- the schedule that is asked for, lawful or not
+-- the requested schedule, lawful or not
 pub record IsAskedPlan (o : Options) (blocks : ℕ) (p : Plan) : Type 0 where
   pub init : p.init ≡ o.init_t
   pub exit : p.exit ≡ o.exit_t
@@ -76,7 +75,7 @@ pub record Setting : Type 0 where
   pub begun : List (Option Site)
   pub plan : Plan
 
--- texts and labels are in order, and this is the schedule that is asked for
+-- texts and labels pass their checks, and this is the requested schedule
 pub record HasPlan (t : Texts) (o : Options) (s : Setting) : Type 0 where
   pub pins : HasPins t o s.design s.grid s.fixed s.begun
   pub labels : are_labels t.net_label t.arch_label ≡ true
@@ -86,7 +85,7 @@ pub record HasPlan (t : Texts) (o : Options) (s : Setting) : Type 0 where
 abbrev pub Within : ℕ → ℕ → Type 0
 Within most n = (1 ≤ n) × (n ≤ most)
 
--- all is in order, and means this
+-- every check passes, and the inputs mean this
 pub record IsSetting (t : Texts) (o : Options) (s : Setting) : Type 0 where
   pub asked : HasPlan t o s
   pub lawful : IsLawful s.plan

@@ -1,4 +1,4 @@
--- How the stages of a piece of a run are made and told (our own).
+-- How the stages of a piece of a run are made and reported (our own).
 use Rattle.std.specs.Prelude.{ℕ, ◌≡◌, ◌+◌, ◌-◌, ◌++◌, List, [], Option, Result, OnOk, OnErr, IfErr, take}
 use Rattle.std.specs.Io.KnownBytes.{Appends}
 use Rattle.fab_file.specs.Written.{IsCut}
@@ -22,12 +22,13 @@ pub record IsNew {W : Type 0} (a : AnnealOf W) : Type 0 where
   pub accepted : a.accepted ≡ []
   pub redone : a.redone ≡ 0
 
--- where turns of this batch led from a standing, what was judged again since is told by the batch, also behind a last turn that is shorter
+-- if turns of this batch led from a standing to a, the batch determines at b how many moves were judged again since that standing, even if
+-- the last turn is shorter
 pub record AreCountedOn {W : Type 0} (r : Run) (batch : ℕ) (a b : AnnealOf W) : Type 0 where
   pub on : (x : Standing) → IsByTurns r x batch a → b.redone ≡ redone_in_run r x batch (b.standing.done - x.done)
 
--- an annealer made the moves of a piece, by turns of this batch; the costs at the ends of the stages stand behind those there were,
--- and the line of each stage went out
+-- an annealer made the moves of a piece, in turns of this batch; the costs at the ends of the stages were appended, and the line of each
+-- stage was written
 pub record AreMade {W : Type 0} (moves : W → ℕ → List ℕ) (stop : Option ℕ) (batch : ℕ) (a b : AnnealOf W) (costs0 costs1 : List ℕ) (old new : Option (List ℕ)) : Type 0 where
   pub count : ℕ
   pub done : b.standing.done ≡ a.standing.done + count
@@ -38,12 +39,12 @@ pub record AreMade {W : Type 0} (moves : W → ℕ → List ℕ) (stop : Option 
   pub told : Appends old new (stage_lines (run_of moves a) a.standing count)
   pub counted : AreCountedOn (run_of moves a) batch a b
 
--- a beginning of the lines of some moves up to the stop went out; where the writer of the report failed, not all of them
+-- a beginning of the lines of some moves up to the stop was written; if the writer of the report failed, not all of them were
 pub record AreCut (r : Run) (x : Standing) (stop : Option ℕ) (old new : Option (List ℕ)) (e : RunFault) : Type 0 where
   pub begun : (n : ℕ) × (k : ℕ) × IsWithin r x stop n × Appends old new (take k (stage_lines r x n))
   pub short : e ≡ Report → (n : ℕ) × IsWithin r x stop n × IsCut (stage_lines r x n) old new
 
--- an annealer made the moves of a piece beside a crew, told and shown; or it was cut off, and a beginning was told and shown
+-- an annealer made the moves of a piece with a crew, reported and shown; or it was cut off, and a beginning was reported and shown
 pub record IsMadeBeside {W : Type 0} (moves : W → ℕ → List ℕ) (stop : Option ℕ) (batch : ℕ) (a b : AnnealOf W) (costs0 costs1 : List ℕ) (shown0 shown1 : List Reading) (old new : Option (List ℕ)) (failed0 failed1 : ℕ) (answer : Result (Unit {0}) RunFault) : Type 0 where
   pub same : IsSameRun a b
   pub made : OnOk answer (AreMade moves stop batch a b costs0 costs1 old new)

@@ -21,8 +21,7 @@ use fab_site::Placement;
 use fab_text::{Sink, push_fixed4, push_number, write_whole};
 use std::alloc::{AllocError, Global};
 
-/// The array that the header of a placement text gives, where it holds the design; else the header's fault, or that
-/// of the size.
+/// The array that the header of a placement text gives, if it holds the design; else the fault of the header or of the size.
 fn read_array(alloc: Global, place: &[u8], design: &Design, io_rat: u16) -> Result<Grid, RunFault>
     ensures found { IfOk result (λ g. (g.io_rat ≡ io_rat) × (place_size_of (lines place.now) ≡ Some (g.nx, g.ny)) × FitsOn design.now g) }
     ensures only { (g : GridShape) → g.io_rat ≡ io_rat → place_size_of (lines place.now) ≡ Some (g.nx, g.ny) → FitsOn design.now g → MatchResult result (λ h. h ≡ g) (λ e. e ≡ NoMemory) }
@@ -105,10 +104,12 @@ fn checked_report(
     Ok(report)
 }
 
-/// Checks a placement: whether three texts mean a design, an array that holds it, and a legal placement of it on that
-/// array, whose size the placement text gives. The answer is its wire cost, in ten-thousandths, and the report is
-/// `legal B blocks on a NX x NY array` and `cost C`; or the first check that fails, in the order architecture,
-/// netlist, header, size, placement, and then the report is as before.
+/// Checks a placement: three texts must mean a design, an array that holds it, and a legal placement of it on that array, whose size the
+/// placement text gives. Returns the wire cost, in ten-thousandths, and writes the report: `legal B blocks on a NX x NY array` and `cost
+/// C`.
+///
+/// An error is the first check that fails, in the order architecture, netlist, header, size, placement; nothing is written then. If no
+/// check fails, it is the failure of the writer. Memory may run out for any texts.
 pub fn check_run<W: Sink>(
     alloc: Global,
     arch: &[u8],
@@ -118,17 +119,17 @@ pub fn check_run<W: Sink>(
 ) -> Result<u64, RunFault>
     // What is answered and written is what the texts mean.
     ensures found { IfOk result (λ cost. IsReported arch.now net.now place.now cost (W.contents report.old) (W.contents report.new)) }
-    // What they mean is answered, unless memory or the writer fails.
+    // Their meaning is answered, unless memory runs out or the writer fails.
     ensures only { (d : Netlist) (g : GridShape) (sites : List Site) → AreChecked arch.now net.now place.now d g sites → MatchResult result (λ cost. cost ≡ cost_of d g sites) (λ e. (e ≡ NoMemory) ⊎ (e ≡ Report)) }
-    // An error is the first check that fails, or want of memory, or the writer's.
+    // An error is the first check that fails, a lack of memory, or the failure of the writer.
     ensures fault { IfErr result (λ e. FaultOf arch.now net.now place.now e) }
-    // Nothing is written but the report, so no other writer fails.
+    // Only the report is written, so no other writer fails.
     ensures text { IfErr result (λ e. IsTextFault e ⊎ (e ≡ Report)) }
     ensures below { IfOk result (λ cost. cost < 2 ^ 43) }
-    // A refusal writes nothing, and a writer that fails has taken a beginning.
+    // A writer that fails has taken a beginning of the report. After any other fault nothing is written.
     ensures silent { IfErr result (λ e. e ≢ Report → W.contents report.new ≡ W.contents report.old) }
     ensures cut { IfErr result (λ e. e ≡ Report → IsCut arch.now net.now place.now (W.contents report.old) (W.contents report.new)) }
-    // The writer failed only where the answer says so.
+    // The writer failed only if the answer says so.
     ensures sound { OnOk result (W.failed report.new ≡ W.failed report.old) }
     ensures failed { IfErr result (λ e. W.failed report.new ≡ report_failed_with e (W.failed report.old)) }
 {

@@ -189,7 +189,7 @@ fn a_name_of_any_bytes_is_told(rt: HostRuntime) -> Result<(), Fail> {
 const PAIR_PLACE: &[u8] =
     b"Netlist file: t.net Architecture file: t.arch\nArray size: 1 x 1 logic blocks\na 0 1 0\nz 2 1 0\nb 1 1 0\n";
 
-// What a check answers, and what it wrote where its writer takes so many bytes.
+// What a check answers, and what it wrote to a writer that takes `room` bytes.
 fn check(
     alloc: Global,
     texts: [&[u8]; 3],

@@ -1,4 +1,4 @@
-//! The stages of a piece of a run, whose moves a crew judges ahead that stands from the first to the last.
+//! Makes the stages of a piece of a run, while one crew judges its moves ahead from the first stage to the last.
 
 ghost use Rattle.std.specs.Prelude.{◌≡◌, ◌≤◌};
 ghost use Rattle.std.specs.Fn.{CalledAtMut};
@@ -25,7 +25,7 @@ pub(crate) struct Course<'a, 'g, V: Words + Drop, G: Gate, J: Naming> {
     pub(crate) costs: Vec<u64>,
 }
 
-/// Makes the moves of a piece, each stage told as it ends, and sends the crew home.
+/// Makes the moves of a piece, writes the line of each stage as it ends, and dismisses the crew.
 fn end_course<V: Words + Sync + Drop, G: Gate, J: Naming, W: Sink, R: Threads + Wait + Sync>(
     rt: &R,
     alloc: Global,
@@ -57,7 +57,7 @@ fn end_course<V: Words + Sync + Drop, G: Gate, J: Naming, W: Sink, R: Threads + 
     told
 }
 
-// A closure that calls another one at a borrowed argument gets no proof; this function does.
+// A closure that calls another one with a borrowed argument cannot be proved; this function can.
 fn called<O, F: FnMut(&mut O) -> Result<(), RunFault>>(
     make: &mut F,
     owner: &mut O,
@@ -68,8 +68,8 @@ fn called<O, F: FnMut(&mut O) -> Result<(), RunFault>>(
     make(owner)
 }
 
-// What an owner does, while a crew works. The owner's type is a parameter: the threads' closures do not cover one that borrows and has
-// parameters too.
+// Runs `make` on the owner while the crew works. The owner's type is a parameter, since the threads' closures do not support a type that
+// both borrows and has parameters.
 fn beside<
     E: Task<T> + Send + Sync,
     T: Drop + Send,
@@ -94,7 +94,7 @@ fn beside<
     told
 }
 
-/// Makes the moves of a piece, each stage told as it ends, beside a crew that judges ahead.
+/// Makes the moves of a piece while a crew judges ahead, and writes the line of each stage as it ends.
 pub(crate) fn anneal_beside<
     E: Task<T> + Send + Sync,
     T: Drop + Send,

@@ -10,8 +10,8 @@ use fab_arch::read_arch;
 use fab_net::{Design, read_net};
 use std::alloc::Global;
 
-/// The pads at a position of the array, and the design, that two texts mean; else the first fault of the first of
-/// them that has one.
+/// Reads the number of pads at a position, and the design, from an architecture text and a netlist. An error is the first fault of the
+/// architecture text, or else of the netlist, or a lack of memory.
 pub(crate) fn read_design(alloc: Global, arch: &[u8], net: &[u8]) -> Result<(u16, Design), RunFault>
     ensures found { IfOk result (λ r. MeanDesign arch.now net.now r.0 r.1) }
     ensures ratio { IfOk result (λ r. (1 ≤ r.0) × (r.0 ≤ 64)) }

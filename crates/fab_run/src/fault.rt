@@ -1,4 +1,4 @@
-//! Why a run over texts gave no answer, and the line that says so.
+//! Why a run gave no answer, and the line that says so.
 
 ghost use Rattle.std.specs.Prelude.{◌≡◌, ◌++◌, Some, IfOk, OnOk};
 ghost use Rattle.fab_run.specs.FaultLines.{run_fault_text, named_place, named_bytes, name_text, fault_line as line_of_fault};
@@ -15,7 +15,7 @@ use std::alloc::{AllocError, AllocFailed, Global};
 use std::fmt;
 use thiserror::Error;
 
-/// Why a run gave no answer: the first fault of what it was given, or what it lacked.
+/// Why a run gave no answer: the first fault of its inputs, a writer that failed, or a lack of memory.
 #[derive(Clone, Copy, Debug, PartialEq, Eq, Error)]
 pub enum RunFault {
     /// The architecture text is faulty.
@@ -24,11 +24,11 @@ pub enum RunFault {
     Net(NetFault),
     /// The location text is faulty.
     Pads(PlaceFault),
-    /// The placement text is faulty, a label cannot stand in it, or its writer failed.
+    /// The placement text is faulty, a label is not allowed in it, or its writer failed.
     Place(PlaceFault),
     /// The checkpoint text is faulty, or its writer failed.
     Point(PointFault),
-    /// There is no such array, or the design does not fit on it.
+    /// The size of the array is out of range, or the design does not fit on it.
     Size(GridFault),
     /// The schedule is not lawful.
     Schedule(SchedFault),
@@ -38,7 +38,7 @@ pub enum RunFault {
     WorkersOutOfRange,
     /// The writer of the report failed.
     Report,
-    /// There was no memory to go on.
+    /// Memory ran out.
     NoMemory,
 }
 
@@ -129,7 +129,7 @@ impl From<PointFault> for RunFault {
     }
 }
 
-/// A fault of the location text.
+/// The fault of a run whose location text has this fault.
 pub(crate) fn pads_fault(fault: PlaceFault) -> RunFault
     ensures { result ≡ of_pads fault }
 {
@@ -163,7 +163,7 @@ impl From<WriteFault> for RunFault {
     }
 }
 
-/// The place in the netlist of the name that a fault is told with, where it is told with one.
+/// The span, in the netlist, of the name that the line of a fault shows, if it shows one.
 fn named_place(fault: &RunFault) -> Option<Span>
     ensures { result ≡ named_place fault.now }
 {
@@ -175,14 +175,14 @@ fn named_place(fault: &RunFault) -> Option<Span>
     }
 }
 
-/// What a text has at a place, and nothing where the place does not lie in it.
+/// The bytes of a text at a span; none if the span is not within the text.
 fn named_bytes<'a>(net: &'a [u8], span: &Span) -> &'a [u8]
     ensures { result.now ≡ named_bytes net.now span.now }
 {
     net.get(span.start..span.stop).unwrap_or(b"")
 }
 
-/// Puts the name that a fault is told with at the end, where it is told with one.
+/// Appends the name that the line of a fault shows, if it shows one.
 fn push_name(line: &mut Vec<u8>, fault: &RunFault, net: &[u8]) -> Result<(), AllocError>
     ensures { OnOk result (line.new.items ≡ line.old.items ++ name_text (named_place fault.now) net.now) }
 {
@@ -193,8 +193,9 @@ fn push_name(line: &mut Vec<u8>, fault: &RunFault, net: &[u8]) -> Result<(), All
     Ok(())
 }
 
-/// The line that tells of a fault, without a line feed at its end: `vplace: ROLE: CODE NAME` and its detail. `net`
-/// is the netlist text in which the span of a fault lies; a span that does not lie in it names nothing.
+/// The line that reports a fault, without a line feed at its end: `vplace: ROLE: CODE NAME` and its detail. A lack of memory, and a writer
+/// that failed, are told in words. `net` is the netlist text that the span of a fault refers to; a span that is not within it names
+/// nothing.
 pub fn fault_line(alloc: Global, fault: &RunFault, net: &[u8]) -> Result<Vec<u8>, AllocError>
     ensures { IfOk result (λ line. line.items ≡ line_of_fault fault.now net.now) }
 {

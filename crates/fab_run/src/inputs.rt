@@ -5,48 +5,49 @@ use fab_file::Labels;
 use fab_sched::Cooling;
 use fab_site::Placement;
 
-/// The texts of a run, and the names of their files that its place text shows.
+/// The texts of a run, and the file names that its place text shows.
 #[derive(Clone, Copy, Debug)]
 pub struct Inputs<'a> {
     /// The architecture text.
     pub arch: &'a [u8],
     /// The netlist text.
     pub net: &'a [u8],
-    /// The location text: blocks that are fixed at a site, or begin there.
+    /// The location text, which fixes blocks at sites or starts them there.
     pub pads: Option<&'a [u8]>,
     pub labels: Labels<'a>,
 }
 
-/// How the moves of a stage are given.
+/// How the number of moves of a stage is given.
 #[derive(Clone, Copy, Debug, PartialEq, Eq)]
 pub enum Moves {
-    /// So many, 1 to 1,073,741,824.
+    /// This number, 1 to 1,073,741,824.
     Given(u64),
-    /// By VPR's rule: this factor, 1 to 10,000, times the number of all blocks to the power 4/3, rounded down, and at least 1.
-    /// What comes out has the limits of `Given`.
+    /// By VPR's rule: this factor, 1 to 10,000, times the number of all blocks to the power 4/3, rounded down, and at least 1. The result
+    /// has the limits of `Given`.
     Inner(u64),
 }
 
-/// The numbers of a run. Temperatures are 1 to 1,073,741,824 ten-thousandths.
+/// The numbers of a run. Temperatures are in ten-thousandths, 1 to 1,073,741,824.
 #[derive(Clone, Copy, Debug, PartialEq, Eq)]
 pub struct Options {
-    /// Of the random words.
+    /// The seed of the random words.
     pub seed: u64,
-    /// The columns and rows of the array, 1 to 1,000 each; where none are given, the least square array is taken.
+    /// The columns and rows of the array, 1 to 1,000 each. Without them, the smallest square array that holds the design is taken.
     pub size: Option<(u16, u16)>,
     /// The first temperature.
     pub init_t: u64,
-    /// The least temperature that is run.
+    /// The lowest temperature that is run before the frozen stage.
     pub exit_t: u64,
-    /// How the temperature falls: a factor is 1 to 999 thousandths.
+    /// How the temperature falls. A factor is in thousandths, 1 to 999.
     pub cooling: Cooling,
-    /// The moves of a stage.
+    /// How many moves a stage has.
     pub moves: Moves,
-    /// How many moves a turn commits, 1 to 4,096. What is placed does not depend on it.
+    /// How many moves a turn commits, 1 to 4,096. The placement does not depend on it.
     pub batch: u64,
-    /// How many threads judge moves ahead, 1 to 64. What is placed does not depend on it.
+    /// How many threads judge moves ahead, 1 to 64. The placement does not depend on it.
     pub workers: u64,
-    /// After how many moves of the run it stops. A stop before the first move of a piece is passed, and so is one that no move follows.
+    /// After how many moves it stops, counted from the first move of the run. A stop that lies before the beginning of a piece has no
+    /// effect on it, and neither has one after which no move is left.
     pub stop: Option<u64>,
 }
 
@@ -55,7 +56,7 @@ pub struct Options {
 pub enum Ending {
     /// No move is left.
     Finished,
-    /// It is at its stop, and moves are left: `resume_run` goes on from the text of this point.
+    /// The run is at its stop, and moves are left: `resume_run` continues from the text of this point.
     Stopped(Point),
 }
 
@@ -63,13 +64,13 @@ pub enum Ending {
 #[derive(Drop)]
 pub struct Outcome {
     pub ending: Ending,
-    /// Where the blocks stand at the end.
+    /// The sites of the blocks at the end.
     pub placement: Placement,
-    /// The numbers of the accepted moves, in order.
+    /// The numbers of the moves that were accepted in the piece, in order.
     pub accepted: Vec<u64>,
     /// The cost before the first move of the piece, and after each stage that ended in it, in ten-thousandths.
     pub costs: Vec<u64>,
-    /// How many moves were judged again, because a move that was accepted since had touched what their verdicts rested on.
-    /// It depends on the batch, and not on the workers.
+    /// How many moves were judged again, because a move accepted after their judgement had changed what their verdicts depend on. It
+    /// depends on the batch, but not on the workers.
     pub redone: u64,
 }

@@ -1,44 +1,47 @@
-//! Laws about runs, for whoever builds on them. A function whose contract is a law has nothing to do.
+//! Laws about runs, for code that builds on them. A function whose contract is a law has an empty body.
 
 ghost use Rattle.fab_run.specs.Chains.{CallsAreRuns, ChainsAreRuns, ResumedCallsAreRuns};
-ghost use Rattle.fab_run.specs.SameAnswers.{AnswersAreTold, RedoneIsTold, ResumedAreTold, ResumedRedoneIsTold};
+ghost use Rattle.fab_run.specs.SameAnswers.{AnswersAreTold, RedoneIsTold, ResumedAreTold, ResumedRedoneIsTold, ShownIsTold};
 ghost use Rattle.fab_run.specs.Watched.{PiecesShowStandings, TurnsShowStandings, WatchersReadInOrder, WatchersReadStandings};
 
 use fab_site::Words;
 
-/// The law that texts and numbers alone tell what a run answers: two runs of the same texts whose seed, size, schedule, moves and stop
-/// are the same end alike, and have the same placement, accepted moves, costs, report and place text, whatever their batches and numbers
-/// of workers. So do two runs that go on from one checkpoint text to one stop. With one batch they also judge as many moves again.
+/// The law that the texts and numbers alone determine what a run answers. Two runs of the same texts, with the same seed, size, schedule,
+/// moves and stop, end alike, and have the same placement, accepted moves, costs, report and place text, whatever their batches and numbers
+/// of workers. The same holds for two runs that are resumed from one checkpoint text with the same stop. With the same batch, they also
+/// judge the same number of moves again, and two runs of the same texts show the same readings on a dial.
 pub fn answers_are_told()
     ensures placed { AnswersAreTold }
     ensures resumed { ResumedAreTold }
     ensures redone { RedoneIsTold }
     ensures resumed_redone { ResumedRedoneIsTold }
+    ensures shown { ShownIsTold }
 {}
 
-/// The law that pieces of annealing one move at a time, each from where the one before stopped, are the unbroken run, wherever they stop:
-/// what they accept, the lines of their stages and the costs there, joined, are those of the run, and the last piece ends where the run
-/// ends.
+/// The law that pieces of annealing one move at a time, each from where the one before stopped, are the unbroken run, wherever they stop.
+/// Joined, the moves that they accept, the lines of their stages and the costs at the ends of these are those of the run, and the last
+/// piece ends where the run ends.
 pub fn chains_are_runs()
     ensures { ChainsAreRuns }
 {}
 
-/// The law that calls of a run are one call without a stop, whatever their stops, batches and workers: the first is `place_run`, and each
-/// later one `resume_run`, with the same architecture and netlist and a checkpoint text of the point where the call before stopped. Their
-/// reports joined are its report, and so are the accepted moves, and the costs without the first of each later call; the last call has
-/// its placement and its place text, with the names that the last call shows. The same is true of calls of `resume_run` alone, and one
-/// such call without a stop.
+/// The law that calls of a run are one call without a stop, whatever their stops, batches and workers. The first call is `place_run`; each
+/// later one is `resume_run`, with the same architecture and netlist and a checkpoint text of the point where the call before it stopped.
+/// Their reports joined are the report of the one call. So are the accepted moves, and the costs without the first cost of each later call.
+/// The last call has the placement of the one call, and its place text with the names that the last call shows. The same holds for calls of
+/// `resume_run` alone and one such call without a stop.
 pub fn calls_are_runs()
     ensures placed { CallsAreRuns }
     ensures resumed { ResumedCallsAreRuns }
 {}
 
-/// The law of a dial on which turns and pieces of runs alone show, as `Anneal::turn_shown` and `place_run_shown` do. What each shows is
-/// of standings of its run, in the order of their moves, also where it is not answered. So each reading that a watcher read, until it is
-/// gathered, is the first one of the dial or that of a standing; and where one run alone showed, they are in the order of its moves.
+/// The law of a dial on which only turns and runs show, as `Anneal::turn_shown` and `place_run_shown` do. The turns of an annealer, or a
+/// piece of a run, show readings after moves of their run, in the order of the moves, even if they fail. So each reading that a watcher
+/// took before it was gathered is the first one of the dial, or one after moves of these annealers and runs. If only one of them showed,
+/// the watcher's readings are in the order of its moves.
 pub fn watchers_read_standings<W: Words>()
     ensures turns { TurnsShowStandings W.moves }
     ensures pieces { PiecesShowStandings }
-    ensures watched { WatchersReadStandings }
-    ensures order { WatchersReadInOrder }
+    ensures watched { WatchersReadStandings W.moves }
+    ensures order { WatchersReadInOrder W.moves }
 {}

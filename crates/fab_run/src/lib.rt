@@ -1,6 +1,8 @@
-//! Runs over texts: what goes in, what comes out.
+//! Runs on texts: what goes in, and what comes out.
 #![tactic(auto)]
 
+#[cfg(test)]
+mod asked_tests;
 pub mod check;
 #[cfg(test)]
 mod check_tests;

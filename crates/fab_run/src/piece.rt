@@ -1,4 +1,4 @@
-//! A piece of a run: from where an annealer stands to its stop or to the last move, and what is told of it.
+//! A piece of a run: from an annealer's standing to its stop or to the last move, and what the report tells of it.
 
 ghost use Rattle.std.specs.Prelude.{◌≡◌, ◌≢◌, ◌≤◌, ◌⊎◌, true, [], ◌∷◌, OnOk, OnErr, IfOk, IfErr};
 ghost use Rattle.std.specs.Io.KnownBytes.{Appends};
@@ -34,7 +34,7 @@ use std::marker::Brand;
 use std::sync::{Arc, Wait};
 use std::thread::Threads;
 
-/// A piece that is asked for, beside the annealer that is to make it.
+/// A requested piece, without the annealer that is to make it.
 #[derive(Drop)]
 pub(crate) struct Piece<'d, 'g> {
     /// The design of the run.
@@ -47,7 +47,7 @@ pub(crate) struct Piece<'d, 'g> {
     pub(crate) pace: Pace,
 }
 
-/// A dial that nobody watches, for a run that is shown to nobody.
+/// A dial that nobody watches, for a run that shows nothing.
 pub(crate) fn unwatched<R: Wait>(rt: &R, alloc: Global) -> Result<(Dial, Shower), AllocError>
     ensures { IfOk result (λ r. r.1.dial ≡ r.0) }
 {
@@ -70,7 +70,7 @@ fn ending_of(anneal: &Anneal<'_, StreamWords>) -> Result<Ending, AllocError>
     })
 }
 
-/// What an annealer answers that made its piece.
+/// The answer of an annealer that made its piece.
 fn outcome(
     alloc: Global,
     anneal: &Anneal<'_, StreamWords>,
@@ -96,8 +96,8 @@ fn outcome(
     })
 }
 
-/// What a report shows before the first move goes out, and the writer of the place text is asked whether it is ready. The answer is the
-/// cost, alone in a list.
+/// Writes what the report shows before the first move, and asks the writer of the place text whether it is ready. Returns the
+/// cost, as the only item of a list.
 fn tell_start<W: Sink, P: Sink>(
     alloc: Global,
     cost: u64,
@@ -123,7 +123,7 @@ fn tell_start<W: Sink, P: Sink>(
     Ok(costs)
 }
 
-/// The same while a crew waits, which is answered too. Where the start was not told, the crew is let go here.
+/// Does the same while a crew waits, and returns the crew too. On a fault, the crew is dropped here.
 fn start_beside<E: Task<T>, T: Drop, J: Naming, W: Sink, P: Sink>(
     alloc: Global,
     crew: Arc<Shared<E, T, J>>,
@@ -145,7 +145,7 @@ fn start_beside<E: Task<T>, T: Drop, J: Naming, W: Sink, P: Sink>(
     Ok((crew, costs))
 }
 
-/// The last line of a report goes out, where no move is left.
+/// Writes the last line of a report, if no move is left.
 fn tell_last<W: Sink>(
     alloc: Global,
     anneal: &Anneal<'_, StreamWords>,
@@ -165,7 +165,7 @@ fn tell_last<W: Sink>(
     Ok(())
 }
 
-/// The last line of a report goes out, where no move is left. The answer is that of the run.
+/// Writes the last line of a report, if no move is left. Returns the answer of the run.
 fn tell_end<W: Sink>(
     alloc: Global,
     anneal: &Anneal<'_, StreamWords>,
@@ -190,7 +190,7 @@ fn tell_end<W: Sink>(
     Ok(outcome)
 }
 
-/// Makes the moves of a piece beside a crew, and tells of it. The gate is called beside each judgement and each commit.
+/// Makes the moves of a piece with a crew, and reports them. The gate is called around each judgement and before each commit.
 fn anneal_told<
     'a,
     'g,
@@ -251,7 +251,7 @@ fn anneal_told<
     tell_end(alloc, &anneal, costs, report)
 }
 
-/// The place text of a run that is finished goes out.
+/// Writes the place text of a run that is finished.
 fn tell_placement<P: Sink>(
     alloc: Global,
     inputs: &Inputs,
@@ -276,9 +276,10 @@ fn tell_placement<P: Sink>(
     }
 }
 
-/// Makes a piece. The lines of its report go out as its stages end, and the place text once the report is whole, where the piece finishes
-/// the run. Before the first move, when the head of the report has gone out, the writer of the place text is asked whether it is ready.
-/// The gate is called beside each judgement and each commit, and the dial shows how far the run has come, once for each turn.
+/// Makes a piece. Writes the lines of its report as its stages end, and the place text once the report is whole, if the piece finishes
+/// the run. Before the first move, after the head of the report, the writer of the place text is asked whether it is ready.
+/// The gate is called around each judgement and before each commit, and the dial shows the run's progress, once for each answered
+/// turn that made moves.
 pub(crate) fn run_piece<G: Gate, R: AllocGlobal + Threads + Wait + Sync, W: Sink, P: Sink>(
     rt: &R,
     anneal: Anneal<'_, StreamWords>,

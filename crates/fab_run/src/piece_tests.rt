@@ -1,5 +1,6 @@
-// Pieces of runs: where they stop, and how they go on from a checkpoint text. What is expected was worked out by hand for the design of
-// three blocks, whose every move finds its block's own site, and made by an independent placer for that of seven.
+// Pieces of runs: where they stop, and how they are resumed from a checkpoint text. The expected answers for the design of three blocks,
+// whose every move finds its block's own site, were worked out by hand; those for the design of seven blocks were made by an independent
+// placer.
 
 use crate::point_tests::{BY_ACCEPTANCE, FIRST, SECOND};
 use crate::run_tests::{
@@ -27,7 +28,7 @@ final cost 4.0000 accepted 0 of 15
 
 const TO_THE_END: &[u8] = b"accepted\ncosts 40000 40000 40000 40000 40000\nredone 0\n";
 
-// How a run goes on: from which text, by which batch and workers, and where it stops, if it does.
+// How a run is resumed: from which text, with which batch and workers, and where it stops, if it does.
 #[derive(Clone, Copy)]
 struct Going<'a> {
     point: &'a [u8],
@@ -43,7 +44,7 @@ const GOING: Going<'static> = Going {
     stop: None,
 };
 
-// What it answers and writes where its two writers take so many bytes, in one text.
+// What a resumed run answers and writes, in one text, with two writers that take this many bytes.
 fn go_on_narrow(
     rt: &(impl AllocGlobal + Threads + Wait + Sync),
     inputs: &Inputs,
@@ -160,7 +161,7 @@ fn a_stop_before_the_start_is_passed(rt: HostRuntime) -> Result<(), Fail> {
     Ok(())
 }
 
-// Whether a run that goes on is refused with this line.
+// Whether a resumed run is refused with this line.
 fn refused(
     rt: &(impl AllocGlobal + Threads + Wait + Sync),
     inputs: &Inputs,
@@ -172,7 +173,7 @@ fn refused(
 
 #[test]
 fn the_first_fault_of_a_run_that_goes_on_is_told(rt: HostRuntime) -> Result<(), Fail> {
-    // Each row mends what the row before is refused for.
+    // Each row corrects what the row before is refused for.
     let worst = Inputs {
         arch: b"",
         net: b"q",

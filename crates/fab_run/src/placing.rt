@@ -33,7 +33,7 @@ use std::sync::Wait;
 use std::thread::Threads;
 
 /// An annealer before its first move, on the start placement that the seed draws.
-fn annealer<'a>(
+pub(crate) fn annealer<'a>(
     alloc: Global,
     design: &'a Design,
     grid: &'a Grid,
@@ -50,7 +50,7 @@ fn annealer<'a>(
     Anneal::new(alloc, design, grid, placement, pins.fixed, schedule, words)
 }
 
-/// Such an annealer, and the first two lines of its report.
+/// The same annealer, and the first two lines of its report.
 fn begin<'a>(
     alloc: Global,
     design: &'a Design,
@@ -69,12 +69,12 @@ fn begin<'a>(
     Ok((anneal, head))
 }
 
-/// Places the design of a run as `place_run` does, and shows on the dial how far it has come: the moves made, those accepted among them
-/// and the cost, in ten-thousandths. There is one reading for each turn that is answered: where each turn but the first begins, and
-/// where the last ends. Turns are of `batch` moves, counted from the first move of each stage, and the last one of a stage or of a
-/// stopped run may be shorter. The shower is one of this dial by condition.
+/// Places the design of a run as `place_run` does, and shows its progress on the dial: the moves made, how many of them were accepted,
+/// and the cost, in ten-thousandths. There is one reading for each turn that succeeds: at the start of each turn but the first, and
+/// at the end of the last one. Turns have `batch` moves, counted from the first move of each stage; the last one of a stage or of a
+/// stopped run may be shorter. The shower must be one of this dial.
 ///
-/// The gate is called before and after each judgement of a worker, and before each commit. What is placed and written is that of
+/// The gate is called before and after each judgement of a worker, and before each commit. The placement and the output are those of
 /// `place_run`, whatever the gate does, if its calls return.
 pub fn place_run_shown<G: Gate, R: AllocGlobal + Threads + Wait + Sync, W: Sink, P: Sink>(
     rt: &R,
@@ -89,26 +89,26 @@ pub fn place_run_shown<G: Gate, R: AllocGlobal + Threads + Wait + Sync, W: Sink,
     requires own { shower.old.dial ≡ dial.now }
     // The headline: placement, accepted moves, costs, report, ending and place text are those of annealing one move at a time.
     ensures headline { IfOk result (λ out. IsPlaced (AskFor (texts_of inputs.now) options.now) (texts_of inputs.now) (answer_of out) (W.contents report.old) (W.contents report.new) (P.contents place.old) (P.contents place.new)) }
-    // How many moves were judged again is told by setting, seed, stop and batch, and not by the number of workers.
+    // Setting, seed, stop and batch determine how many moves were judged again; the number of workers does not.
     ensures redone { IfOk result (λ out. (p : PieceAsked) × AskFor (texts_of inputs.now) options.now p × AreRedone p options.now.batch out.redone) }
-    // Where no check fails, it is answered, unless memory or a writer fails.
+    // If no check fails, the run succeeds unless memory runs out or a writer fails.
     ensures only { (s : Setting) → IsSetting (texts_of inputs.now) options.now s → IfErr result (λ e. ¬ IsRefusal e) }
-    // An error is the first check that fails, or want of memory, or that of the writer that failed.
+    // An error is the first check that fails, a lack of memory, or the failure of a writer.
     ensures fault { IfErr result (IsRunFault (texts_of inputs.now) options.now) }
-    // A run that is refused writes nothing; at any other fault a beginning of the report may have gone out.
+    // A refused run writes nothing. After any other fault, a beginning of the report may have been written.
     ensures silent { IfErr result (λ e. IsRefusal e → W.contents report.new ≡ W.contents report.old) }
     ensures cut { OnErr result ((W.contents report.new ≡ W.contents report.old) ⊎ IsReportBegun (AskFor (texts_of inputs.now) options.now) (W.contents report.old) (W.contents report.new)) }
     ensures report_cut { IfErr result (λ e. e ≡ Report → IsReportCut (AskFor (texts_of inputs.now) options.now) (W.contents report.old) (W.contents report.new)) }
-    // The place text goes out behind the whole report, and only its own writer can cut it off. Where that is not ready, no move is
+    // The place text is written after the whole report, and only its own writer can cut it short. If that is not ready, no move is
     // made.
     ensures unplaced { IfErr result (λ e. e ≢ Place Write → P.contents place.new ≡ P.contents place.old) }
     ensures place_cut { IfErr result (λ e. e ≡ Place Write → IsPlaceCut (AskFor (texts_of inputs.now) options.now) (texts_of inputs.now) (W.contents report.old) (W.contents report.new) (P.contents place.old) (P.contents place.new)) }
-    // A writer failed only where the answer says so.
+    // A writer failed only if the answer says so.
     ensures sound { OnOk result ((W.failed report.new ≡ W.failed report.old) × (P.failed place.new ≡ P.failed place.old)) }
     ensures failed { IfErr result (λ e. (W.failed report.new ≡ report_failed_with e (W.failed report.old)) × (P.failed place.new ≡ place_failed_with e (P.failed place.old))) }
-    // Shown is how far the run had come where each turn but the first began, and at its end.
+    // The progress is shown at the start of each turn but the first, and at the end if moves were made.
     ensures shown { OnOk result (HaveShown (AskFor (texts_of inputs.now) options.now) options.now.batch shower.old.shown shower.new.shown) }
-    // A run that is refused shows nothing, and any other fault leaves a beginning of that.
+    // A refused run shows nothing. Any other fault leaves a beginning of these readings.
     ensures unshown { IfErr result (λ e. IsRefusal e → shower.new.shown ≡ shower.old.shown) }
     ensures shown_cut { OnErr result ((shower.new.shown ≡ shower.old.shown) ⊎ HaveShownInPart (AskFor (texts_of inputs.now) options.now) options.now.batch shower.old.shown shower.new.shown) }
     ensures dial { shower.new.dial ≡ shower.old.dial }
@@ -133,16 +133,16 @@ pub fn place_run_shown<G: Gate, R: AllocGlobal + Threads + Wait + Sync, W: Sink,
     )
 }
 
-/// Places the design of a run: anneals it from a start placement, by random words of the seed, to the last move or to the stop.
-/// Workers judge moves ahead, and moves are committed in order of number, so that the answer is that of one move after another. The
-/// report's lines go out as their stages end, and the place text once the report is whole; a run that stops writes no place text, and
-/// answers the point where it stands, from which `resume_run` goes on. Before the first move, when the first two lines have gone out,
-/// the writer of the place text is asked whether it is ready. What is placed and written does not depend on batch and workers, where
-/// these are in their limits.
+/// Places the design of a run: anneals it from a start placement, with random words of the seed, to the last move or to the stop.
+/// Workers judge moves ahead, and moves are committed in order of number, so the answer is that of one move after another. The
+/// report's lines are written as their stages end, and the place text once the report is whole. A run that stops writes no place text:
+/// it answers the point where it stopped, from which `resume_run` goes on. Before the first move, after the report's first two lines,
+/// the writer of the place text is asked whether it is ready. What is placed and written does not depend on batch and workers, if
+/// these are within their limits.
 ///
 /// An error is the first check that fails, in the order architecture, netlist, size (range, logic sites, pad sites), location
-/// text, labels, schedule, batch, workers: then nothing is written. Where none fails it is that of the writer that failed. Want of
-/// memory may come for any inputs.
+/// text, labels, schedule, batch, workers; nothing is written then. If no check fails, it is the failure of a writer. Memory may
+/// run out for any inputs.
 pub fn place_run<R: AllocGlobal + Threads + Wait + Sync, W: Sink, P: Sink>(
     rt: &R,
     inputs: &Inputs,
@@ -152,21 +152,21 @@ pub fn place_run<R: AllocGlobal + Threads + Wait + Sync, W: Sink, P: Sink>(
 ) -> Result<Outcome, RunFault>
     // The headline: placement, accepted moves, costs, report, ending and place text are those of annealing one move at a time.
     ensures headline { IfOk result (λ out. IsPlaced (AskFor (texts_of inputs.now) options.now) (texts_of inputs.now) (answer_of out) (W.contents report.old) (W.contents report.new) (P.contents place.old) (P.contents place.new)) }
-    // How many moves were judged again is told by setting, seed, stop and batch, and not by the number of workers.
+    // Setting, seed, stop and batch determine how many moves were judged again; the number of workers does not.
     ensures redone { IfOk result (λ out. (p : PieceAsked) × AskFor (texts_of inputs.now) options.now p × AreRedone p options.now.batch out.redone) }
-    // Where no check fails, it is answered, unless memory or a writer fails.
+    // If no check fails, the run succeeds unless memory runs out or a writer fails.
     ensures only { (s : Setting) → IsSetting (texts_of inputs.now) options.now s → IfErr result (λ e. ¬ IsRefusal e) }
-    // An error is the first check that fails, or want of memory, or that of the writer that failed.
+    // An error is the first check that fails, a lack of memory, or the failure of a writer.
     ensures fault { IfErr result (IsRunFault (texts_of inputs.now) options.now) }
-    // A run that is refused writes nothing; at any other fault a beginning of the report may have gone out.
+    // A refused run writes nothing. After any other fault, a beginning of the report may have been written.
     ensures silent { IfErr result (λ e. IsRefusal e → W.contents report.new ≡ W.contents report.old) }
     ensures cut { OnErr result ((W.contents report.new ≡ W.contents report.old) ⊎ IsReportBegun (AskFor (texts_of inputs.now) options.now) (W.contents report.old) (W.contents report.new)) }
     ensures report_cut { IfErr result (λ e. e ≡ Report → IsReportCut (AskFor (texts_of inputs.now) options.now) (W.contents report.old) (W.contents report.new)) }
-    // The place text goes out behind the whole report, and only its own writer can cut it off. Where that is not ready, no move is
+    // The place text is written after the whole report, and only its own writer can cut it short. If that is not ready, no move is
     // made.
     ensures unplaced { IfErr result (λ e. e ≢ Place Write → P.contents place.new ≡ P.contents place.old) }
     ensures place_cut { IfErr result (λ e. e ≡ Place Write → IsPlaceCut (AskFor (texts_of inputs.now) options.now) (texts_of inputs.now) (W.contents report.old) (W.contents report.new) (P.contents place.old) (P.contents place.new)) }
-    // A writer failed only where the answer says so.
+    // A writer failed only if the answer says so.
     ensures sound { OnOk result ((W.failed report.new ≡ W.failed report.old) × (P.failed place.new ≡ P.failed place.old)) }
     ensures failed { IfErr result (λ e. (W.failed report.new ≡ report_failed_with e (W.failed report.old)) × (P.failed place.new ≡ place_failed_with e (P.failed place.old))) }
 {

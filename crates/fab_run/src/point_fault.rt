@@ -1,4 +1,4 @@
-//! Why a text stands for no point of a run.
+//! Why a checkpoint text is refused, or was not written.
 
 ghost use Rattle.std.specs.Prelude.{◌≡◌, Some};
 ghost use Rattle.fab_run.specs.PointFaultTexts.{field_word, of_line_fault, point_fault_text};
@@ -13,11 +13,11 @@ use thiserror::Error;
 /// A field of a checkpoint text whose numbers have a range.
 #[derive(Clone, Copy, Debug, PartialEq, Eq)]
 pub enum PointField {
-    /// A lawful array with the architecture's pads at a position, which holds the design.
+    /// An array within its limits that holds the design, with as many pads at a position as the architecture has.
     Array,
     /// A lawful schedule.
     Schedule,
-    /// A stage of the schedule, with a move that is not made yet, and not more moves accepted than made.
+    /// A stage of the schedule with a move that is not made yet, and no more moves accepted than made.
     Stage,
     /// A temperature that the stage can have.
     Temperature,
@@ -48,21 +48,22 @@ impl fmt::Display for PointField {
     }
 }
 
-/// Why a text stands for no point of a run, or why none was written: its first fault.
+/// The first fault of a checkpoint text, or why none was written.
 #[derive(Clone, Copy, Debug, PartialEq, Eq, Error)]
 pub enum PointFault {
-    /// The first line does not give a version that is known.
+    /// The first line gives no known version.
     BadVersion,
-    /// The line with this number does not have the form that is due there, or no line is due any more; 0 where the text ends before it.
+    /// The line with this number does not have the form that is due there, or comes after the last line that is due; 0 if the text ends too
+    /// early.
     BadField(u64),
     /// The numbers of a field are out of range.
     OutOfRange(PointField),
-    /// The line of a fixed block or of a place is faulty: it is no such line, its block is unknown or named already, or, in the first
-    /// version, no pad; or its site is none, of another kind, or taken.
+    /// The line of a fixed block or of a place is faulty: it does not have this form; its block is unknown, already named, or, in the first
+    /// version, not a pad; or its site does not exist, is of another kind, or is taken.
     Block(PlaceFault),
     /// The writer failed.
     Write,
-    /// There was no memory to go on.
+    /// Memory ran out.
     NoMemory,
 }
 

@@ -1,4 +1,4 @@
-//! A checkpoint text is read: line by line, in the order of its fields.
+//! Reads a checkpoint text, line by line, in the order of its fields.
 
 ghost use Rattle.std.specs.Prelude.{◌≡◌, ◌≢◌, ◌⊎◌, ℕ, ◌*◌, ◌+◌, ◌<◌, ◌≤◌, ◌^◌, [], ◌∷◌, List, Some, None, IfOk, IfErr, OnOk, IfSome, IfNone, IsTrue, ◌↔◌, MatchResult, codes, length, max, slice_index_or, false, if◌then◌else◌, option_map};
 ghost use Rattle.fab_text.specs.Shown.{shown};
@@ -31,7 +31,7 @@ use fab_site::{Fixed, Placement};
 use fab_text::{Line, Lines};
 use std::alloc::{AllocError, Global};
 
-/// The line that is due next.
+/// Takes the next line, which has to be there.
 fn due<'a>(left: &mut Lines<'a>) -> Result<Line<'a>, PointFault>
     ensures ok { IfOk result (λ line. left.old ≡ shown line ∷ left.new) }
     ensures missing { IfErr result (λ e. (e ≡ NoMemory) ⊎ ((e ≡ BadField 0) × (left.old ≡ []))) }
@@ -163,7 +163,7 @@ fn read_head(
 }
 
 #[tactic(auto, using(crate::proofs::PointStages::earlier))]
-/// The index of the running stage, its moves that are made, and those that were accepted.
+/// The index of the running stage, how many of its moves are made, and how many of these were accepted.
 fn stage_field(left: &mut Lines, schedule: &Schedule) -> Result<(u64, u64, u64), PointFault>
     ensures read { IfOk result (λ x. IsRead stage_in (IsStageOf schedule.now) left.old x left.new) }
     ensures small { IfOk result (λ x. (x.0 + 1) * schedule.now.moves < 2 ^ 61) }
@@ -194,8 +194,7 @@ fn temperature_field(left: &mut Lines, schedule: &Schedule, index: u64) -> Resul
     }
 }
 
-/// The temperature of a stage: that of the next line, or in the first version, whose schedules cool by a factor, that of the
-/// schedule.
+/// The temperature of a stage: from the next line; in the first version, whose schedules cool by a factor, from the schedule.
 fn read_heat(
     left: &mut Lines,
     version: Version,
@@ -227,7 +226,7 @@ fn range_field(left: &mut Lines, grid: &Grid) -> Result<u64, PointFault>
     }
 }
 
-/// The moves accepted in all, where so many were made and so many of the running stage accepted.
+/// How many moves were accepted in all: at least those of the running stage, and at most all moves made.
 fn total_field(
     left: &mut Lines,
     schedule: &Schedule,
@@ -273,7 +272,7 @@ fn read_stage(
     Ok((stage, total))
 }
 
-/// Whether a block may be fixed: the first version fixes pads alone.
+/// Whether a block may be fixed: in the first version, only pads may.
 fn may_be_fixed(version: Version, design: &Design, block: BlockId) -> bool
     requires { block.0 < length design.now.kinds }
     ensures { IsTrue result ↔ MayBeFixed version design.now block.0 }
@@ -321,7 +320,7 @@ fn named_block(
     Ok(block)
 }
 
-/// The names of so many fixed blocks: of each block whether it is one.
+/// Takes the names of `count` fixed blocks. Returns, for each block, whether it is fixed.
 fn take_names(
     alloc: Global,
     left: &mut Lines,
@@ -341,7 +340,7 @@ fn take_names(
     Ok(named)
 }
 
-/// The fixed blocks: of each block whether it is one.
+/// Takes the fixed blocks. Returns, for each block, whether it is fixed.
 fn read_names(
     alloc: Global,
     left: &mut Lines,
@@ -358,7 +357,7 @@ fn read_names(
     take_names(alloc, left, version, design, count)
 }
 
-/// The places of all blocks, one line for each.
+/// Takes the sites of all blocks, one line for each.
 fn take_seats(
     alloc: Global,
     left: &mut Lines,
@@ -393,7 +392,7 @@ fn read_seats(
     take_seats(alloc, left, design, grid)
 }
 
-/// The last line, behind which none is left.
+/// Takes the last line, and checks that no line follows.
 fn read_end(left: &mut Lines) -> Result<(), PointFault>
     ensures read { OnOk result (EndRead left.old) }
     ensures fault { IfErr result (λ e. (e ≡ NoMemory) ⊎ EndFault e left.old) }
@@ -408,7 +407,7 @@ fn read_end(left: &mut Lines) -> Result<(), PointFault>
     }
 }
 
-/// The blocks that are named stay where they stand.
+/// Fixes each named block at its site.
 fn fix_named(alloc: Global, named: &[bool], placement: &Placement) -> Result<Fixed, AllocError>
     requires many { length named.now ≡ length placement.now.sites }
     requires few { length named.now < 2 ^ 32 }
@@ -452,8 +451,8 @@ fn read_parts(
     Ok((head.seed, head.grid, point))
 }
 
-/// The seed, the array and the point of a run that a checkpoint text stands for, with so many pads at a position and the design of that
-/// run; else its first fault.
+/// Reads the seed, the array and the point of a run from its checkpoint text, given the number of pads at a position and the design of that
+/// run; else the first fault of the text.
 pub(crate) fn point_for(
     alloc: Global,
     bytes: &[u8],
@@ -468,9 +467,10 @@ pub(crate) fn point_for(
     read_parts(alloc, bytes, io_rat, design)
 }
 
-/// The seed, the array and the point of a run that a checkpoint text stands for, with the architecture and the design of that run:
-/// a text of the first or the second version. Else its first fault: that of the first line that is faulty or missing. The time
-/// grows with the length of the text.
+/// Reads the seed, the array and the point of a run from its checkpoint text, of the first or the second version, given the architecture
+/// and the design of that run. The time grows with the length of the text.
+///
+/// An error is the first fault of the text, that of its first line that is faulty or missing, or a lack of memory.
 pub fn read_point(
     alloc: Global,
     bytes: &[u8],
@@ -481,7 +481,7 @@ pub fn read_point(
     ensures found { IfOk result (λ r. StandsForPoint arch.now.io_rat design.now (lines bytes.now) r.0 r.1 r.2) }
     // What it stands for is read, unless memory runs out.
     ensures only { (seed : ℕ) (g : GridShape) (p : PointOf) → StandsForPoint arch.now.io_rat design.now (lines bytes.now) seed g p → MatchResult result (λ r. (r.0 ≡ seed) × (r.1 ≡ g) × IsSamePoint r.2 p) (λ e. e ≡ NoMemory) }
-    // An error is the first fault, or want of memory.
+    // An error is the first fault, or a lack of memory.
     ensures fault { IfErr result (IsPointFault arch.now.io_rat design.now (lines bytes.now)) }
 {
     point_for(alloc, bytes, arch.io_rat, design)

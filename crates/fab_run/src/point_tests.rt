@@ -64,8 +64,7 @@ b 1 1 0
 end
 ";
 
-// What a checkpoint text stands for, written again by a writer that takes so many bytes; where it does not come to that, or the writer
-// fails, the line of the fault follows.
+// Reads a checkpoint text and writes its point again, by a writer that takes `room` bytes. If either fails, the line of the fault follows.
 fn told_of(
     alloc: Global,
     arch: &Arch,
@@ -103,7 +102,7 @@ fn told(alloc: Global, text: &[u8]) -> Result<Vec<u8>, Fail> {
     told_within(alloc, NET, text, 10_000)
 }
 
-// A text with another line in the place of the one with this number, from 1.
+// The text with this line in place of the one with this number, from 1.
 fn with_line(
     alloc: Global,
     text: &[u8],
@@ -476,7 +475,7 @@ fn both_versions_are_read_and_the_second_is_written(rt: HostRuntime) -> Result<(
     Ok(())
 }
 
-// A line of a text of the first or the second version, and lines of what is written then.
+// Reads `base` with another line, and expects what is written for `base` itself, with the wanted lines in place.
 fn assert_taken(
     rt: &(impl Abort + AllocGlobal),
     base: &[u8],

@@ -8,12 +8,12 @@ use fab_file::words::{is_word, word_at};
 use fab_sched::Cooling;
 use fab_text::{Line, decimal};
 
-/// The form of a text.
+/// The version of a checkpoint text.
 #[derive(Clone, Copy, Debug, PartialEq, Eq)]
 pub(crate) enum Version {
-    /// The temperature of a stage is that of the schedule's factor, and pads alone are fixed.
+    /// The schedule's factor gives the temperature of a stage, and only pads are fixed.
     One,
-    /// The temperature stands in the text, and any block may be fixed.
+    /// The text gives the temperature, the schedule may be adaptive, and any block may be fixed.
     Two,
 }
 
@@ -40,7 +40,7 @@ pub(crate) fn version_in(line: &Line) -> Option<Version>
     }
 }
 
-/// The whole number of 64 bits at a place of a line.
+/// The whole number of 64 bits at word `i` of a line.
 fn number_at(line: &Line, i: usize) -> Option<u64>
     ensures { result ≡ number_at (shown line.now) i }
 {
@@ -121,8 +121,8 @@ fn schedule_from(
     Some((init, exit, cooling, moves))
 }
 
-/// What a line `schedule I E A M` or `schedule I E adaptive M` gives: the first and the least temperature, how it cools, and the
-/// moves of a stage.
+/// What a line `schedule I E A M` or `schedule I E adaptive M` gives: the first and the lowest temperature, how it cools, and the moves of
+/// a stage.
 pub(crate) fn schedule_in(version: Version, line: &Line) -> Option<(u64, u64, Cooling, u64)>
     ensures { result ≡ schedule_in version (shown line.now) }
 {

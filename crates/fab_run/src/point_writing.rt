@@ -1,4 +1,4 @@
-//! A point of a run is written down, so that the run can be gone on with.
+//! Writes a point of a run as a checkpoint text, from which the run can be resumed.
 
 ghost use Rattle.std.specs.Prelude.{◌≡◌, ◌≢◌, ◌⊎◌, ◌++◌, length, codes, decimal, OnOk, IfOk, IfErr};
 ghost use Rattle.std.specs.List.{flat_map};
@@ -21,7 +21,7 @@ use fab_site::{Fixed, Placement};
 use fab_text::{Sink, push_number, write_whole};
 use std::alloc::{AllocError, Global};
 
-/// Puts a line `NAME N` at the end.
+/// Appends a line `NAME N`.
 fn push_field(text: &mut Vec<u8>, name: &[u8], n: u64) -> Result<(), AllocError>
     ensures { OnOk result (text.new.items ≡ text.old.items ++ ended (field_text name.now n)) }
 {
@@ -32,7 +32,7 @@ fn push_field(text: &mut Vec<u8>, name: &[u8], n: u64) -> Result<(), AllocError>
     Ok(())
 }
 
-/// Puts the line of the array at the end.
+/// Appends the line of the array.
 fn push_array(text: &mut Vec<u8>, grid: &Grid) -> Result<(), AllocError>
     ensures text { OnOk result (text.new.items ≡ text.old.items ++ ended (array_text grid.now)) }
     ensures limits { OnOk result (AreLimits grid.now.nx grid.now.ny grid.now.io_rat) }
@@ -47,7 +47,7 @@ fn push_array(text: &mut Vec<u8>, grid: &Grid) -> Result<(), AllocError>
     Ok(())
 }
 
-/// Puts a factor, or the word for cooling by acceptance, at the end.
+/// Appends a factor, or the word for adaptive cooling.
 fn push_cooling(text: &mut Vec<u8>, cooling: Cooling) -> Result<(), AllocError>
     ensures { OnOk result (text.new.items ≡ text.old.items ++ cooling_text cooling) }
 {
@@ -60,7 +60,7 @@ fn push_cooling(text: &mut Vec<u8>, cooling: Cooling) -> Result<(), AllocError>
     }
 }
 
-/// Puts the beginning of the line of the schedule, up to its temperatures, at the end.
+/// Appends the beginning of the line of the schedule, up to its temperatures.
 fn push_temperatures(text: &mut Vec<u8>, schedule: &Schedule) -> Result<(), AllocError>
     ensures { OnOk result (text.new.items ≡ text.old.items ++ (codes "schedule " ++ decimal schedule.now.init ++ codes " " ++ decimal schedule.now.exit ++ codes " ")) }
 {
@@ -72,7 +72,7 @@ fn push_temperatures(text: &mut Vec<u8>, schedule: &Schedule) -> Result<(), Allo
     Ok(())
 }
 
-/// Puts the line of the schedule at the end.
+/// Appends the line of the schedule.
 fn push_schedule(text: &mut Vec<u8>, schedule: &Schedule) -> Result<(), AllocError>
     ensures text { OnOk result (text.new.items ≡ text.old.items ++ ended (schedule_text schedule.now)) }
     ensures lawful { OnOk result (IsLawfulPlan schedule.now) }
@@ -85,7 +85,7 @@ fn push_schedule(text: &mut Vec<u8>, schedule: &Schedule) -> Result<(), AllocErr
     Ok(())
 }
 
-/// Puts the line of the running stage at the end.
+/// Appends the line of the running stage.
 fn push_stage(text: &mut Vec<u8>, stage: &Stage) -> Result<(), AllocError>
     ensures { OnOk result (text.new.items ≡ text.old.items ++ ended (stage_text stage.now)) }
 {
@@ -99,7 +99,7 @@ fn push_stage(text: &mut Vec<u8>, stage: &Stage) -> Result<(), AllocError>
     Ok(())
 }
 
-/// Puts the lines up to the schedule at the end.
+/// Appends the lines up to the schedule.
 fn push_head(
     text: &mut Vec<u8>,
     seed: u64,
@@ -117,7 +117,7 @@ fn push_head(
     Ok(())
 }
 
-/// Puts the lines of the running stage, and of the moves accepted in all, at the end.
+/// Appends the lines of the running stage, and of the moves accepted in all.
 fn push_place_in_run(text: &mut Vec<u8>, stage: &Stage, total: u64) -> Result<(), AllocError>
     ensures { OnOk result (text.new.items ≡ text.old.items ++ flat_map ended (stage_lines stage.now total)) }
 {
@@ -128,7 +128,7 @@ fn push_place_in_run(text: &mut Vec<u8>, stage: &Stage, total: u64) -> Result<()
     Ok(())
 }
 
-/// How many of the first `blocks` blocks are fixed.
+/// How many blocks of the design are fixed.
 fn fixed_count(design: &Design, fixed: &Fixed) -> u64
     ensures { result ≡ length (fixed_blocks design.now fixed.now) }
 {
@@ -141,7 +141,7 @@ fn fixed_count(design: &Design, fixed: &Fixed) -> u64
     count
 }
 
-/// Puts the line of a fixed block at the end.
+/// Appends the line of a fixed block.
 fn push_fixed_line(text: &mut Vec<u8>, name: &[u8]) -> Result<(), AllocError>
     ensures { OnOk result (text.new.items ≡ text.old.items ++ ended (name.now ++ codes " fixed")) }
 {
@@ -151,7 +151,7 @@ fn push_fixed_line(text: &mut Vec<u8>, name: &[u8]) -> Result<(), AllocError>
     Ok(())
 }
 
-/// Puts the lines of the fixed blocks at the end.
+/// Appends the number of fixed blocks, and the line of each.
 fn push_fixed(text: &mut Vec<u8>, design: &Design, fixed: &Fixed) -> Result<(), AllocError>
     ensures { OnOk result (text.new.items ≡ text.old.items ++ flat_map ended (fixed_lines design.now fixed.now)) }
 {
@@ -165,7 +165,7 @@ fn push_fixed(text: &mut Vec<u8>, design: &Design, fixed: &Fixed) -> Result<(), 
     Ok(())
 }
 
-/// Puts a space and a number at the end.
+/// Appends a space and a number.
 fn push_column(text: &mut Vec<u8>, n: u16) -> Result<(), AllocError>
     ensures { OnOk result (text.new.items ≡ text.old.items ++ codes " " ++ decimal n) }
 {
@@ -174,7 +174,7 @@ fn push_column(text: &mut Vec<u8>, n: u16) -> Result<(), AllocError>
     Ok(())
 }
 
-/// Puts the line of the place of a block at the end.
+/// Appends the line of the site of a block.
 fn push_place(text: &mut Vec<u8>, name: &[u8], site: Site) -> Result<(), AllocError>
     ensures { OnOk result (text.new.items ≡ text.old.items ++ ended (seat_text name.now site)) }
 {
@@ -186,7 +186,7 @@ fn push_place(text: &mut Vec<u8>, name: &[u8], site: Site) -> Result<(), AllocEr
     Ok(())
 }
 
-/// Puts the lines of the places at the end.
+/// Appends the number of blocks, and the line of the site of each.
 fn push_places(text: &mut Vec<u8>, design: &Design, placement: &Placement) -> Result<(), AllocError>
     requires { length placement.now.sites ≡ length design.now.kinds }
     ensures text { OnOk result (text.new.items ≡ text.old.items ++ flat_map ended (place_lines design.now placement.now.sites)) }
@@ -223,8 +223,8 @@ fn text_of(
     Ok(text)
 }
 
-/// Writes the text of a point of a run with this seed, of a design on an array that holds it: in the second version. Want of memory
-/// writes nothing; where the writer fails, a beginning of the text has gone out.
+/// Writes the checkpoint text, in the second version, of a point of a run with this seed, for a design on an array that holds it. If memory
+/// runs out, nothing is written; if the writer fails, it has taken a beginning of the text.
 pub fn write_point<W: Sink>(
     alloc: Global,
     out: &mut W,
@@ -239,10 +239,10 @@ pub fn write_point<W: Sink>(
     // What is written reads back: it stands for the seed, the array and the point.
     ensures back { OnOk result (StandsForPoint grid.now.io_rat design.now (lines (point_text seed design.now grid.now point.now)) seed grid.now point.now) }
     ensures only { IfErr result (λ e. (e ≡ Write) ⊎ (e ≡ NoMemory)) }
-    // Want of memory writes nothing, and a writer that fails has taken a beginning.
+    // If memory runs out, nothing is written. A writer that fails has taken a beginning.
     ensures silent { IfErr result (λ e. e ≡ NoMemory → W.contents out.new ≡ W.contents out.old) }
     ensures cut { IfErr result (λ e. e ≡ Write → IsCut (point_text seed design.now grid.now point.now) (W.contents out.old) (W.contents out.new)) }
-    // The writer failed only where the answer says so.
+    // The writer failed only if the answer says so.
     ensures sound { OnOk result (W.failed out.new ≡ W.failed out.old) }
     ensures failed { IfErr result (λ e. W.failed out.new ≡ failed_with e (W.failed out.old)) }
 {

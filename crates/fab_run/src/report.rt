@@ -8,7 +8,7 @@ use fab_net::Design;
 use fab_text::{push_fixed3, push_fixed4, push_number};
 use std::alloc::{AllocError, Global};
 
-/// The line of the design and its array, and that of the cost at the start.
+/// The first two lines: the design and its array, and the cost at the start.
 pub(crate) fn head_lines(
     alloc: Global,
     design: &Design,
@@ -58,8 +58,8 @@ fn push_array(lines: &mut Vec<u8>, grid: &Grid) -> Result<(), AllocError>
     Ok(())
 }
 
-/// The line of a stage that ended, by its index, temperature and range, the moves of a stage, those that were accepted,
-/// and the cost at its end.
+/// The line of a stage that ended: its index, its temperature `t` in ten-thousandths, its range in thousandths, the moves of a stage, how
+/// many of them were accepted, and the cost at its end in ten-thousandths.
 pub(crate) fn stage_line(
     alloc: Global,
     index: u64,
@@ -99,7 +99,7 @@ fn push_stage(line: &mut Vec<u8>, index: u64, t: u64) -> Result<(), AllocError>
     Ok(())
 }
 
-/// The last line: the cost at the end, and how many of all moves were accepted.
+/// The last line: the cost at the end in ten-thousandths, and how many of all moves were accepted.
 pub(crate) fn final_line(
     alloc: Global,
     cost: u64,

@@ -1,4 +1,4 @@
-//! A run that goes on from a checkpoint text.
+//! Resumes a run from a checkpoint text.
 
 ghost use Rattle.std.specs.Prelude.{◌≡◌, ◌≢◌, ◌⊎◌, true, OnOk, OnErr, IfOk, IfErr};
 ghost use Rattle.fab_file.specs.Written.{are_labels as labels_are};
@@ -31,7 +31,8 @@ use std::alloc::Global;
 use std::sync::Wait;
 use std::thread::Threads;
 
-/// The design of two texts; and the seed, the array and the point that a checkpoint text stands for with it.
+/// Reads the design from the architecture and netlist texts, then the seed, the array and the point that the checkpoint text stands for
+/// with this design.
 fn read_texts(
     alloc: Global,
     inputs: &Inputs,
@@ -47,7 +48,7 @@ fn read_texts(
     Ok((design, seed, grid, point))
 }
 
-/// Checks what stands behind the texts: the labels, the batch, the workers.
+/// Checks what comes after the texts: the labels, then the batch, then the workers.
 fn check_numbers(inputs: &Inputs, batch: u64, workers: u64) -> Result<(), RunFault>
     ensures labels { OnOk result (labels_are inputs.now.labels.net.now inputs.now.labels.arch.now ≡ true) }
     ensures batch { OnOk result (Within 4096 batch) }
@@ -60,7 +61,7 @@ fn check_numbers(inputs: &Inputs, batch: u64, workers: u64) -> Result<(), RunFau
     check_threads(batch, workers)
 }
 
-/// What a resumed run goes on with, or the first check that fails.
+/// Reads and checks all that a resumed run is given; fails with the first check that fails.
 fn read_going(
     alloc: Global,
     inputs: &Inputs,
@@ -78,7 +79,7 @@ fn read_going(
     Ok((design, seed, grid, point))
 }
 
-/// Goes on with a run as `resume_run` does, and shows on the dial how far it has come, as `place_run_shown` does.
+/// Resumes a run as `resume_run` does, and shows its progress on the dial, as `place_run_shown` does.
 pub(crate) fn resume_run_shown<G: Gate, R: AllocGlobal + Threads + Wait + Sync, W: Sink, P: Sink>(
     rt: &R,
     inputs: &Inputs,
@@ -129,12 +130,12 @@ pub(crate) fn resume_run_shown<G: Gate, R: AllocGlobal + Threads + Wait + Sync, 
     )
 }
 
-/// Goes on with a run from a checkpoint text, to its last move or to the stop: what it answers and writes is that of annealing one move
-/// at a time from there. The report goes on behind that of the run before: it has no first two lines, and the line of the running stage
-/// counts the moves before the stop too. `inputs.pads` is not read: fixed blocks are those of the point.
+/// Resumes a run from a checkpoint text, and makes its moves up to the last one or to the stop. It answers and writes what annealing one
+/// move at a time from there gives. The report continues that of the run before: it does not repeat the first two lines, and the line of
+/// the running stage also counts the moves before the stop. `inputs.pads` is not read: the fixed blocks are those of the point.
 ///
-/// An error is the first check that fails, in the order architecture, netlist, checkpoint text, labels, batch, workers: then nothing is
-/// written. Where none fails it is that of the writer that failed. Want of memory may come for any inputs.
+/// An error is the first check that fails, in the order architecture, netlist, checkpoint text, labels, batch, workers; nothing is written
+/// then. If no check fails, it is the failure of a writer. Memory may run out for any inputs.
 pub fn resume_run<R: AllocGlobal + Threads + Wait + Sync, W: Sink, P: Sink>(
     rt: &R,
     inputs: &Inputs,
@@ -145,23 +146,23 @@ pub fn resume_run<R: AllocGlobal + Threads + Wait + Sync, W: Sink, P: Sink>(
     report: &mut W,
     place: &mut P,
 ) -> Result<Outcome, RunFault>
-    // The headline, from where the point stands.
+    // The headline, from the point on.
     ensures headline { IfOk result (λ out. IsPlaced (AskToGoOn (texts_of inputs.now) point.now batch workers stop) (texts_of inputs.now) (answer_of out) (W.contents report.old) (W.contents report.new) (P.contents place.old) (P.contents place.new)) }
-    // How many moves were judged again is told by the texts, the stop and the batch, and not by the number of workers.
+    // The texts, the stop and the batch determine how many moves were judged again; the number of workers does not.
     ensures redone { IfOk result (λ out. (p : PieceAsked) × AskToGoOn (texts_of inputs.now) point.now batch workers stop p × AreRedone p batch out.redone) }
-    // Where no check fails, it is answered, unless memory or a writer fails.
+    // If no check fails, the run succeeds unless memory runs out or a writer fails.
     ensures only { (s : Going) → IsGoing (texts_of inputs.now) point.now batch workers s → IfErr result (λ e. ¬ IsRefusal e) }
-    // An error is the first check that fails, or want of memory, or that of the writer that failed.
+    // An error is the first check that fails, a lack of memory, or the failure of a writer.
     ensures fault { IfErr result (IsGoingFault (texts_of inputs.now) point.now batch workers) }
-    // A run that is refused writes nothing; at any other fault a beginning of the report may have gone out.
+    // A refused run writes nothing. After any other fault, a beginning of the report may have been written.
     ensures silent { IfErr result (λ e. IsRefusal e → W.contents report.new ≡ W.contents report.old) }
     ensures cut { OnErr result ((W.contents report.new ≡ W.contents report.old) ⊎ IsReportBegun (AskToGoOn (texts_of inputs.now) point.now batch workers stop) (W.contents report.old) (W.contents report.new)) }
     ensures report_cut { IfErr result (λ e. e ≡ Report → IsReportCut (AskToGoOn (texts_of inputs.now) point.now batch workers stop) (W.contents report.old) (W.contents report.new)) }
-    // The place text goes out behind the whole report, and only its own writer can cut it off. Where that is not ready, no move is
+    // The place text is written after the whole report, and only its own writer can cut it short. If that writer is not ready, no move is
     // made.
     ensures unplaced { IfErr result (λ e. e ≢ Place Write → P.contents place.new ≡ P.contents place.old) }
     ensures place_cut { IfErr result (λ e. e ≡ Place Write → IsPlaceCut (AskToGoOn (texts_of inputs.now) point.now batch workers stop) (texts_of inputs.now) (W.contents report.old) (W.contents report.new) (P.contents place.old) (P.contents place.new)) }
-    // A writer failed only where the answer says so.
+    // A writer failed only if the answer says so.
     ensures sound { OnOk result ((W.failed report.new ≡ W.failed report.old) × (P.failed place.new ≡ P.failed place.old)) }
     ensures failed { IfErr result (λ e. (W.failed report.new ≡ report_failed_with e (W.failed report.old)) × (P.failed place.new ≡ place_failed_with e (P.failed place.old))) }
 {

@@ -77,7 +77,7 @@ fn push_all(text: &mut Vec<u8>, name: &[u8], numbers: &[u64]) -> Result<(), Allo
     Ok(())
 }
 
-// Where a run stopped, if it did: its stage, temperature, range, moves made and accepted in the stage, and moves accepted in all.
+// Appends where a run stopped, if it did: its stage, temperature, range, moves made and accepted in the stage, and moves accepted in all.
 fn push_ending(text: &mut Vec<u8>, ending: &Ending) -> Result<(), AllocError> {
     match ending {
         Ending::Finished => Ok(()),
@@ -115,7 +115,7 @@ pub fn told_of(
     Ok(told)
 }
 
-// The same of a run whose two writers take so many bytes.
+// The same for a run whose two writers take this many bytes.
 pub fn run_narrow(
     rt: &(impl AllocGlobal + Threads + Wait + Sync),
     inputs: &Inputs,
@@ -220,7 +220,7 @@ fn refused(
 
 #[test]
 fn the_first_fault_is_told(rt: HostRuntime) -> Result<(), Fail> {
-    // Each row mends what the row before is refused for.
+    // Each row corrects what the row before is refused for.
     let bad_label = Labels {
         net: b"t net",
         arch: b"t.arch",

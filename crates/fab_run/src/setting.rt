@@ -22,8 +22,11 @@ use fab_sched::{Cooling, SchedFault, Schedule, moves_of};
 use fab_site::{Fixed, Pins};
 use std::alloc::Global;
 
-/// The array of a run of a design: that of the size that is given, or the least square one, where it holds the design. `io_rat` is how
-/// many pads a position takes.
+/// The array of a run: of the given size (columns, rows), or the smallest square array that holds the design. `io_rat` is the number of
+/// pads at a position.
+///
+/// Fails if the size is out of range, or if the array has too few logic sites or pad sites; without a size, if no square array of side
+/// 1,000 or less holds the design.
 pub fn array_of(design: &Design, size: Option<(u16, u16)>, io_rat: u16) -> Result<Grid, GridFault>
     requires ratio { (1 ≤ io_rat) × (io_rat ≤ 64) }
     ensures ratio { IfOk result (λ g. g.io_rat ≡ io_rat) }
@@ -38,7 +41,7 @@ pub fn array_of(design: &Design, size: Option<(u16, u16)>, io_rat: u16) -> Resul
     }
 }
 
-/// The array of this size, where it holds the design.
+/// The array of this size, if it holds the design.
 fn array_of_size(design: &Design, nx: u16, ny: u16, io_rat: u16) -> Result<Grid, GridFault>
     ensures grid { IfOk result (λ g. g ≡ shape nx ny io_rat) }
     ensures fits { IfOk result (FitsOn design.now) }
@@ -50,7 +53,7 @@ fn array_of_size(design: &Design, nx: u16, ny: u16, io_rat: u16) -> Result<Grid,
     Ok(grid)
 }
 
-/// Where blocks are fixed and begun by a location text; nowhere, where there is none.
+/// The sites at which a location text fixes or starts blocks; no sites without such a text.
 fn read_locations(
     alloc: Global,
     text: Option<&[u8]>,
@@ -74,7 +77,7 @@ fn read_locations(
     }
 }
 
-/// The moves of a stage, 0 where the rule gives no lawful number.
+/// How many moves a stage has; 0 if VPR's rule gives no allowed number.
 fn stage_moves(moves: Moves, blocks: usize) -> u64
     requires { blocks ≤ 65535 }
     ensures asked { AreStageMoves moves blocks result }
@@ -86,7 +89,7 @@ fn stage_moves(moves: Moves, blocks: usize) -> u64
     }
 }
 
-/// The schedule that is asked for.
+/// The requested schedule, or its first fault.
 fn schedule_of(options: &Options, blocks: usize) -> Result<Schedule, SchedFault>
     requires { blocks ≤ 65535 }
     ensures plan { IfOk result (IsAskedPlan options.now blocks) }
@@ -107,7 +110,7 @@ fn is_within(most: u64, n: u64) -> bool
     1 <= n && n <= most
 }
 
-/// Whether batch and workers are within their limits, the batch first.
+/// Checks that the batch, and then the number of workers, are within their limits.
 pub(crate) fn check_threads(batch: u64, workers: u64) -> Result<(), RunFault>
     ensures batch { OnOk result (Within 4096 batch) }
     ensures workers { OnOk result (Within 64 workers) }
@@ -122,7 +125,7 @@ pub(crate) fn check_threads(batch: u64, workers: u64) -> Result<(), RunFault>
     Ok(())
 }
 
-/// The design, its array, and where blocks are fixed and begun.
+/// Reads the design, its array, and the sites at which blocks are fixed or start.
 fn read_located(
     alloc: Global,
     inputs: &Inputs,
@@ -140,7 +143,7 @@ fn read_located(
     Ok((design, grid, pins))
 }
 
-/// The schedule of a run whose texts are read, where all that is left to check is in order.
+/// The schedule of a run, after the checks that follow the texts: labels, schedule, batch, workers.
 fn read_schedule(inputs: &Inputs, options: &Options, blocks: usize) -> Result<Schedule, RunFault>
     requires { blocks ≤ 65535 }
     ensures labels { OnOk result (labels_are inputs.now.labels.net.now inputs.now.labels.arch.now ≡ true) }
@@ -159,7 +162,7 @@ fn read_schedule(inputs: &Inputs, options: &Options, blocks: usize) -> Result<Sc
     Ok(schedule)
 }
 
-/// What a run is given, or the first check that fails.
+/// Reads and checks all that a run is given; fails with the first check that fails.
 pub(crate) fn read_setting(
     alloc: Global,
     inputs: &Inputs,

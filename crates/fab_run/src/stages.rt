@@ -1,4 +1,4 @@
-//! The stages of a run, one after another, each told as it ends.
+//! Makes the stages of a run one after another, and reports each as it ends.
 
 ghost use Rattle.std.specs.Prelude.{◌≡◌, ℕ, ◌+◌, ◌-◌, ◌<◌, ◌≤◌, ◌++◌, Some, OnOk, OnErr, IfOk, IfErr, MatchOption};
 ghost use Rattle.fab_sched.specs.Annealing.{IsLawful};
@@ -26,7 +26,7 @@ use std::thread::Threads;
 /// How a piece of a run is made.
 #[derive(Clone, Copy)]
 pub(crate) struct Pace {
-    /// The moves of a stage.
+    /// How many moves a stage has.
     pub(crate) moves: u64,
     /// How many moves a turn commits.
     pub(crate) batch: u64,
@@ -36,7 +36,7 @@ pub(crate) struct Pace {
     pub(crate) stop: Option<u64>,
 }
 
-/// Makes the moves that are left in the running stage, by turns of a batch.
+/// Makes the moves that are left in the running stage, in turns of one batch.
 fn make_stage<'a, V: Words + Sync + Drop, G: Gate, J: Naming, R: Threads + Wait + Sync>(
     rt: &R,
     anneal: &mut Anneal<'a, V>,
@@ -67,8 +67,8 @@ fn make_stage<'a, V: Words + Sync + Drop, G: Gate, J: Naming, R: Threads + Wait 
     Ok(())
 }
 
-/// How many of the moves that are left in the running stage are made before the stop, where it lies among them: `done` moves of the run
-/// are made, and `left` are left in the stage.
+/// How many moves the running stage makes before the stop; `None` if the run does not stop before the stage ends. The run has made `done`
+/// moves, and `left` moves of the stage are left.
 fn moves_before(stop: Option<u64>, done: u64, left: u64) -> Option<u64>
     ensures { MatchOption result ((m : ℕ) → stop ≡ Some (done + m) → left ≤ m) (λ rest. (stop ≡ Some (done + rest)) × (rest < left)) }
 {
@@ -85,8 +85,7 @@ fn moves_before(stop: Option<u64>, done: u64, left: u64) -> Option<u64>
     Some(rest)
 }
 
-/// Makes the next moves of the running stage, fewer than are left in it: by turns of a batch, and a shorter one at the end where some
-/// are left over.
+/// Makes the next `count` moves of the running stage, fewer than are left in it: in turns of one batch, and a shorter turn for the rest.
 fn make_part<'a, V: Words + Sync + Drop, G: Gate, J: Naming, R: Threads + Wait + Sync>(
     rt: &R,
     anneal: &mut Anneal<'a, V>,
@@ -121,8 +120,7 @@ fn make_part<'a, V: Words + Sync + Drop, G: Gate, J: Naming, R: Threads + Wait +
     Ok(())
 }
 
-/// Makes the moves that are left in the running stage. The answer is the line that tells of the stage; its cost stands
-/// last among the costs.
+/// Makes the moves that are left in the running stage, and appends its cost to `costs`. Returns the report's line of the stage.
 fn end_stage<'a, V: Words + Sync + Drop, G: Gate, J: Naming, R: Threads + Wait + Sync>(
     rt: &R,
     alloc: Global,
@@ -169,7 +167,7 @@ fn end_stage<'a, V: Words + Sync + Drop, G: Gate, J: Naming, R: Threads + Wait +
     )
 }
 
-/// Makes the moves of a piece, up to its stop or to the last one, each stage told as it ends.
+/// Makes the moves of a piece, up to its stop or to the last move, and writes the line of each stage as it ends.
 pub(crate) fn anneal_all<
     'a,
     V: Words + Sync + Drop,

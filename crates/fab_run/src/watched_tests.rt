@@ -1,8 +1,12 @@
 // Runs that are watched, and gates that hold a crew's judgements back.
 ghost use Rattle.std.specs.Prelude.{◌≡◌, All, IfOk};
 
-use crate::run_tests::{INPUTS, OPTIONS, PLACE, REPORT, writer_with};
-use crate::{Moves, Options, RunFault, place_run_shown};
+use crate::placing::annealer;
+use crate::point_tests::SECOND;
+use crate::resuming::resume_run_shown;
+use crate::run_tests::{INPUTS, OPTIONS, PLACE, REPORT, SEVEN, SHORT, writer_with};
+use crate::setting::read_setting;
+use crate::{Inputs, Moves, Options, RunFault, place_run_shown};
 use fab_board::{Gate, NoGate};
 use fab_dial::{Dial, Reading, Shower, Watcher};
 use std::alloc::{AllocError, Global};
@@ -14,7 +18,7 @@ use std::thread;
 use std::thread::Threads;
 use std::time::Duration;
 
-// The reading of the design of three blocks after so many moves: none is accepted, and the cost stays.
+// The reading of the design of three blocks after this many moves: none is accepted, and the cost stays the same.
 fn after(moves: u64) -> Reading {
     Reading {
         moves,
@@ -26,6 +30,7 @@ fn after(moves: u64) -> Reading {
 // What is placed and written, as bytes, with a shower that goes on.
 fn shown_bytes<G: Gate, R: AllocGlobal + Threads + Wait + Sync>(
     rt: &R,
+    inputs: &Inputs,
     options: &Options,
     gate: &G,
     dial: &Dial,
@@ -39,7 +44,7 @@ fn shown_bytes<G: Gate, R: AllocGlobal + Threads + Wait + Sync>(
     let mut place = writer_with(alloc, 10_000);
     place_run_shown(
         rt,
-        &INPUTS,
+        inputs,
         options,
         gate,
         dial,
@@ -52,18 +57,19 @@ fn shown_bytes<G: Gate, R: AllocGlobal + Threads + Wait + Sync>(
     Ok((shower, bytes))
 }
 
-// Reads until the run has ended: each reading is one of a turn of three moves, and none stands before the one read before it.
-fn watch<R: Wait + Abort>(rt: &R, dial: &Dial, mut watcher: Watcher) -> Watcher
+// Reads without a pause until the run has ended, whose turns are of three moves: each reading is that after its number of single moves, and
+// none is older than the one read before it.
+fn watch<R: Wait + Abort>(rt: &R, dial: &Dial, mut watcher: Watcher, each: &[Reading]) -> Watcher
     requires { watcher.dial ≡ dial.now }
     ensures { result.dial ≡ dial.now }
 {
     let mut last = 0;
-    for _turn in 0..2_000_000u64 {
+    for _turn in 0..100_000_000u64 {
         let seen = dial.read(rt, &mut watcher);
-        assert!(rt; seen.moves <= 15 && seen.moves % 3 == 0 && seen == after(seen.moves));
+        assert!(rt; seen.moves % 3 == 0 && each.get(seen.moves as usize) == Some(&seen));
         assert!(rt; last <= seen.moves);
         last = seen.moves;
-        if last == 15 {
+        if each.last() == Some(&seen) {
             break;
         }
     }
@@ -73,20 +79,23 @@ fn watch<R: Wait + Abort>(rt: &R, dial: &Dial, mut watcher: Watcher) -> Watcher
 // A run of turns of three moves, which two watchers read on threads of their own; the reading that is gathered, and what was written.
 fn watched<R: AllocGlobal + Threads + Wait + Abort + Sync>(
     rt: &R,
+    inputs: &Inputs,
+    options: &Options,
+    first: Reading,
+    each: &[Reading],
 ) -> Result<(Reading, Vec<u8>), RunFault> {
-    let alloc = rt.alloc();
-    let (dial, shower, watchers) = Dial::new(rt, alloc, 2, after(0))?;
+    let (dial, shower, watchers) = Dial::new(rt, rt.alloc(), 2, first)?;
     let shown = &dial;
     let options = Options {
         batch: 3,
-        ..OPTIONS
+        ..*options
     };
     let (answer, watchers) = thread::join(
         rt,
         move || -> Result<(Shower, Vec<u8>), RunFault>
             requires { shower.dial ≡ shown.now }
             ensures { IfOk result (λ r. r.0.dial ≡ shown.entry.now) }
-        { shown_bytes(rt, &options, &NoGate, shown, shower) },
+        { shown_bytes(rt, inputs, &options, &NoGate, shown, shower) },
         move || -> Result<Vec<Watcher>, AllocError>
             requires { All (λ w. w.dial ≡ shown.now) watchers.items }
             ensures { IfOk result (λ v. All (λ w. w.dial ≡ shown.entry.now) v.items) }
@@ -97,7 +106,7 @@ fn watched<R: AllocGlobal + Threads + Wait + Abort + Sync>(
                 &|w: Watcher| -> Watcher
                     requires { w.dial ≡ shown.now }
                     ensures { result.dial ≡ shown.entry.now }
-                { watch(rt, shown, w) },
+                { watch(rt, shown, w, each) },
             )
         },
     );
@@ -114,7 +123,11 @@ fn whole(alloc: Global) -> Result<Vec<u8>, AllocError> {
 
 #[test]
 fn two_watchers_read_a_run_in_order(rt: HostRuntime) -> Result<(), Fail> {
-    let (last, bytes) = watched(&rt)?;
+    let mut each = Vec::new(rt.alloc());
+    for moves in 0..=15 {
+        each.push(after(moves))?;
+    }
+    let (last, bytes) = watched(&rt, &INPUTS, &OPTIONS, after(0), &each)?;
     assert_eq!(rt; last, after(15));
     assert!(rt; bytes == whole(rt.alloc())?);
     Ok(())
@@ -128,7 +141,7 @@ fn last_shown<G: Gate, R: AllocGlobal + Threads + Wait + Sync>(
 ) -> Result<(Reading, Vec<u8>), RunFault> {
     let alloc = rt.alloc();
     let (dial, shower, watchers) = Dial::new(rt, alloc, 0, after(0))?;
-    let (shower, bytes) = shown_bytes(rt, options, gate, &dial, shower)?;
+    let (shower, bytes) = shown_bytes(rt, &INPUTS, options, gate, &dial, shower)?;
     Ok((dial.gather(rt, shower, watchers), bytes))
 }
 
@@ -157,7 +170,7 @@ struct Overlap<'a> {
 }
 
 impl Overlap<'_> {
-    // Waits until this is no more 0.
+    // Waits until this is no longer 0.
     fn hold(&self, until: &AtomicU64) {
         for _turn in 0..10_000u64 {
             if until.load(Ordering::SeqCst) != 0 {
@@ -212,9 +225,79 @@ fn a_crew_judges_the_next_batch_while_a_batch_is_committed(rt: HostRuntime) -> R
         workers: 2,
         ..OPTIONS
     };
-    assert_eq!(rt; last_shown(&rt, &options, &gate)?.0, after(30));
+    let held = last_shown(&rt, &options, &gate)?;
+    assert_eq!(rt; held.0, after(30));
+    assert!(rt; held.1 == last_shown(&rt, &options, &NoGate)?.1);
     assert_eq!(rt; gate.failed.load(Ordering::SeqCst), 0);
     // Each move is judged once.
     assert_eq!(rt; gate.judged.load(Ordering::SeqCst), 30);
+    Ok(())
+}
+
+// The last reading of a run that goes on from the point of the fifth move, to a stop or to the end.
+fn last_resumed<R: AllocGlobal + Threads + Wait + Sync>(
+    rt: &R,
+    stop: Option<u64>,
+) -> Result<Reading, RunFault> {
+    let alloc = rt.alloc();
+    let (dial, mut shower, watchers) = Dial::new(rt, alloc, 0, after(5))?;
+    let mut report = writer_with(alloc, 10_000);
+    let mut place = writer_with(alloc, 10_000);
+    resume_run_shown(
+        rt,
+        &INPUTS,
+        SECOND,
+        4,
+        2,
+        stop,
+        &NoGate,
+        &dial,
+        &mut shower,
+        &mut report,
+        &mut place,
+    )?;
+    Ok(dial.gather(rt, shower, watchers))
+}
+
+#[test]
+fn a_resumed_run_shows_its_end(rt: HostRuntime) -> Result<(), Fail> {
+    for stop in [5, 7, 12] {
+        assert_eq!(rt; last_resumed(&rt, Some(stop))?, after(stop));
+    }
+    assert_eq!(rt; last_resumed(&rt, None)?, after(15));
+    Ok(())
+}
+
+// A run of 12,000 moves of the seven blocks, in four stages.
+const LONG: Options = Options {
+    moves: Moves::Given(3000),
+    ..SHORT
+};
+
+// How far that run has come after each of its moves, made one at a time without a dial.
+fn each_move<R: AllocGlobal + Threads + Wait + Sync>(rt: &R) -> Result<Vec<Reading>, RunFault> {
+    let alloc = rt.alloc();
+    let (design, grid, pins, schedule) = read_setting(alloc, &SEVEN, &LONG)?;
+    let mut anneal = annealer(alloc, &design, &grid, pins, schedule, LONG.seed)?;
+    let mut each = Vec::new(alloc);
+    for _move in 0..=12_000u64 {
+        each.push(Reading {
+            moves: anneal.done(),
+            accepted: anneal.total(),
+            cost: anneal.cost(),
+        })?;
+        anneal.turn(rt, 1, 1, &NoGate)?;
+    }
+    Ok(each)
+}
+
+#[test]
+fn each_reading_is_that_after_single_moves(rt: HostRuntime) -> Result<(), Fail> {
+    let each = each_move(&rt)?;
+    let (Some(first), Some(last)) = (each.first(), each.last()) else {
+        return Err(Fail::from("no reading"));
+    };
+    assert_eq!(rt; last.moves, 12_000);
+    assert_eq!(rt; watched(&rt, &SEVEN, &LONG, *first, &each)?.0, *last);
     Ok(())
 }

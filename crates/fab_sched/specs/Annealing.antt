@@ -1,8 +1,8 @@
 -- A user's annealing schedule (VPR manual): the temperature falls from stage to stage, each stage has the same number
--- of moves, and after each the range of a move shrinks or grows, so that some 44 % of the moves are accepted (Betz,
+-- of moves, and after each stage the range of a move shrinks or grows, so that about 44 % of the moves are accepted (Betz,
 -- Rose and Marquardt). All are whole numbers, rounded down: temperatures in ten-thousandths, factors and ranges in
--- thousandths (our own). A temperature below the exit one is not run: in its place comes one last stage at 0, which is
--- frozen.
+-- thousandths (our own). A temperature below the exit temperature is not run: one last stage at 0, the frozen stage, takes
+-- its place.
 use Rattle.std.specs.Prelude.{ℕ, ◌≡◌, ◌+◌, ◌-◌, ◌*◌, ◌/◌, ◌<◌, ◌≤◌, ◌⊎◌, zero, suc, min, max, Bool, true, if◌then◌else◌, nat_lt, nat_le, ◌==◌, ◌&&◌, Option, Some, None, IfSome}
 use Rattle.fab_sched.specs.declared.fault.SchedFault.{SchedFault}
 use Rattle.fab_sched.specs.declared.fault.SchedFault.TheVariants.{InitOutOfRange, ExitOutOfRange, AlphaOutOfRange, MovesOutOfRange}
@@ -10,7 +10,7 @@ use Rattle.fab_sched.specs.declared.schedules.Cooling.{Cooling}
 use Rattle.fab_sched.specs.declared.schedules.Cooling.TheVariants.{Factor, Adaptive}
 use Rattle.fab_sched.specs.declared.schedules.Stage.{Stage}
 
--- a schedule: its first temperature, the least one that is run, how it cools, and the moves of a stage
+-- a schedule: its first temperature, the least one that is run, the cooling, and the moves of a stage
 pub record Plan : Type 0 where
   pub init : ℕ
   pub exit : ℕ
@@ -24,7 +24,7 @@ abbrev pub IsCooling : Cooling → Type 0
 IsCooling (Factor f) = (1 ≤ f) × (f ≤ 999)
 IsCooling Adaptive = Unit {0}
 
--- all is within the limits
+-- all numbers are within their limits
 pub record IsLawful (p : Plan) : Type 0 where
   pub init : (1 ≤ p.init) × (p.init ≤ 1073741824)
   pub exit : (1 ≤ p.exit) × (p.exit ≤ 1073741824)
@@ -38,7 +38,7 @@ abbrev pub is_cooling : Cooling → Bool
 is_cooling (Factor f) = is_within 999 f
 is_cooling Adaptive = true
 
--- the first of a schedule's numbers that is out of its limits
+-- the first of a schedule's numbers that is outside its limits
 abbrev pub fault_of : Plan → Option SchedFault
 fault_of p =
     if is_within 1073741824 p.init then
@@ -57,8 +57,8 @@ hot p t = if nat_lt t p.exit then 0 else t
 unfoldable pub next_range : Plan → ℕ → ℕ → ℕ → ℕ
 next_range p side range accepted = max 1000 (min (1000 * side) (range * (560 * p.moves + 1000 * accepted) / (1000 * p.moves)))
 
--- VPR's factor by the share of accepted moves: fast where nearly all of them are accepted, slow in between, and where few
--- are accepted slow while the range is above 1, and else fast again
+-- VPR's factor by the share of accepted moves: fast if nearly all are accepted, slow in between; if few are accepted, slow
+-- while the range is above 1, and fast otherwise
 unfoldable pub adaptive_factor : ℕ → ℕ → ℕ → ℕ
 adaptive_factor moves range accepted =
     if nat_lt (96 * moves) (100 * accepted) then 500 else
@@ -70,7 +70,7 @@ abbrev pub factor_by : Cooling → ℕ → ℕ → ℕ → ℕ
 factor_by (Factor f) moves range accepted = f
 factor_by Adaptive moves range accepted = adaptive_factor moves range accepted
 
--- the factor after a stage with this range and so many accepted moves
+-- the factor after a stage with this range and this number of accepted moves
 abbrev pub factor_after : Plan → ℕ → ℕ → ℕ
 factor_after p range accepted = factor_by p.cooling p.moves range accepted
 
@@ -79,11 +79,11 @@ abbrev pub cooled : Plan → ℕ → Option ℕ → Option ℕ
 cooled p f None = None
 cooled p f (Some t) = if t == 0 then None else Some (hot p (t * f / 1000))
 
--- the temperature after a stage at `heat` with this range and so many accepted moves
+-- the temperature after a stage at `heat` with this range and this number of accepted moves
 abbrev pub next_heat : Plan → ℕ → ℕ → Option ℕ → Option ℕ
 next_heat p range accepted heat = cooled p (factor_after p range accepted) heat
 
--- the temperature of stage x where each is cooled by this factor: none after the frozen one
+-- the temperature of stage x, each stage cooled by this factor: none after the frozen one
 abbrev pub heat_by : Plan → ℕ → ℕ → Option ℕ
 heat_by p f zero = Some (hot p p.init)
 heat_by p f (suc x) = cooled p f (heat_by p f x)
@@ -92,7 +92,7 @@ abbrev pub heat_with : Cooling → Plan → ℕ → Option ℕ
 heat_with (Factor f) p x = heat_by p f x
 heat_with Adaptive p x = None
 
--- the temperature of stage x, where the schedule alone says it
+-- the temperature of stage x, if the schedule alone determines it
 abbrev pub heat_at : Plan → ℕ → Option ℕ
 heat_at p x = heat_with p.cooling p x
 
@@ -107,12 +107,12 @@ abbrev pub fresh_at : ℕ → ℕ → Option ℕ → Option Stage
 fresh_at index range None = None
 fresh_at index range (Some t) = Some (fresh index t range)
 
--- what comes after a stage in which so many moves were accepted
+-- the stage after one with this number of accepted moves
 abbrev pub stage_after : Plan → ℕ → Stage → ℕ → Option Stage
 stage_after p side s accepted = fresh_at (s.index + 1) (next_range p side s.range accepted) (next_heat p s.range accepted (Some s.t))
 
--- The temperatures that stage x may have under VPR's factor: the first one, and then those that at least one lower
--- each time leaves, or the frozen 0.
+-- the temperatures that stage x may have under VPR's factor: the first one, and then those that can be reached by falling
+-- at least one unit with each stage, or the frozen 0
 abbrev pub MayCoolTo : Plan → ℕ → ℕ → Type 0
 MayCoolTo p zero t = t ≡ hot p p.init
 MayCoolTo p (suc x) t = (p.exit + x ≤ p.init) × ((t ≡ 0) ⊎ ((p.exit ≤ t) × (t + suc x ≤ p.init)))
@@ -121,12 +121,12 @@ abbrev pub MayStandBy : Cooling → Plan → ℕ → ℕ → Type 0
 MayStandBy (Factor f) p x t = heat_by p f x ≡ Some t
 MayStandBy Adaptive p x t = MayCoolTo p x t
 
--- stage x may be at temperature t: for a factor, exactly where it is; else wherever a temperature can be that fell by at
--- least one unit with each stage, which is more than VPR's factors reach
+-- stage x may be at temperature t: with a factor, only at its own temperature; else at any temperature that can
+-- be reached by falling at least one unit with each stage (these are more than VPR's factors reach)
 abbrev pub MayStand : Plan → ℕ → ℕ → Type 0
 MayStand p x t = MayStandBy p.cooling p x t
 
--- the greatest index of a stage: the number of hot temperatures, or what there are at most of them
+-- the greatest index of a stage: the number of hot temperatures, or the greatest number there can be
 abbrev pub IsLastBy : Cooling → Plan → ℕ → Type 0
 IsLastBy (Factor f) p x = heat_by p f x ≡ Some 0
 IsLastBy Adaptive p x = x ≡ (if nat_lt p.init p.exit then 0 else p.init - p.exit + 1)
@@ -134,7 +134,7 @@ IsLastBy Adaptive p x = x ≡ (if nat_lt p.init p.exit then 0 else p.init - p.ex
 abbrev pub IsLastIndex : Plan → ℕ → Type 0
 IsLastIndex p x = IsLastBy p.cooling p x
 
--- a stage as a run may have it, perhaps with all its moves made, on an array with this longer side
+-- a stage as a run may have it, perhaps with all its moves made, on an array whose longer side is `side`
 pub record IsStage (p : Plan) (side : ℕ) (s : Stage) : Type 0 where
   pub stands : MayStand p s.index s.t
   pub range : (1000 ≤ s.range) × (s.range ≤ 1000 * side)
@@ -142,6 +142,6 @@ pub record IsStage (p : Plan) (side : ℕ) (s : Stage) : Type 0 where
   pub done : s.done ≤ p.moves
   pub frozen : s.frozen ≡ (s.t == 0)
 
--- after a lawful stage comes a lawful one that is colder, or none
+-- a lawful stage is followed by a lawful one that is colder, or by none
 abbrev pub GoesOnColder : Plan → ℕ → Stage → ℕ → Type 0
 GoesOnColder p side s accepted = IfSome (stage_after p side s accepted) (λ next. IsStage p side next × (next.t < s.t))

@@ -1,4 +1,4 @@
--- Examples of temperatures, factors, ranges, and the moves of a stage.
+-- Examples of temperatures, factors, ranges, and the number of moves of a stage.
 use Rattle.std.specs.Prelude.{◌≡◌, Some, None, true, refl}
 use Rattle.fab_sched.specs.declared.fault.SchedFault.TheVariants.{ExitOutOfRange, MovesOutOfRange}
 use Rattle.fab_sched.specs.declared.schedules.Cooling.TheVariants.{Factor, Adaptive}

@@ -1,4 +1,4 @@
--- What is printed of a fault of a schedule (our own): its code and its name.
+-- How a fault of a schedule is printed (our own): its code and its name.
 use Rattle.std.specs.Prelude.{ℕ, ◌≡◌, List, codes, refl}
 use Rattle.fab_sched.specs.declared.fault.SchedFault.{SchedFault}
 use Rattle.fab_sched.specs.declared.fault.SchedFault.TheVariants.{InitOutOfRange, ExitOutOfRange, AlphaOutOfRange, MovesOutOfRange}

@@ -1,4 +1,4 @@
--- How many moves a stage has: VPR's inner_num · blocks^(4/3), rounded down (VPR manual), and at least 1 (our own).
+-- The number of moves of a stage: VPR's inner_num · blocks^(4/3), rounded down (VPR manual), and at least 1 (our own).
 -- It is found by its cube, which is a whole number.
 use Rattle.std.specs.Prelude.{ℕ, ◌+◌, ◌*◌, ◌<◌, ◌≤◌, max}
 

@@ -6,16 +6,16 @@ ghost use Rattle.fab_sched.specs.FaultTexts.{sched_fault_text};
 use std::fmt;
 use thiserror::Error;
 
-/// The first of a schedule's numbers that is out of its limits.
+/// The first of a schedule's numbers that is outside its limits.
 #[derive(Clone, Copy, Debug, PartialEq, Eq, Error)]
 pub enum SchedFault {
     /// The first temperature is outside 1 to 1,073,741,824 ten-thousandths.
     InitOutOfRange,
-    /// The least temperature to run is outside 1 to 1,073,741,824 ten-thousandths.
+    /// The least temperature that is run is outside 1 to 1,073,741,824 ten-thousandths.
     ExitOutOfRange,
     /// The factor is outside 1 to 999 thousandths.
     AlphaOutOfRange,
-    /// The moves of a stage are outside 1 to 1,073,741,824, or the factor that they are counted by outside 1 to 10,000.
+    /// The moves of a stage are outside 1 to 1,073,741,824, or the factor they are computed from is outside 1 to 10,000.
     MovesOutOfRange,
 }
 

@@ -1,4 +1,4 @@
-//! Annealing schedules: the temperatures and ranges of the stages, and how many moves a stage has.
+//! Annealing schedules: the temperatures and ranges of the stages, and the number of moves of a stage.
 #![tactic(auto)]
 
 pub mod fault;

@@ -1,4 +1,4 @@
-//! How many moves a stage has.
+//! The number of moves of a stage.
 
 ghost use Rattle.std.specs.Prelude.{◌≡◌, ℕ, ◌+◌, ◌*◌, ◌<◌, ◌≤◌, ◌^◌, ◌↔◌, Ok, IfOk, IfErr, IsTrue};
 ghost use Rattle.fab_sched.specs.declared.fault.SchedFault.TheVariants.{MovesOutOfRange};
@@ -11,7 +11,7 @@ const MOST_MOVES: u64 = 1_073_741_824;
 #[tactic(auto, using(crate::proofs::Cubes::moves_are, crate::proofs::Cubes::moves_below))]
 /// The moves of a stage by VPR's rule: `inner` · `blocks`^(4/3), rounded down, and at least 1.
 ///
-/// `MovesOutOfRange` where `inner` is outside 1 to 10,000, or the moves would be above 1,073,741,824.
+/// `MovesOutOfRange` if `inner` is outside 1 to 10,000, or if the moves would be above 1,073,741,824.
 pub fn moves_of(inner: u64, blocks: u32) -> Result<u64, SchedFault>
     requires { blocks ≤ 65535 }
     ensures found { IfOk result (AreMoves inner blocks) }
@@ -35,7 +35,7 @@ fn is_inner(inner: u64) -> bool
 }
 
 #[tactic(auto, using(crate::proofs::Cubes::cube_small, crate::proofs::Cubes::product_fits))]
-/// The cube of the moves of a stage, before they are rounded.
+/// The cube of the moves of a stage, before rounding.
 fn cube_of_moves(inner: u64, blocks: u32) -> u128
     requires inner { inner ≤ 10000 }
     requires blocks { blocks ≤ 65535 }
@@ -64,7 +64,7 @@ fn cube(n: u64) -> u128
     wide * wide * wide
 }
 
-/// The whole part of the cube root of a number from 1 to 1,073,741,825³ - 1, by halving.
+/// The whole part of the cube root of a number from 1 to 1,073,741,825³ - 1, by bisection.
 fn cube_root(bound: u128) -> u64
     requires some { 1 ≤ bound }
     requires below { bound < cubed 1073741825 }

@@ -143,8 +143,8 @@ fn the_last_index_is_that_of_the_frozen_stage(rt: HostRuntime) -> Result<(), Fai
     Ok(())
 }
 
-/// Whether the stages of a run have these temperatures and ranges, one after another and no more, where so many moves
-/// are accepted in each.
+/// Whether the stages of a run have exactly these temperatures and ranges, one after another, when these numbers of
+/// moves are accepted in each.
 fn are_stages(schedule: &Schedule, side: u16, rows: &[(u64, u64, u64)]) -> bool
     requires { (1 ≤ side) × (side ≤ 1000) }
 {
@@ -171,7 +171,7 @@ fn are_stages(schedule: &Schedule, side: u16, rows: &[(u64, u64, u64)]) -> bool
     false
 }
 
-/// The second temperature, where the first stage has this range and so many accepted moves.
+/// The second temperature, if the first stage has this range and this number of accepted moves.
 fn second(schedule: &Schedule, range: u64, accepted: u64) -> Option<u64>
     requires { (1000 ≤ range) × (range ≤ 1000000) }
 {

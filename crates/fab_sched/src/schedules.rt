@@ -17,24 +17,24 @@ pub enum Cooling {
     Adaptive,
 }
 
-/// A part of the annealing at one temperature.
+/// A part of the annealing, at one temperature.
 #[derive(Clone, Copy, Debug, PartialEq, Eq)]
 pub struct Stage {
-    /// From 0.
+    /// The number of the stage, from 0.
     pub index: u64,
     /// The temperature in ten-thousandths, 0 for the frozen stage.
     pub t: u64,
     /// How far a move may go, in thousandths.
     pub range: u64,
-    /// How many of its moves are made.
+    /// How many of its moves have been made.
     pub done: u64,
-    /// How many of these were accepted.
+    /// How many of those were accepted.
     pub accepted: u64,
-    /// Whether it is the last stage, which takes no move that costs more.
+    /// Whether it is the last stage, which accepts no move that raises the cost.
     pub frozen: bool,
 }
 
-/// A user's annealing schedule: a first and a last temperature, how it cools, and the moves of a stage.
+/// A user's annealing schedule: the first and the last temperature, the cooling, and the moves of a stage.
 #[derive(Clone, Copy, Debug, PartialEq, Eq)]
 pub struct Schedule {
     init_t: u64,
@@ -73,7 +73,7 @@ fn is_lawful_cooling(cooling: Cooling) -> bool
 }
 
 #[tactic(auto, unfolding(crate::specs::Annealing::adaptive_factor))]
-/// VPR's factor after a stage with this range and so many accepted moves, in thousandths.
+/// VPR's factor after a stage with this range and this number of accepted moves, in thousandths.
 fn factor_by_acceptance(moves: u64, range: u64, accepted: u64) -> u64
     requires moves { moves ≤ 1073741824 }
     requires accepted { accepted ≤ moves }
@@ -107,7 +107,7 @@ fn fresh_stage(index: u64, t: u64, range: u64) -> Stage
 
 impl Schedule {
     /// A schedule that cools by a factor. Temperatures are 1 to 1,073,741,824 ten-thousandths, `alpha` is 1 to 999
-    /// thousandths, and a stage has 1 to 1,073,741,824 moves; the first that is not is told.
+    /// thousandths, and a stage has 1 to 1,073,741,824 moves. The fault is the first number outside its limits.
     pub fn new(init_t: u64, exit_t: u64, alpha: u64, moves: u64) -> Result<Schedule, SchedFault>
         ensures plan { IfOk result (λ s. s ≡ plan_of init_t exit_t (Factor alpha) moves) }
         ensures limits { IsOk result ↔ IsLawful (plan_of init_t exit_t (Factor alpha) moves) }
@@ -116,7 +116,7 @@ impl Schedule {
         Schedule::with_cooling(init_t, exit_t, Cooling::Factor(alpha), moves)
     }
 
-    /// A schedule that cools by acceptance. The limits are those of `new`, and `AlphaOutOfRange` does not come.
+    /// A schedule that cools by acceptance. The limits are those of `new`; `AlphaOutOfRange` does not occur.
     pub fn adaptive(init_t: u64, exit_t: u64, moves: u64) -> Result<Schedule, SchedFault>
         ensures plan { IfOk result (λ s. s ≡ plan_of init_t exit_t Adaptive moves) }
         ensures limits { IsOk result ↔ IsLawful (plan_of init_t exit_t Adaptive moves) }
@@ -171,7 +171,7 @@ impl Schedule {
         self.exit_t
     }
 
-    /// How it cools.
+    /// How the temperature falls.
     pub fn cooling(&self) -> Cooling
         ensures value { result ≡ self.now.cooling }
         ensures limits { IsCooling result }
@@ -179,7 +179,7 @@ impl Schedule {
         self.cooling
     }
 
-    /// How many moves a stage has.
+    /// The number of moves of a stage.
     pub fn moves(&self) -> u64
         ensures value { result ≡ self.now.moves }
         ensures limits { (1 ≤ result) × (result ≤ 1073741824) }
@@ -188,8 +188,8 @@ impl Schedule {
         self.moves
     }
 
-    /// The temperature of stage `x` in ten-thousandths, 0 for the frozen stage. `None` beyond, and for a schedule
-    /// whose temperatures depend on what is accepted.
+    /// The temperature of stage `x` in ten-thousandths, 0 for the frozen stage. `None` after the frozen stage, and for a
+    /// schedule whose temperatures depend on acceptance.
     pub fn temperature(&self, x: u64) -> Option<u64>
         ensures { result ≡ heat_at self.now x }
     {
@@ -199,8 +199,8 @@ impl Schedule {
         }
     }
 
-    /// Whether stage `x` may be at temperature `t` in ten-thousandths: by a factor exactly where it is, else wherever a
-    /// temperature can be that fell with each stage.
+    /// Whether stage `x` may be at temperature `t`, in ten-thousandths. With a factor, only at its own temperature; else at
+    /// any temperature that can be reached by falling with each stage.
     pub fn may_stand(&self, x: u64, t: u64) -> bool
         ensures { IsTrue result ↔ MayStand self.now x t }
     {
@@ -210,7 +210,8 @@ impl Schedule {
         }
     }
 
-    /// Whether `x` stages, each at least one unit colder than the one before, may lead to temperature `t` or to 0.
+    /// Whether stage `x` may be at temperature `t` if each stage is at least one unit colder than the one before. 0 is the
+    /// frozen stage.
     fn may_cool_to(&self, x: u64, t: u64) -> bool
         ensures { IsTrue result ↔ MayCoolTo self.now x t }
     {
@@ -224,8 +225,8 @@ impl Schedule {
     }
 
     #[tactic(auto, using(crate::proofs::Falling::last_of, crate::proofs::Falling::greatest, crate::proofs::Falling::greatest_of, crate::proofs::Falling::reached, crate::proofs::Falling::moves_bound))]
-    /// The greatest index that a stage can have: the number of hot temperatures, or, where they depend on what is
-    /// accepted, how many there can be at most.
+    /// The greatest index that a stage can have: the number of hot temperatures, or, if they depend on acceptance,
+    /// the greatest number there can be.
     pub fn last_index(&self) -> u64
         ensures last { IsLastIndex self.now result }
         ensures reached { MayStand self.now result 0 }
@@ -254,8 +255,8 @@ impl Schedule {
     }
 
     #[tactic(auto, using(crate::proofs::Falling::lawful_on))]
-    /// What comes after a stage that ended with so many accepted moves, on an array whose longer side is `side`:
-    /// `None` after the frozen one.
+    /// The stage after one that ended with `accepted` accepted moves, on an array whose longer side is `side`:
+    /// `None` after the frozen stage.
     pub fn next_stage(&self, stage: &Stage, accepted: u64, side: u16) -> Option<Stage>
         requires side { (1 ≤ side) × (side ≤ 1000) }
         requires stage { IsStage self.now side stage.now }
@@ -286,7 +287,7 @@ impl Schedule {
         Some(fresh_stage(stage.index + 1, t, range))
     }
 
-    /// A temperature, or 0 where it is not run.
+    /// A temperature, or 0 if it is not run.
     fn hot(&self, t: u64) -> u64
         ensures { result ≡ hot self.now t }
     {
@@ -305,8 +306,8 @@ impl Schedule {
     }
 
     #[tactic(auto, unfolding(crate::specs::Annealing::next_range))]
-    /// The range after a stage with this one, in which so many moves were accepted, on an array whose longer side is
-    /// `side`. It is there after the frozen stage too.
+    /// The range after a stage with range `range` and `accepted` accepted moves, on an array whose longer side is
+    /// `side`, in thousandths. It is defined after the frozen stage too.
     pub fn next_range(&self, side: u16, range: u64, accepted: u64) -> u64
         requires side { (1 ≤ side) × (side ≤ 1000) }
         requires range { range ≤ 1000 * side }

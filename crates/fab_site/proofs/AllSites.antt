@@ -1,4 +1,4 @@
--- The lists of all sites stand in the order of their places in the table, so no site stands twice.
+-- The lists of all sites are in the order of their places in the table, so no site occurs twice.
 use Rattle.std.proofs.Common.{◌≡◌, ℕ, ◌+◌, ◌-◌, ◌*◌, ◌<◌, ◌≤◌, true, false, List, [], ◌∷◌, ◌++◌, Some, None, length, map, get_or, zero, suc, refl, sym, ap, ◌∙◌, inl, inr, arith}
 use Rattle.std.specs.Prelude.{nat_lt, is_some}
 use Rattle.std.specs.List.{list_any, AllByRecursion, range_with_len, flat_map}

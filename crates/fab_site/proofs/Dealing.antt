@@ -255,7 +255,7 @@ start_dealt d g fixed begun word room pins h =
     let p = stock_of g site_kind.Pad given (pad_sites g) pd pk in
     dealt g word 0 (sites_left given (logic_sites g)) (sites_left given (pad_sites g)) given d.kinds long shared l p enough.0 enough.1 (λ j lo hi. h j (omega (arith, hi)))
 
--- a given block stands at its site
+-- a given block is at its site
 start_given : (d : Netlist) (g : GridShape) (fixed begun : List (Option Site)) (word : ℕ → ℕ) → Holds g (logic_count d) (pad_count d) → ArePins d g fixed begun → ((j : ℕ) → j < drawing (given_sites d fixed begun) d.kinds → word j < 2 ^ 32)
     → (b : ℕ) (s : Site) → given_at fixed begun b ≡ Some s → slice_get (start_sites d g fixed begun word) b ≡ Some s
 start_given d g fixed begun word room pins h b s there =
@@ -289,7 +289,7 @@ not_fixed : (fixed begun : Option Site) (s : Site) → (is_some fixed ≡ true �
 not_fixed None begun s once h = h
 not_fixed (Some f) begun s once h = absurd (none_some s (sym (once refl) ∙ h))
 
--- a begun block stands at its site
+-- a begun block is at its site
 pub start_begun : (d : Netlist) (g : GridShape) (fixed begun : List (Option Site)) (word : ℕ → ℕ) → Holds g (logic_count d) (pad_count d) → ArePins d g fixed begun → ((j : ℕ) → j < drawing (given_sites d fixed begun) d.kinds → word j < 2 ^ 32)
     → (b : ℕ) (s : Site) → fixed_at begun b ≡ Some s → slice_get (start_sites d g fixed begun word) b ≡ Some s
 start_begun d g fixed begun word room pins h b s e = start_given d g fixed begun word room pins h b s (not_fixed (fixed_at fixed b) (fixed_at begun b) s (pins.once b) e)

@@ -23,7 +23,7 @@ ready g sites s is =
       held = held_by sites s.to s.other is.holder;
     }
 
--- a site on which a block stands has a place in the table
+-- the site of a block has a place in the table
 stands_there : (g : GridShape) (sites : List Site) (holders : List ℕ) (b : ℕ) (x : Site) → IsIndexed g sites holders → b < length sites → site_of sites b ≡ x → is_some (index_of g x) ≡ true
 stands_there g sites holders b x t lt e = by_index (index_of g x) refl
   where
@@ -43,7 +43,7 @@ places g sites holders s t is =
     let kind : is_some (kind_at g s.to) ≡ true = ap is_some is.kind ∙ site_from g s.from from in
     record { from = from; to = index_there g s.to kind }
 
--- what was written stands there
+-- an entry that was written is read back
 held_set : (holders : List ℕ) (i : ℕ) (o : Option BlockId) → i < length holders → held (set holders i (number_for o)) (Some i) ≡ o
 held_set holders i None lt = let e = get_or-set_same holders i 0 0 lt in rw e refl
 held_set holders i (Some b) lt = held_here holders i b.0 lt

@@ -1,4 +1,4 @@
--- Who stands where after a swap.
+-- Which block is where after a swap.
 use Rattle.std.proofs.Common.{◌≡◌, ◌≢◌, ◌↔◌, ℕ, zero, suc, ◌+◌, ◌<◌, true, false, cond, List, [], ◌∷◌, Option, Some, None, length, refl, sym, ap, ◌∙◌, ◌⊎◌, inl, inr, arith}
 use Rattle.std.specs.Prelude.{slice_get, slice_set}
 use Rattle.std.proofs.lemmas.Bool.{cases_Bool, cases_eq}
@@ -19,7 +19,7 @@ none_some x h = cc
 some_same : {X : Type 0} (x y : X) → Some x ≡ Some y → x ≡ y
 some_same x y h = cc
 
--- who stands on a site
+-- which block is on a site
 
 -- a site on which nobody is found has no block
 pub nobody_on : (n : ℕ) (xs : List Site) (s : Site) (c : ℕ) → at_from n xs s ≡ None → c < length xs → site_of xs c ≡ s → ⊥
@@ -33,7 +33,7 @@ nobody_on n (x ∷ xs) s (suc c) h lt e = elim (cases_Bool (same_site x s)) [
   | inr ne ↦ nobody_on (n + 1) xs s c (rw ne at h) (omega arith) e
 ]
 
--- a block that is found on a site, by how far behind the first it is
+-- a block that is found on a site, by its distance from the first
 pub record IsFound (n : ℕ) (xs : List Site) (s : Site) (b : BlockId) : Type 0 where
   pub behind : ℕ
   pub number : b.0 ≡ n + behind
@@ -72,13 +72,13 @@ here_from n (x ∷ xs) (suc b) s lt e one =
     let z : n + 1 + b ≡ n + suc b = omega arith in
     rw (no, ← z) (here_from (n + 1) xs b s (omega arith) e (λ a l k. let m : suc a ≡ suc b = one (suc a) (omega (arith, l)) k in omega (arith, m)))
 
--- a block that stands on a site is found there, where no two stand on one
+-- a block on a site is found there, if no two are on one site
 pub at_here : (xs : List Site) (b : ℕ) (s : Site) → AreApart xs → b < length xs → site_of xs b ≡ s → at xs s ≡ Some (record { 0 = b })
 at_here xs b s apart lt e =
     let z : 0 + b ≡ b = omega arith in
     here_from 0 xs b s lt e (λ a l k. apart a b l lt (k ∙ sym e)) ∙ ap (λ (n : ℕ). Some (record { 0 = n })) z
 
--- the block on a site is the one that stands there
+-- the block found on a site is the one there
 pub at_is : (xs : List Site) (s : Site) (b : BlockId) → AreApart xs → (at xs s ≡ Some b) ↔ (slice_get xs b.0 ≡ Some s)
 at_is xs s b apart = (
   λ h. let p = at_stands xs s b h in slice_get-get_or xs b.0 nowhere p.0 ∙ ap (λ x. Some x) p.1,
@@ -99,14 +99,14 @@ pub held_by : (sites : List Site) (to : Site) (o : Option BlockId) → at sites 
 held_by sites to None h = λ c lt e. nobody_on 0 sites to c h lt e
 held_by sites to (Some b) h = at_stands sites to b h
 
--- the block stands at `from`, which is not `to`, and the other holds `to`
+-- the block is at `from`, which is not `to`, and the other holds `to`
 pub record IsReady (sites : List Site) (s : Swap) : Type 0 where
   pub within : s.block.0 < length sites
   pub stands : site_of sites s.block.0 ≡ s.from
   pub away : s.from ≢ s.to
   pub held : IsHeldBy sites s.to s.other
 
--- where a block stands after the swap
+-- where a block is after the swap
 
 length-with_other : (sites : List Site) (o : Option BlockId) (x : Site) → length (with_other sites o x) ≡ length sites
 length-with_other sites None x = refl
@@ -182,13 +182,13 @@ apart_after sites after block from to (Some d) b c apart range stands away (d_ra
       ]
     ]
 
--- no two blocks stand on one site after the swap
+-- no two blocks are on one site after the swap
 pub apart-swapped : (sites : List Site) (s : Swap) → AreApart sites → IsReady sites s → AreApart (swapped sites s)
 apart-swapped sites s apart r b c lb lc e =
     let same : length (swapped sites s) ≡ length sites = length-swapped sites s in
     apart_after sites (swapped sites s) s.block.0 s.from s.to s.other b c apart r.within r.stands r.away r.held (omega (arith, same)) (omega (arith, same)) (placed sites s b r) (placed sites s c r) e
 
--- who stands where after the swap
+-- which block is where after the swap
 
 block_moved : (sites after : List Site) (block : ℕ) (from to : Site) (o : Option BlockId) → from ≢ to → site_of sites block ≡ from → IsHeldBy sites to o → Placed sites block from to o after block → site_of after block ≡ to
 block_moved sites after block from to None away stands held p = elim p [ inl (is, at) ↦ at | inr (isnt, at) ↦ absurd (isnt refl) ]

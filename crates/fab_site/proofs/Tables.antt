@@ -210,7 +210,7 @@ pub false_of : (b : Bool) → (b ≡ true → ⊥) → b ≡ false
 false_of true h = absurd (h refl)
 false_of false h = refl
 
--- what stands once the sites of the first blocks are in the table
+-- what holds once the sites of the first blocks are in the table
 pub record IsFilled (g : GridShape) (sites : List Site) (b : ℕ) (holders : List ℕ) : Type 0 where
   pub size : length holders ≡ site_count g
   pub each : (s : Site) → held holders (index_of g s) ≡ at (take b sites) s

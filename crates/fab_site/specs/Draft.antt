@@ -1,4 +1,4 @@
--- A placement in the making: of each block its site, or none yet (our own).
+-- An unfinished placement: each block's site, or none yet (our own).
 use Rattle.std.specs.Prelude.{ℕ, ◌≡◌, ◌+◌, ◌≤◌, Bool, false, if◌then◌else◌, List, [], ◌∷◌, length, is_some, not, Option, Some, None, slice_get, refl}
 use Rattle.fab_arch.specs.declared.array.Site.{Site}
 use Rattle.fab_arch.specs.Grid.{GridShape}
@@ -14,7 +14,7 @@ abbrev pub is_site : Option Site → Site → Bool
 is_site None site = false
 is_site (Some s) site = same_site s site
 
--- the first block on the site, where the first of the list has this number
+-- the first block on the site, where the first of the list has number `n`
 abbrev pub holder_from : ℕ → List (Option Site) → Site → Option BlockId
 holder_from n [] site = None
 holder_from n (s ∷ sites) site = if is_site s site then Some (record { 0 = n }) else holder_from (n + 1) sites site
@@ -30,7 +30,7 @@ is_missing s = not (is_some s)
 abbrev pub NoneShared : List (Option Site) → Type 0
 NoneShared sites = (a b : ℕ) (s : Site) → slice_get sites a ≡ Some (Some s) → slice_get sites b ≡ Some (Some s) → a ≡ b
 
--- the table has a place for each site, and holds, for every site, the block that stands there; the blocks are few, and
+-- the table has a place for each site and holds the block on each site; there are at most 65,535 blocks, and
 -- no two are on one site
 pub record IsTabled (g : GridShape) (sites : List (Option Site)) (holders : List ℕ) : Type 0 where
   pub size : length holders ≡ site_count g

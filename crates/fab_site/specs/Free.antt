@@ -1,4 +1,4 @@
--- The blocks that may move, in order (our own): a rank among them is what a word picks.
+-- The blocks that may move, in order (our own): a word picks a rank among them.
 use Rattle.std.specs.Prelude.{ℕ, ◌≡◌, Bool, not, filter, List, [], ◌∷◌, is_some, Option, Some, None, refl}
 use Rattle.std.specs.List.{range_with_len}
 use Rattle.fab_arch.specs.declared.array.Site.{Site}
@@ -8,7 +8,7 @@ use Rattle.fab_site.specs.Placement.{fixed_at, site}
 abbrev pub is_free : List (Option Site) → ℕ → Bool
 is_free fixed b = not (is_some (fixed_at fixed b))
 
--- of the first n blocks those that are not fixed
+-- the blocks below `n` that are not fixed
 abbrev pub free_below : List (Option Site) → ℕ → List ℕ
 free_below fixed n = filter (is_free fixed) (range_with_len 0 n)
 

@@ -16,28 +16,28 @@ abbrev pub pad_index : GridShape → ℕ → Option ℕ → Option ℕ
 pad_index g sub None = None
 pad_index g sub (Some place) = if nat_lt sub g.io_rat then Some (g.nx * g.ny + (place * g.io_rat + sub)) else None
 
--- the place of a site in the table, or none where the array has no such site
+-- the place of a site in the table, or none if the array has no such site
 unfoldable pub index_of : GridShape → Site → Option ℕ
 index_of g s = if is_logic_site g s then Some ((s.y - 1) * g.nx + (s.x - 1)) else pad_index g s.sub (place_of g.nx g.ny s.x s.y)
 
--- how many sites the array has
+-- the number of sites of the array
 abbrev pub site_count : GridShape → ℕ
 site_count g = g.nx * g.ny + (g.ny + g.nx + g.ny + g.nx) * g.io_rat
 
 abbrev pub block_from : ℕ → Option BlockId
 block_from n = if n == 0 then None else Some (record { 0 = n - 1 })
 
--- the block at a place of the table, where 0 stands for none and n for block n - 1
+-- the block at a place of the table; an entry of 0 means none, and n means block n - 1
 abbrev pub held : List ℕ → Option ℕ → Option BlockId
 held holders None = None
 held holders (Some i) = block_from (slice_index holders i)
 
--- what stands in the table for a block, or for none
+-- the entry of the table for a block, or for none
 abbrev pub number_for : Option BlockId → ℕ
 number_for None = 0
 number_for (Some b) = b.0 + 1
 
--- the table holds, for every site, the block that stands there
+-- the table holds the block on each site
 pub record IsIndexed (g : GridShape) (sites : List Site) (holders : List ℕ) : Type 0 where
   pub size : length holders ≡ site_count g
   pub few : length sites ≤ 65535

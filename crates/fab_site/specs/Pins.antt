@@ -1,5 +1,5 @@
 -- What a location file says (fixing after the VPR manual's pad file; that any block may be fixed, or only begun, is our
--- own). Sites that are given are two lists by block number that may end early: of fixed blocks, and of begun ones.
+-- own). Given sites are two lists by block number that may end early: of fixed blocks, and of begun ones.
 use Rattle.std.specs.Prelude.{ℕ, ◌≡◌, ◌<◌, true, List, [], ◌∷◌, length, is_some, Option, Some, None, refl}
 use Rattle.fab_arch.specs.declared.array.Site.{Site}
 use Rattle.fab_arch.specs.Grid.{GridShape}
@@ -10,11 +10,11 @@ abbrev pub either_site : Option Site → Option Site → Option Site
 either_site None other = other
 either_site (Some s) other = Some s
 
--- the site where a block is fixed or begun, if it is
+-- the site where a block is fixed or begun, if any
 abbrev pub given_at : List (Option Site) → List (Option Site) → ℕ → Option Site
 given_at fixed begun b = either_site (fixed_at fixed b) (fixed_at begun b)
 
--- the blocks are the netlist's, each at a site of its kind, and no block and no site stands twice over both
+-- the blocks are the netlist's, each at a site of its kind, and no block and no site occurs twice in both together
 pub record ArePins (d : Netlist) (g : GridShape) (fixed begun : List (Option Site)) : Type 0 where
   pub within : (b : ℕ) (s : Site) → given_at fixed begun b ≡ Some s → b < length d.kinds
   pub fit : (b : ℕ) (s : Site) → given_at fixed begun b ≡ Some s → Fits d g b s

@@ -9,7 +9,7 @@ use Rattle.fab_net.specs.declared.pieces.BlockId.{BlockId}
 use Rattle.fab_net.specs.Netlist.{Netlist, is_logic_at}
 use Rattle.fab_site.specs.declared.pieces.Swap.{Swap}
 
--- a site that is none, for reads past the end
+-- no site of any array, read past the end of a list
 abbrev pub nowhere : Site
 nowhere = record { x = 0; y = 0; sub = 0 }
 
@@ -19,7 +19,7 @@ same_site a b = a.x == b.x && a.y == b.y && a.sub == b.sub
 abbrev pub site_of : List Site → ℕ → Site
 site_of sites b = slice_index_or sites b nowhere
 
--- the first block on the site, where the first of the list has this number
+-- the first block on the site, where the first of the list has number `n`
 abbrev pub at_from : ℕ → List Site → Site → Option BlockId
 at_from n [] site = None
 at_from n (s ∷ sites) site = if same_site s site then Some (record { 0 = n }) else at_from (n + 1) sites site
@@ -28,7 +28,7 @@ at_from n (s ∷ sites) site = if same_site s site then Some (record { 0 = n }) 
 abbrev pub at : List Site → Site → Option BlockId
 at sites site = at_from 0 sites site
 
--- a placement on an array, as contracts see it
+-- a placement on an array, in contracts
 pub record PlacementOf : Type 0 where
   pub grid : GridShape
   pub sites : List Site
@@ -41,8 +41,8 @@ with_other sites (Some b) site = slice_set sites b.0 site
 abbrev pub swapped : List Site → Swap → List Site
 swapped sites s = with_other (slice_set sites s.block.0 s.to) s.other s.from
 
--- the swap is one of these sites (our own): its block stands at `from` and goes to another site of the same kind,
--- and `other` is the block that stands there, if any. `from` is a site of the array; `to`, of the same kind, is one too
+-- the swap is one of these sites (our own): its block is at `from` and goes to another site of the same kind, and
+-- `other` is the block there, if any. `from` is a site of the array; so `to`, of the same kind, is one too
 pub record IsSwapOf (g : GridShape) (sites : List Site) (s : Swap) : Type 0 where
   pub stands : slice_get sites s.block.0 ≡ Some s.from
   pub away : ¬ (s.to ≡ s.from)
@@ -54,7 +54,7 @@ pub record IsSwapOf (g : GridShape) (sites : List Site) (s : Swap) : Type 0 wher
 abbrev pub kind_wanted : Netlist → ℕ → SiteKind
 kind_wanted d b = if is_logic_at d b then site_kind.Logic else site_kind.Pad
 
--- the site is one of the array's, of the block's kind
+-- the site is one of the array's, and of the block's kind
 abbrev pub Fits : Netlist → GridShape → ℕ → Site → Type 0
 Fits d g b s = kind_at g s ≡ Some (kind_wanted d b)
 
@@ -62,15 +62,15 @@ abbrev pub flat : Option (Option Site) → Option Site
 flat None = None
 flat (Some site) = site
 
--- the site where a block is fixed, if it is. Fixed sites are a list by block number that may end early
+-- the site where a block is fixed, if any. Fixed sites are a list by block number that may end early
 abbrev pub fixed_at : List (Option Site) → ℕ → Option Site
 fixed_at fixed b = flat (slice_get fixed b)
 
--- no two blocks stand on one site
+-- no two blocks are on one site
 abbrev pub AreApart : List Site → Type 0
 AreApart sites = (a b : ℕ) → a < length sites → b < length sites → site_of sites a ≡ site_of sites b → a ≡ b
 
--- each block of the netlist stands on a site of its kind, no two on one, and fixed blocks stand where they are fixed
+-- each block of the netlist is on a site of its kind, no two on the same, and fixed blocks are where they are fixed
 pub record IsLegal (d : Netlist) (g : GridShape) (fixed : List (Option Site)) (sites : List Site) : Type 0 where
   pub all : length sites ≡ length d.kinds
   pub fit : (b : ℕ) → b < length sites → Fits d g b (site_of sites b)
@@ -114,11 +114,11 @@ a_swap_of_these_sites = record {
   there = refl;
 }
 
--- the target is no site of the array, and so of no kind
+-- the target is no site of the array, so it has no kind
 pub no_swap_to_a_site_off_the_array : IsSwapOf (shape 2 2 1) two_sites off_the_array → None ≡ Some site_kind.Logic
 no_swap_to_a_site_off_the_array is = is.kind
 
--- on a smaller array neither is one, so that they are of one kind, which is none
+-- on a smaller array neither site exists, so their kinds are equal: both are none
 pub no_swap_between_sites_off_the_array : IsSwapOf (shape 1 1 1) two_sites off_the_array → false ≡ true
 no_swap_between_sites_off_the_array is = is.there
 

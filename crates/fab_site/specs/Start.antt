@@ -1,5 +1,5 @@
--- The start placement (our own): given blocks stand at their sites; each other block, in order of number, draws one of
--- the sites of its kind that are left.
+-- The start placement (our own): given blocks are at their sites; each other block, in order of number, draws one of
+-- the remaining sites of its kind.
 use Rattle.std.specs.Prelude.{ℕ, ◌≡◌, ◌+◌, ◌*◌, not, filter, if◌then◌else◌, Bool, List, [], ◌∷◌, length, map, is_some, Option, Some, None, codes, refl}
 use Rattle.std.specs.List.{range_with_len, flat_map, swap_remove}
 use Rattle.fab_arch.specs.declared.array.Site.{Site}
@@ -12,15 +12,15 @@ use Rattle.fab_site.specs.Draft.{holder_of}
 use Rattle.fab_site.specs.Pins.{given_at}
 use Rattle.fab_site.specs.Words.{pick_of}
 
--- the logic sites, by rows
+-- the logic sites, row by row
 abbrev pub logic_sites : GridShape → List Site
 logic_sites g = flat_map (λ y. map (λ x. site x y 0) (range_with_len 1 g.nx)) (range_with_len 1 g.ny)
 
--- the pad sites, by position round the array, then by sub
+-- the pad sites, by position around the array, then by sub
 abbrev pub pad_sites : GridShape → List Site
 pad_sites g = flat_map (λ at. map (λ sub. site at.0 at.1 sub) (range_with_len 0 g.io_rat)) (perimeter g)
 
--- of each block the site that it is given, if any
+-- the site that each block is given, if any
 abbrev pub given_sites : Netlist → List (Option Site) → List (Option Site) → List (Option Site)
 given_sites d fixed begun = map (given_at fixed begun) (range_with_len 0 (length d.kinds))
 
@@ -28,16 +28,16 @@ given_sites d fixed begun = map (given_at fixed begun) (range_with_len 0 (length
 abbrev pub sites_left : List (Option Site) → List Site → List Site
 sites_left given sites = filter (λ s. not (is_some (holder_of given s))) sites
 
--- the number of the entry of a list that a word picks
+-- the index in a list that a word picks
 abbrev pub entry_of : ℕ → List Site → ℕ
 entry_of w left = pick_of w (length left)
 
--- a list without an entry: its last entry fills the gap
+-- a list without an entry: the last entry fills the gap
 abbrev pub without : List Site → ℕ → List Site
 without left i = swap_remove left i nowhere
 
--- the sites of blocks, of which these are given and these are the kinds, where the start words from this number on draw
--- from the logic sites and pad sites left: one counter for all blocks that draw
+-- the sites of blocks with these given sites and kinds. The other blocks draw from the remaining logic sites and pad
+-- sites with the start words from number `i` on: one counter for all blocks that draw
 abbrev pub deal : (ℕ → ℕ) → ℕ → List Site → List Site → List (Option Site) → List BlockKind → List Site
 deal word i logic pads [] kinds = []
 deal word i logic pads (o ∷ given) [] = []
@@ -49,7 +49,7 @@ deal word i logic pads (None ∷ given) (k ∷ kinds) =
 abbrev pub is_pad : BlockKind → Bool
 is_pad k = not (is_logic k)
 
--- how many blocks that are not given pass a test
+-- how many blocks without a given site pass a test
 abbrev pub waiting : (BlockKind → Bool) → List (Option Site) → List BlockKind → ℕ
 waiting p [] kinds = 0
 waiting p (o ∷ given) [] = 0
@@ -60,7 +60,7 @@ waiting p (None ∷ given) (k ∷ kinds) = (if p k then 1 else 0) + waiting p gi
 abbrev pub drawing : List (Option Site) → List BlockKind → ℕ
 drawing given kinds = waiting is_logic given kinds + waiting is_pad given kinds
 
--- the start placement of a netlist on an array, where these blocks are fixed and begun
+-- the start placement of a netlist on an array, with these fixed and begun blocks
 abbrev pub start_sites : Netlist → GridShape → List (Option Site) → List (Option Site) → (ℕ → ℕ) → List Site
 start_sites d g fixed begun word =
     deal word 0 (sites_left (given_sites d fixed begun) (logic_sites g)) (sites_left (given_sites d fixed begun) (pad_sites g)) (given_sites d fixed begun) d.kinds
@@ -73,7 +73,7 @@ pad_and_two = record {
   globals = [];
 }
 
--- the first word 0 draws the first site, and then the last of the list stands there
+-- a word of 0 draws the first site, and then the last site of the list takes its place
 pub words_of_0 : start_sites pad_and_two (shape 2 2 1) [] [] (λ i. 0) ≡ site 0 1 0 ∷ site 1 1 0 ∷ site 2 2 0 ∷ []
 words_of_0 = refl
 

@@ -1,8 +1,8 @@
--- Random words: what a start placement and moves draw from (our own). A word is below 2^32, which is the type of what
--- gives it.
+-- Random words, which the start placement and moves draw from (our own). A word is below 2^32: the functions that give
+-- words have that type.
 use Rattle.std.specs.Prelude.{ℕ, ◌≡◌, ◌-◌, ◌*◌, ◌/◌, ◌^◌, List, [], ◌∷◌, slice_index_or, refl}
 
--- a choice among so many, by a word of 32 bits
+-- picks one of `n` choices by a word of 32 bits
 abbrev pub pick_of : ℕ → ℕ → ℕ
 pick_of w n = w * n / 2 ^ 32
 
@@ -10,7 +10,7 @@ pick_of w n = w * n / 2 ^ 32
 abbrev pub word_at : List ℕ → ℕ → ℕ
 word_at words i = slice_index_or words i 0
 
--- the words of a move, all 0 beyond the end of a list
+-- the words of a move, all 0 beyond the end of the list
 abbrev pub words_at : List (List ℕ) → ℕ → List ℕ
 words_at moves k = slice_index_or moves k (0 ∷ 0 ∷ 0 ∷ 0 ∷ [])
 

@@ -1,4 +1,4 @@
-//! A placement in the making: blocks get their sites one by one, in any order.
+//! An unfinished placement: blocks get their sites one by one, in any order.
 
 ghost use Rattle.std.specs.Prelude.{◌≡◌, ◌↔◌, ℕ, ◌+◌, ◌^◌, ◌<◌, ◌≤◌, length, map, replicate, is_some, position, slice_get, slice_set, None, Some, IsTrue, IfOk};
 ghost use Rattle.fab_arch.specs.Grid.{kind_at};
@@ -13,7 +13,7 @@ use fab_net::BlockId;
 use std::alloc::{AllocError, Global};
 use std::marker::Model;
 
-/// Of each block the site that it got, if any; no site is given twice.
+/// The site of each block, if it has one yet. No two blocks have the same site.
 pub struct Draft {
     alloc: Global,
     grid: Grid,
@@ -32,7 +32,7 @@ impl Model for Draft {
 }
 
 impl Drop for Draft {
-    // A `drop` that is called is one step wherever a draft goes out of scope; a derived one is proved anew there.
+    // A written `drop` is one step of a proof wherever a draft goes out of scope; a derived one is proved again each time.
     fn drop(self) {
         let Draft {
             alloc: _,
@@ -44,7 +44,7 @@ impl Drop for Draft {
 }
 
 impl Draft {
-    /// A draft of so many blocks, none of which has a site.
+    /// A draft of `blocks` blocks, all without a site.
     pub fn new(alloc: Global, blocks: usize, grid: &Grid) -> Result<Draft, AllocError>
         requires { blocks ≤ 65535 }
         ensures { IfOk result (λ d. d ≡ record { grid = grid.now; sites = replicate blocks None }) }
@@ -59,7 +59,7 @@ impl Draft {
         })
     }
 
-    /// The site that a block got.
+    /// The site of a block, if it has one yet.
     pub fn site_of(&self, block: BlockId) -> Option<Site>
         requires { block.0 < length self.now.sites }
         ensures { slice_get self.now.sites block.0 ≡ Some result }
@@ -67,7 +67,7 @@ impl Draft {
         self.sites[block.0 as usize]
     }
 
-    /// The block that got a site.
+    /// The block that has this site, if any.
     pub fn at(&self, site: Site) -> Option<BlockId>
         ensures first { result ≡ holder_of self.now.sites site }
         ensures stands { (b : BlockId) → (result ≡ Some b) ↔ (slice_get self.now.sites b.0 ≡ Some (Some site)) }
@@ -75,7 +75,7 @@ impl Draft {
         held(&self.holders, index_of(&self.grid, site))
     }
 
-    /// Gives a block, which has no site yet, one of the array's sites, which no block has yet.
+    /// Gives a block its site. The block has none yet, and the site is one of the array's that no block has yet.
     pub fn put(&mut self, block: BlockId, site: Site)
         requires missing { slice_get self.old.sites block.0 ≡ Some None }
         requires there { IsTrue (is_some (kind_at self.old.grid site)) }
@@ -86,14 +86,14 @@ impl Draft {
         self.sites[block.0 as usize] = Some(site);
     }
 
-    /// The first block without a site, by number.
+    /// The number of the first block without a site.
     pub fn first_missing(&self) -> Option<usize>
         ensures { result ≡ position is_missing self.now.sites }
     {
         self.sites.iter().position(|site| site.is_none())
     }
 
-    /// The placement, where each block has its site.
+    /// The placement, once each block has its site.
     pub fn finish(self) -> Result<Placement, AllocError>
         requires { position is_missing self.sites ≡ None }
         ensures grid { IfOk result (λ p. p.grid ≡ self.grid) }
@@ -110,7 +110,7 @@ impl Draft {
     }
 }
 
-/// So many blocks without a site.
+/// A list of `blocks` blocks without a site.
 fn no_sites(alloc: Global, blocks: usize) -> Result<Vec<Option<Site>>, AllocError>
     ensures { IfOk result (λ v. v.items ≡ replicate blocks None) }
 {
@@ -121,7 +121,7 @@ fn no_sites(alloc: Global, blocks: usize) -> Result<Vec<Option<Site>>, AllocErro
     Ok(sites)
 }
 
-/// Writes a block into the table, where its site lies.
+/// Writes a block into the table at the place of its site.
 fn enter(grid: &Grid, holders: &mut Vec<u32>, block: BlockId, site: Site)
     requires size { length holders.old.items ≡ site_count grid.now }
     requires fits { block.0 + 1 < 2 ^ 32 }
@@ -133,7 +133,7 @@ fn enter(grid: &Grid, holders: &mut Vec<u32>, block: BlockId, site: Site)
     }
 }
 
-/// The sites, where each is there.
+/// The sites, all of them present.
 fn all_sites(alloc: Global, sites: &[Option<Site>]) -> Result<Vec<Site>, AllocError>
     requires { position is_missing sites.now ≡ None }
     ensures { IfOk result (λ v. map Some v.items ≡ sites.now) }

@@ -9,10 +9,10 @@ use fab_net::BlockId;
 use std::alloc::{AllocError, Global};
 use std::marker::Model;
 
-/// Of some blocks the site where each must stay.
+/// The sites of the blocks that must stay there.
 pub struct Fixed {
     sites: Vec<Option<Site>>,
-    /// The blocks below the end of `sites` that are not fixed, ascending: so one of them is found by its rank.
+    /// The blocks below the end of `sites` that are not fixed, in ascending order, so that one is found by its rank.
     free: Vec<u32>,
 }
 
@@ -29,7 +29,7 @@ impl Model for Fixed {
 }
 
 impl Drop for Fixed {
-    // A `drop` that is called is one step wherever fixed blocks go out of scope; a derived one is proved anew there.
+    // A written `drop` is one step of a proof wherever fixed blocks go out of scope; a derived one is proved again each time.
     fn drop(self) {
         let Fixed { sites: _, free: _ } = self;
     }
@@ -46,7 +46,7 @@ impl Fixed {
         }
     }
 
-    /// Fixes a block, which is not fixed yet, at a site. Where memory is short, all stays as it was.
+    /// Fixes a block, which is not fixed yet, at a site. If memory runs out, the fixed blocks stay the same.
     pub fn fix(&mut self, block: BlockId, site: Site) -> Result<(), AllocError>
         requires { fixed_at self.old block.0 ≡ None }
         ensures fixed { OnOk result ((b : ℕ) → fixed_at self.new b ≡ (if b == block.0 then Some site else fixed_at self.old b)) }
@@ -57,7 +57,7 @@ impl Fixed {
         Ok(())
     }
 
-    /// The site where a block is fixed, or `None` where it is not.
+    /// The site where a block is fixed, or `None` if it is not fixed.
     pub fn site_of(&self, block: BlockId) -> Option<Site>
         ensures { result ≡ fixed_at self.now block.0 }
     {
@@ -67,7 +67,7 @@ impl Fixed {
         }
     }
 
-    /// How many of the first `blocks` blocks are not fixed, where no other block is fixed.
+    /// How many of the first `blocks` blocks are not fixed. No block from `blocks` on may be fixed.
     pub fn free_blocks(&self, blocks: u32) -> u32
         requires { (b : ℕ) (s : Site) → fixed_at self.now b ≡ Some s → b < blocks }
         ensures { result ≡ length (free_below self.now blocks) }
@@ -75,7 +75,7 @@ impl Fixed {
         (u64::from(blocks) + self.free.len() as u64 - self.sites.len() as u64) as u32
     }
 
-    /// The block of a rank among the first `blocks` blocks that are not fixed, in no time that depends on their number.
+    /// The block with this rank among those of the first `blocks` blocks that are not fixed, in constant time.
     pub fn free_block(&self, blocks: u32, rank: u32) -> BlockId
         requires { rank < length (free_below self.now blocks) }
         ensures { slice_get (free_below self.now blocks) rank ≡ Some result.0 }
@@ -96,7 +96,7 @@ impl Fixed {
     }
 }
 
-/// One more block that is not fixed.
+/// Adds one more block that is not fixed.
 fn lengthen_by_one(sites: &mut Vec<Option<Site>>, free: &mut Vec<u32>) -> Result<(), AllocError>
     requires small { length sites.old.items < 2 ^ 32 }
     requires tied { free.old.items ≡ free_below sites.old.items (length sites.old.items) }
@@ -113,7 +113,7 @@ fn lengthen_by_one(sites: &mut Vec<Option<Site>>, free: &mut Vec<u32>) -> Result
     Ok(())
 }
 
-/// Makes the list at least so long, with no site for the blocks that come in.
+/// Lengthens the list to at least `len` blocks; new ones are not fixed.
 fn lengthen(
     sites: &mut Vec<Option<Site>>,
     free: &mut Vec<u32>,
@@ -131,7 +131,7 @@ fn lengthen(
     Ok(())
 }
 
-/// Takes a number out of an ascending list.
+/// Removes a number from an ascending list.
 fn take_out(numbers: &mut Vec<u32>, number: u32)
     requires { (i j : ℕ) → i < j → j < length numbers.old.items → slice_index numbers.old.items i < slice_index numbers.old.items j }
     ensures { numbers.new.items ≡ filter (λ n. not (n == number)) numbers.old.items }

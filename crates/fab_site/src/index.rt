@@ -1,4 +1,4 @@
-//! The flat table of an array's sites: where in it a site lies.
+//! The flat table of an array's sites: the place of a site in it.
 
 ghost use Rattle.std.specs.Prelude.{◌≡◌, ℕ, ◌+◌, ◌-◌, ◌*◌, ◌^◌, ◌<◌, ◌≤◌, Some};
 ghost use Rattle.fab_arch.specs.Grid.{shape, is_logic_site};
@@ -62,7 +62,7 @@ fn pad_index(nx: u16, ny: u16, io_rat: u16, site: Site) -> Option<usize>
     }
 }
 
-/// The place of a site in the table, or `None` where the array has no such site.
+/// The place of a site in the table, or `None` if the array has no such site.
 #[tactic(auto, unfolding(crate::specs::Index::index_of))]
 pub fn index_of(grid: &Grid, site: Site) -> Option<usize>
     ensures { result ≡ index_of grid.now site }
@@ -76,7 +76,7 @@ pub fn index_of(grid: &Grid, site: Site) -> Option<usize>
     }
 }
 
-/// How many sites the array has.
+/// The number of sites of the array.
 pub fn site_count(grid: &Grid) -> usize
     ensures { result ≡ site_count grid.now }
 {
@@ -85,7 +85,7 @@ pub fn site_count(grid: &Grid) -> usize
     columns * rows + (rows + columns + rows + columns) * usize::from(grid.io_rat())
 }
 
-/// The block at a place of the table, where 0 stands for none and n for block n - 1.
+/// The block at a place of the table. An entry of 0 means none, and n means block n - 1.
 pub(crate) fn held(holders: &[u32], index: Option<usize>) -> Option<BlockId>
     ensures { result ≡ held holders.now index }
 {
@@ -96,7 +96,7 @@ pub(crate) fn held(holders: &[u32], index: Option<usize>) -> Option<BlockId>
     }
 }
 
-/// The number that stands in the table for a site's block, or for none.
+/// The entry of the table for a site with this block, or with none.
 pub(crate) fn number_for(holder: Option<BlockId>) -> u32
     requires { (b : BlockId) → holder ≡ Some b → b.0 + 1 < 2 ^ 32 }
     ensures { result ≡ number_for holder }

@@ -11,8 +11,8 @@ use crate::places::Placement;
 use fab_arch::{Grid, Site, SiteKind};
 use fab_net::{BlockId, BlockKind, Design};
 
-/// Whether each of the design's blocks stands on a site of its kind, no two on one, and each fixed block where
-/// it is fixed. Takes no memory.
+/// Whether each of the design's blocks is on a site of its kind, no two on the same, and each fixed block is where
+/// it is fixed. Needs no memory.
 pub fn is_legal(design: &Design, grid: &Grid, fixed: &Fixed, placement: &Placement) -> bool
     ensures { IsTrue result ↔ IsLegal design.now grid.now fixed.now placement.now.sites }
 {
@@ -21,7 +21,7 @@ pub fn is_legal(design: &Design, grid: &Grid, fixed: &Fixed, placement: &Placeme
         && all_stay(fixed.sites(), placement.sites())
 }
 
-/// Whether each block stands on a site of its kind.
+/// Whether each block is on a site of its kind.
 fn all_fit(design: &Design, grid: &Grid, sites: &[Site]) -> bool
     requires { length sites.now ≡ length design.now.kinds }
     ensures { IsTrue result ↔ ((b : ℕ) → b < length sites.now → Fits design.now grid.now b (site_of sites.now b)) }
@@ -34,7 +34,7 @@ fn all_fit(design: &Design, grid: &Grid, sites: &[Site]) -> bool
     true
 }
 
-/// Whether a site is one of the array's, of a block's kind.
+/// Whether a site is one of the array's, and of a block's kind.
 fn fits(design: &Design, grid: &Grid, block: usize, site: Site) -> bool
     requires { block < length design.now.kinds }
     ensures { IsTrue result ↔ Fits design.now grid.now block site }
@@ -47,7 +47,7 @@ fn fits(design: &Design, grid: &Grid, block: usize, site: Site) -> bool
     }
 }
 
-/// The kind of site for a kind of block.
+/// The kind of site that a kind of block needs.
 fn wanted(kind: BlockKind) -> SiteKind
     ensures { result ≡ (if is_logic kind then Logic else Pad) }
 {
@@ -57,7 +57,7 @@ fn wanted(kind: BlockKind) -> SiteKind
     }
 }
 
-/// Whether each fixed block stands where it is fixed.
+/// Whether each fixed block is where it is fixed.
 fn all_stay(fixed: &[Option<Site>], sites: &[Site]) -> bool
     ensures { IsTrue result ↔ ((b : ℕ) (s : Site) → fixed_at fixed.now b ≡ Some s → slice_get sites.now b ≡ Some s) }
 {
@@ -69,7 +69,7 @@ fn all_stay(fixed: &[Option<Site>], sites: &[Site]) -> bool
     true
 }
 
-/// Whether a block stands where it is fixed, if it is.
+/// Whether a block is where it is fixed, if it is fixed.
 fn stays(fixed: Option<Site>, sites: &[Site], block: usize) -> bool
     ensures { IsTrue result ↔ ((s : Site) → fixed ≡ Some s → slice_get sites.now block ≡ Some s) }
 {

@@ -1,4 +1,4 @@
-//! Placements: where each block stands, read both ways.
+//! Placements: the site of each block, and the block on each site.
 #![tactic(auto)]
 
 pub mod drafts;

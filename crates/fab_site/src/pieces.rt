@@ -3,12 +3,12 @@
 use fab_arch::Site;
 use fab_net::BlockId;
 
-/// One block goes from its site to another; the block that stands there, if any, takes its place.
+/// One block moves to another site; the block on that site, if any, moves to the first block's site.
 #[derive(Clone, Copy, Debug, PartialEq, Eq)]
 pub struct Swap {
     pub block: BlockId,
     pub from: Site,
     pub to: Site,
-    /// The block that stood on `to`.
+    /// The block on `to` before the swap, if any.
     pub other: Option<BlockId>,
 }

@@ -2,8 +2,8 @@
 
 use crate::fixed::Fixed;
 
-/// Blocks that have a site before the first move: fixed ones keep it, begun ones may move later. No block and no site
-/// stands twice over both.
+/// Blocks that have a site before the first move: fixed ones keep it, begun ones may move later. `start` requires that
+/// no block and no site occurs twice, fixed and begun ones together.
 #[derive(Drop)]
 pub struct Pins {
     pub fixed: Fixed,

@@ -1,4 +1,4 @@
-//! A placement: the site of each block, and on each site its block, in two flat arrays.
+//! A placement: the site of each block, and the block on each site, in two flat arrays.
 
 ghost use Rattle.std.specs.Prelude.{◌≡◌, ◌↔◌, ℕ, ◌+◌, ◌^◌, ◌<◌, ◌≤◌, [], length, is_some, slice_get, slice_set, Some, IsTrue, IfOk};
 ghost use Rattle.fab_arch.specs.Grid.{kind_at};
@@ -13,7 +13,7 @@ use fab_net::{BlockId, Design};
 use std::alloc::{AllocError, Global};
 use std::marker::Model;
 
-/// Where each block stands, on one array.
+/// The site of each block, on one array.
 pub struct Placement {
     grid: Grid,
     sites: Vec<Site>,
@@ -32,7 +32,7 @@ impl Model for Placement {
 }
 
 impl Drop for Placement {
-    // A `drop` that is called is one step wherever a placement goes out of scope; a derived one is proved anew there.
+    // A written `drop` is one step of a proof wherever a placement goes out of scope; a derived one is proved again each time.
     fn drop(self) {
         let Placement {
             grid: _,
@@ -43,8 +43,8 @@ impl Drop for Placement {
 }
 
 impl Placement {
-    /// The placement that gives each block, by number, its site. The sites are lawful by condition: each of its
-    /// block's kind, and none twice.
+    /// The placement with these sites, by block number. Each site must be of its block's kind, and no site may occur
+    /// twice.
     pub fn of_sites(
         alloc: Global,
         design: &Design,
@@ -65,8 +65,8 @@ impl Placement {
         })
     }
 
-    /// This placement on the array given, on which each of its blocks stands on a site of its kind: as it is where
-    /// that is its array, else with the table of that one.
+    /// This placement on another array, on which each block's site must be of the block's kind too. Returns the same
+    /// placement if `grid` is its array already, else makes the table of `grid`.
     pub fn on_array(self, design: &Design, grid: &Grid) -> Result<Placement, AllocError>
         requires { IsLegal design.now grid.now [] self.sites }
         ensures grid { IfOk result (λ p. p.grid ≡ grid.now) }
@@ -90,7 +90,7 @@ impl Placement {
         })
     }
 
-    /// The placement of sites by block, with the table that holds their blocks.
+    /// The placement with these sites, by block number, and the table that holds their blocks.
     pub(crate) fn of_table(grid: Grid, sites: Vec<Site>, holders: Vec<u32>) -> Self
         requires { IsIndexed grid sites.items holders.items }
         ensures { result ≡ record { grid = grid; sites = sites.items } }
@@ -102,7 +102,7 @@ impl Placement {
         }
     }
 
-    /// Where a block stands.
+    /// The site of a block.
     pub fn site_of(&self, block: BlockId) -> Site
         requires { block.0 < length self.now.sites }
         ensures { result ≡ site_of_block self.now.sites block.0 }
@@ -110,7 +110,7 @@ impl Placement {
         self.sites[block.0 as usize]
     }
 
-    /// The block on a site, or `None` where the site is empty or none of the array's.
+    /// The block on a site, or `None` if the site is empty or none of the array's.
     pub fn at(&self, site: Site) -> Option<BlockId>
         ensures first { result ≡ block_at self.now.sites site }
         ensures stands { (b : BlockId) → (result ≡ Some b) ↔ (slice_get self.now.sites b.0 ≡ Some site) }
@@ -118,7 +118,7 @@ impl Placement {
         held(&self.holders, index_of(&self.grid, site))
     }
 
-    /// How many blocks stand on the array, no two on one site.
+    /// The number of blocks. No two of them are on one site.
     pub fn blocks(&self) -> usize
         ensures count { result ≡ length self.now.sites }
         ensures apart { AreApart self.now.sites }
@@ -126,15 +126,15 @@ impl Placement {
         self.sites.len()
     }
 
-    /// The blocks' sites, by number.
+    /// The sites of the blocks, by number.
     pub(crate) fn sites(&self) -> &[Site]
         ensures { result.now ≡ self.now.sites }
     {
         &self.sites
     }
 
-    /// Makes a swap: its block goes to `to`, and the block that stands there, if any, goes to `from`. The swap
-    /// is one of this placement by condition: it says who stands where, and both sites are of one kind.
+    /// Makes a swap: its block goes to `to`, and the block there, if any, goes to `from`. The swap must be one of this
+    /// placement: it says which blocks are where, and both sites are of one kind.
     pub fn apply(&mut self, swap: &Swap)
         requires { IsSwapOf self.old.grid self.old.sites swap.now }
         ensures { self.new ≡ record self.old { sites = swapped self.old.sites swap.now } }
@@ -144,7 +144,7 @@ impl Placement {
         change_places(&mut self.sites, swap);
     }
 
-    /// A second placement that gives each block the same site.
+    /// A copy of the placement.
     pub fn copy(&self) -> Result<Placement, AllocError>
         ensures { IfOk result (λ p. p ≡ self.now) }
     {
@@ -156,7 +156,7 @@ impl Placement {
     }
 }
 
-/// The table that holds, for every site, the block that stands there.
+/// The table of the block on each site.
 fn holders_of(alloc: Global, grid: &Grid, sites: &[Site]) -> Result<Vec<u32>, AllocError>
     requires few { length sites.now ≤ 65535 }
     requires there { (b : ℕ) → b < length sites.now → IsTrue (is_some (kind_at grid.now (site_of_block sites.now b))) }
@@ -172,7 +172,7 @@ fn holders_of(alloc: Global, grid: &Grid, sites: &[Site]) -> Result<Vec<u32>, Al
     Ok(holders)
 }
 
-/// Writes into the table who stands on a site.
+/// Writes the block on a site into the table.
 fn set_holder(grid: &Grid, holders: &mut Vec<u32>, site: Site, holder: Option<BlockId>)
     requires size { length holders.old.items ≡ site_count grid.now }
     requires fits { (b : BlockId) → holder ≡ Some b → b.0 + 1 < 2 ^ 32 }

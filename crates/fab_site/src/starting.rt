@@ -1,4 +1,4 @@
-//! The start placement: given blocks at their sites, the others on sites that they draw.
+//! The start placement: given blocks at their sites, and the others on sites that they draw.
 
 ghost use Rattle.std.specs.Prelude.{◌≡◌, ◌++◌, ℕ, ◌+◌, ◌^◌, ◌<◌, ◌≤◌, [], ◌∷◌, length, map, slice_get, Some, IsTrue, IfOk, OnOk};
 ghost use Rattle.std.specs.List.{range_with_len};
@@ -18,7 +18,7 @@ use fab_net::{BlockId, BlockKind, Design};
 use std::alloc::{AllocError, Global};
 
 /// The start placement, on an array that holds the design, in time linear in blocks and sites. Fixed and begun blocks
-/// stand at their sites. Each other block, in order of number, draws one of the sites of its kind that are left, by the
+/// are at their sites. Each other block, in order of number, draws one of the remaining sites of its kind with the
 /// next start word; the last site of that list then fills the gap.
 pub fn start<W: Words>(
     alloc: Global,
@@ -41,7 +41,7 @@ pub fn start<W: Words>(
     Placement::of_sites(alloc, design, grid, &sites)
 }
 
-/// The site where a block is fixed or begun, if it is.
+/// The site where a block is fixed or begun, if any.
 fn given_site(pins: &Pins, block: BlockId) -> Option<Site>
     ensures { result ≡ given_at pins.now.fixed pins.now.begun block.0 }
 {
@@ -68,7 +68,7 @@ fn given(alloc: Global, design: &Design, grid: &Grid, pins: &Pins) -> Result<Dra
     Ok(draft)
 }
 
-/// Adds a site where no given block has it.
+/// Adds a site if no given block has it.
 fn push_left(left: &mut Vec<Site>, given: &Draft, site: Site) -> Result<(), AllocError>
     ensures { OnOk result (left.new.items ≡ left.old.items ++ sites_left given.now.sites (site ∷ [])) }
 {
@@ -89,7 +89,7 @@ fn push_row(left: &mut Vec<Site>, given: &Draft, nx: u16, y: u16) -> Result<(), 
     Ok(())
 }
 
-/// The logic sites that no given block has, by rows.
+/// The logic sites that no given block has, row by row.
 fn logic_left(alloc: Global, grid: &Grid, given: &Draft) -> Result<Vec<Site>, AllocError>
     ensures sites { IfOk result (λ v. v.items ≡ sites_left given.now.sites (logic_sites grid.now)) }
     ensures few { IfOk result (λ v. length v.items < 2 ^ 32) }
@@ -103,7 +103,7 @@ fn logic_left(alloc: Global, grid: &Grid, given: &Draft) -> Result<Vec<Site>, Al
     Ok(left)
 }
 
-/// Adds the pad sites of a position that no given block has.
+/// Adds the pad sites at a position that no given block has.
 fn push_position(
     left: &mut Vec<Site>,
     given: &Draft,
@@ -123,7 +123,7 @@ fn push_position(
     Ok(())
 }
 
-/// The pad sites that no given block has, by position round the array.
+/// The pad sites that no given block has, by position around the array.
 fn pads_left(alloc: Global, grid: &Grid, given: &Draft) -> Result<Vec<Site>, AllocError>
     ensures sites { IfOk result (λ v. v.items ≡ sites_left given.now.sites (pad_sites grid.now)) }
     ensures few { IfOk result (λ v. length v.items < 2 ^ 32) }
@@ -139,7 +139,7 @@ fn pads_left(alloc: Global, grid: &Grid, given: &Draft) -> Result<Vec<Site>, All
     Ok(left)
 }
 
-/// Draws an entry of a list; the last one fills the gap.
+/// Draws an entry of a list and removes it; the last entry fills the gap.
 fn draw(word: u32, left: &mut Vec<Site>) -> Site
     requires some { 0 < length left.old.items }
     requires few { length left.old.items < 2 ^ 32 }
@@ -164,7 +164,7 @@ fn draw_for(kind: BlockKind, word: u32, logic: &mut Vec<Site>, pads: &mut Vec<Si
     }
 }
 
-/// The sites of all blocks, where blocks that are not given draw from two lists.
+/// The sites of all blocks; blocks that are not given draw from the two lists.
 fn deal<W: Words>(
     alloc: Global,
     design: &Design,

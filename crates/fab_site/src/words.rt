@@ -1,9 +1,9 @@
-//! Random words, from which a start placement and moves draw.
+//! Random words, which the start placement and moves draw from.
 
 ghost use Rattle.std.specs.Prelude.{◌≡◌, ℕ, ◌<◌, List};
 ghost use Rattle.fab_site.specs.Words.{pick_of, word_at, words_at};
 
-/// Random words of 32 bits. Each answer is a function of the number that is asked for.
+/// Random words of 32 bits. Each answer depends only on the number requested.
 pub trait Words {
     /// The four words of each move.
     ghost moves: { Self → ℕ → List ℕ };
@@ -11,16 +11,16 @@ pub trait Words {
     /// The start words.
     ghost starts: { Self → ℕ → ℕ };
 
-    /// The four words of a move.
+    /// The four words of move `k`.
     fn move_words(&self, k: u64) -> [u32; 4]
         ensures { result ≡ moves self.now k };
 
-    /// The start word of a number.
+    /// Start word `i`.
     fn start_word(&self, i: u32) -> u32
         ensures { result ≡ starts self.now i };
 }
 
-/// Words that were given; beyond the ends of its lists every word is 0.
+/// Words from two lists. Beyond the end of a list every word is 0.
 #[derive(Drop)]
 pub struct ListWords {
     pub starts: Vec<u32>,
@@ -47,7 +47,7 @@ impl Words for ListWords {
     }
 }
 
-/// A choice among so many, by a word: `floor(w * n / 2^32)`, so below `n` where `n` is not 0.
+/// Picks one of `n` choices by a word: `floor(w * n / 2^32)`, which is below `n` where `n` is not 0.
 pub fn pick(w: u32, n: u32) -> u32
     ensures value { result ≡ pick_of w n }
     ensures below { 0 < n → result < n }

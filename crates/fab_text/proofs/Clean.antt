@@ -32,7 +32,7 @@ all_filter P f (x ∷ xs) h = elim (cases_Bool (f x)) [
   | inr n ↦ rw n (all_filter P f xs h.1)
 ]
 
--- bytes that stand in a text from a place on
+-- the bytes of a text from a place on
 
 record Stand (text : List ℕ) (at : ℕ) (cs : List ℕ) : Type 0 where
   pub within : at + length cs ≤ length text

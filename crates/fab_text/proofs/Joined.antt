@@ -1,4 +1,4 @@
--- Lines that go on behind a backslash.
+-- Lines that a backslash continues.
 use Rattle.std.proofs.Common.{◌≡◌, ℕ, ◌+◌, ◌<◌, Bool, true, false, cond, List, [], ◌∷◌, ◌++◌, length, drop, refl, sym, ap, ◌∙◌, arith, append_assoc}
 use Rattle.std.proofs.lemmas.List.{drop_all, length-drop}
 use Rattle.fab_text.specs.declared.pieces.Span.{Span}

@@ -7,7 +7,7 @@ use Rattle.fab_text.specs.Lines.{is_separator, run, words_at}
 use Rattle.fab_text.specs.Runs.{EndsWord, RunsAreWords}
 use Rattle.fab_text.proofs.Words.{BeginsFrom, run-ends, words-begin}
 
--- what follows a word begins behind the separator
+-- what follows a word begins after the separator
 apart : (at : ℕ) (rest : List ℕ) → EndsWord rest → BeginsFrom (at + 1) (words_at at rest)
 apart at [] h = tt
 apart at (c ∷ cs) h = rw h (words-begin (at + 1) cs)

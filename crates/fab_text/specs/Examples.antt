@@ -3,7 +3,7 @@ use Rattle.std.specs.Prelude.{ℕ, ◌≡◌, List, [], ◌∷◌, refl, codes}
 use Rattle.fab_text.specs.declared.pieces.Span.{Span}
 use Rattle.fab_text.specs.Lines.{TextLine, lines, lines_from, trimmed, content, is_continued, without_backslash, words_of}
 
--- a line with this number, whose words stand at these places
+-- a line with this number, and words at these places
 abbrev pub line : ℕ → List (List ℕ) → List Span → TextLine
 line n words spans = record { number = n; words = words; spans = spans }
 
@@ -17,7 +17,7 @@ pub carriage_return_is : carriage_return
 unfolding lines_from trimmed content is_continued without_backslash words_of
 carriage_return_is = refl
 
--- a backslash in a comment continues nothing
+-- a backslash in a comment joins nothing
 abbrev pub comment : Type 0
 comment = lines (codes "a # b \\\nc \\ d") ≡ line 1 (codes "a" ∷ []) (span 0 1 ∷ []) ∷ line 2 (codes "c" ∷ codes "\\" ∷ codes "d" ∷ []) (span 8 9 ∷ span 10 11 ∷ span 12 13 ∷ []) ∷ []
 
@@ -25,7 +25,7 @@ pub comment_is : comment
 unfolding lines_from trimmed content is_continued without_backslash words_of
 comment_is = refl
 
--- a backslash joins lines, with separators behind it too, and at the end of the text it joins nothing
+-- a backslash joins lines, even with separators after it; at the end of the text it joins nothing
 abbrev pub joining : Type 0
 joining = lines (codes "\na\\ \r\nb\\\n\\\n\nc\\") ≡ line 2 (codes "a" ∷ codes "b" ∷ []) (span 1 2 ∷ span 6 7 ∷ []) ∷ line 6 (codes "c" ∷ []) (span 12 13 ∷ []) ∷ []
 

@@ -11,16 +11,16 @@ pub record Written : Type 0 where
 abbrev pub grown : ℕ → ℕ
 grown n = min (n + 1) (2 ^ 64 - 1)
 
--- a write failed where it faulted, or took none of some bytes
+-- a write failed if it returned a fault, or took none of some bytes
 abbrev pub is_failure : List ℕ → Result ℕ WriteFault → Bool
 is_failure bytes (Ok n) = n == 0 && not (length bytes == 0)
 is_failure bytes (Err e) = true
 
--- the count after a write of these bytes that answered so
+-- the count after a write of these bytes with this result
 abbrev pub failed_after : List ℕ → Result ℕ WriteFault → ℕ → ℕ
 failed_after bytes result old = if is_failure bytes result then grown old else old
 
--- the count after a writer said whether it is ready
+-- the count after a writer reported whether it is ready
 abbrev pub failed_unless : Bool → ℕ → ℕ
 failed_unless ready old = if ready then old else grown old
 

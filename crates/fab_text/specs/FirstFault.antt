@@ -1,7 +1,7 @@
--- The first fault of a text: one notion for every reader (our own).
+-- The first fault of a text, defined once for all readers (our own).
 use Rattle.std.specs.Prelude.{ℕ, ◌≡◌, ◌==◌, Bool, List, [], ◌∷◌, ◌++◌, length, Option, Some, None, if◌then◌else◌, refl}
 
--- the first fault that there is, of two that may be
+-- the first of two possible faults that is there
 abbrev pub or_else : {E : Type 0} → Option E → Option E → Option E
 or_else None later = later
 or_else (Some fault) later = Some fault
@@ -10,7 +10,7 @@ or_else (Some fault) later = Some fault
 abbrev pub unless : {E : Type 0} → Bool → E → Option E
 unless passed fault = if passed then None else Some fault
 
--- the first fault of lines that follow others. Each line is judged by what stands before it; the faults of the
+-- the first fault of lines that follow others. Each line is judged by the lines before it; faults of the
 -- whole text come after those of all lines
 abbrev pub fault_behind : {L E : Type 0} → (List L → L → Option E) → (List L → Option E) → List L → List L → Option E
 fault_behind of_line of_text before [] = of_text before
@@ -20,7 +20,7 @@ fault_behind of_line of_text before (l ∷ ls) = or_else (of_line before l) (fau
 abbrev pub fault_of_all : {L E : Type 0} → (List L → L → Option E) → (List L → Option E) → List L → Option E
 fault_of_all of_line of_text ls = fault_behind of_line of_text [] ls
 
--- in the examples a line is a number, faulty where it equals how many stand before it, and a text is faulty
+-- in the examples a line is a number, faulty where it equals the number of lines before it, and a text is faulty
 -- where it is empty
 abbrev stands_at_its_number : List ℕ → ℕ → Option ℕ
 stands_at_its_number before n = if length before == n then Some n else None

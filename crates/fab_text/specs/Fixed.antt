@@ -1,5 +1,5 @@
--- Whole numbers of a small unit, printed with a point: costs and temperatures are kept in ten-thousandths,
--- ranges in thousandths (our own profile, in place of floating point).
+-- Whole numbers of a small unit, printed with a point: costs and temperatures are in ten-thousandths,
+-- ranges in thousandths (our own, instead of floating point).
 use Rattle.std.specs.Prelude.{ℕ, ◌≡◌, ◌+◌, ◌/◌, ◌%◌, List, [], ◌∷◌, ◌++◌, decimal, codes, refl}
 use Rattle.std.specs.Fmt.{digits}
 

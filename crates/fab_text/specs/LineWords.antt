@@ -15,7 +15,7 @@ can_be_word word = not (length word == 0) && not (list_any is_mark word)
 abbrev pub AreWords : List (List ℕ) → Type 0
 AreWords words = AllByRecursion (λ word. can_be_word word ≡ true) words
 
--- each word of each line of a text can be one
+-- each word of each line of a text is such a word
 abbrev pub LinesHaveWords : Type 0
 LinesHaveWords = (text : List ℕ) → AllByRecursion (λ l. AreWords l.words) (lines text)
 

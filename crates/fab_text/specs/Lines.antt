@@ -21,17 +21,17 @@ pub record Physical : Type 0 where
   pub start : ℕ
   pub bytes : List ℕ
 
--- the physical lines of a byte that ends none, and of what follows it: the byte begins the first of these
+-- puts a byte that is no line feed before physical lines: it becomes the first byte of the first one
 abbrev pub put_first : ℕ → ℕ → List Physical → List Physical
 put_first at c [] = record { start = at; bytes = c ∷ [] } ∷ []
 put_first at c (p ∷ ps) = record { start = at; bytes = c ∷ p.bytes } ∷ ps
 
--- the physical lines of a text that begins at a place: each ends at a line feed or at the end
+-- the physical lines of a text whose first byte is at `at`: each ends at a line feed or at the end
 abbrev pub physical : ℕ → List ℕ → List Physical
 physical at [] = []
 physical at (c ∷ cs) = if is_line_feed c then record { start = at; bytes = [] } ∷ physical (at + 1) cs else put_first at c (physical (at + 1) cs)
 
--- without the separators at its end
+-- bytes without the separators at their end
 unfoldable pub trimmed : List ℕ → List ℕ
 trimmed xs = take (length xs - suffix_len is_separator xs) xs
 
@@ -39,21 +39,21 @@ trimmed xs = take (length xs - suffix_len is_separator xs) xs
 unfoldable pub content : List ℕ → List ℕ
 content bytes = trimmed (before_first is_hash bytes)
 
--- whether the last byte is a backslash; an empty line reads as a byte 0, which is none
+-- whether the last byte is a backslash; for an empty line, 0 is read, which is none
 unfoldable pub is_continued : List ℕ → Bool
 is_continued xs = slice_index xs (length xs - 1) == 92
 
--- without that backslash
+-- bytes without that backslash
 unfoldable pub without_backslash : List ℕ → List ℕ
 without_backslash xs = take (if is_continued xs then length xs - 1 else length xs) xs
 
--- the words of a run of bytes that ends at `at`, and of what follows it: the run is one word with the first word
--- that follows, where that word begins right at `at`
+-- puts a run of bytes that ends at `at` before the words that follow: the run joins the first of them
+-- where that one begins at `at`
 abbrev pub run : ℕ → ℕ → List Span → List Span
 run from at [] = record { start = from; stop = at } ∷ []
 run from at (s ∷ ss) = if s.start == at then record { start = from; stop = s.stop } ∷ ss else record { start = from; stop = at } ∷ s ∷ ss
 
--- the words of bytes that begin at a place: the greatest runs without separators
+-- the words of bytes whose first is at `at`: the longest runs without separators
 abbrev pub words_at : ℕ → List ℕ → List Span
 words_at at [] = []
 words_at at (c ∷ cs) = if is_separator c then words_at (at + 1) cs else run at (at + 1) (words_at (at + 1) cs)
@@ -63,7 +63,7 @@ pub record Placed : Type 0 where
   pub number : ℕ
   pub spans : List Span
 
--- words of a physical line, and the line that continues it, if any
+-- the words of a physical line, joined with the line that continues it, if any
 abbrev pub join_first : ℕ → List Span → List Placed → List Placed
 join_first n ws [] = record { number = n; spans = ws } ∷ []
 join_first n ws (l ∷ ls) = record { number = n; spans = ws ++ l.spans } ∷ ls
@@ -72,7 +72,7 @@ join_first n ws (l ∷ ls) = record { number = n; spans = ws ++ l.spans } ∷ ls
 unfoldable pub words_of : Physical → List Span
 words_of p = words_at p.start (without_backslash (content p.bytes))
 
--- the lines that physical lines make, the first of them with this number
+-- the lines that physical lines make; the first has number `n`
 abbrev pub joined : ℕ → List Physical → List Placed
 joined n [] = []
 joined n (p ∷ ps) = if is_continued (content p.bytes) then join_first n (words_of p) (joined (n + 1) ps) else record { number = n; spans = words_of p } ∷ joined (n + 1) ps
@@ -90,14 +90,14 @@ pub record TextLine : Type 0 where
   pub words : List (List ℕ)
   pub spans : List Span
 
--- what a text has from the start of a span to its stop
+-- the bytes of a text from the start of a span to its stop
 abbrev pub bytes_at : List ℕ → Span → List ℕ
 bytes_at text s = slice_range text s.start s.stop
 
 abbrev pub line_of : List ℕ → Placed → TextLine
 line_of text l = record { number = l.number; words = map (bytes_at text) l.spans; spans = l.spans }
 
--- the lines of a text from a place on, where the physical line there has this number
+-- the lines of a text from place `at` on, where the physical line at `at` has number `n`
 unfoldable pub lines_from : List ℕ → ℕ → ℕ → List TextLine
 lines_from text at n = map (line_of text) (filter has_words (joined n (physical at (drop at text))))
 

@@ -1,4 +1,4 @@
--- How a text falls into physical lines, and how its lines are numbered.
+-- How a text is split into physical lines, and how its lines are numbered.
 use Rattle.std.specs.Prelude.{ℕ, ◌+◌, ◌<◌, ◌≡◌, Bool, true, false, List, [], ◌∷◌, ◌++◌, length, count_by, codes, refl}
 use Rattle.std.specs.List.{AllByRecursion}
 use Rattle.fab_text.specs.Lines.{Physical, Placed, is_line_feed, physical, trimmed, content, is_continued, joined, lines, lines_from}
@@ -7,33 +7,33 @@ use Rattle.fab_text.specs.Lines.{Physical, Placed, is_line_feed, physical, trimm
 abbrev pub OnOneLine : List ℕ → Type 0
 OnOneLine line = AllByRecursion (λ c. is_line_feed c ≡ false) line
 
--- what stands before the first line feed is a physical line, and what stands behind it is read as a text of its own
+-- the bytes before the first line feed are a physical line, and the bytes after it are read as a text of their own
 abbrev pub LineFeedsEndLines : Type 0
 LineFeedsEndLines = (at : ℕ) (line rest : List ℕ) → OnOneLine line
     → physical at (line ++ 10 ∷ rest) ≡ record { start = at; bytes = line } ∷ physical (at + length line + 1) rest
 
--- bytes that no line feed ends are a physical line, where there are any
+-- bytes after the last line feed are a physical line, if there are any
 abbrev pub TextsEndLines : Type 0
 TextsEndLines = (at : ℕ) (line : List ℕ) → 0 < length line → OnOneLine line → physical at line ≡ record { start = at; bytes = line } ∷ []
 
--- whether bytes end with a line feed; no bytes count as if they did
+-- whether bytes end with a line feed; true of no bytes
 abbrev pub ends_with_feed : List ℕ → Bool
 ends_with_feed [] = true
 ends_with_feed (c ∷ []) = is_line_feed c
 ends_with_feed (c ∷ d ∷ ds) = ends_with_feed (d ∷ ds)
 
--- whether the last of physical lines ends with a backslash, so that a next one continues it
+-- whether the last physical line ends with a backslash, so that a next one continues it
 abbrev pub goes_on : List Physical → Bool
 goes_on [] = false
 goes_on (p ∷ []) = is_continued (content p.bytes)
 goes_on (p ∷ q ∷ qs) = goes_on (q ∷ qs)
 
--- a beginning of a text is whole where it ends with a line feed that no backslash cancels
+-- a beginning of a text is whole if it is empty, or ends with a line feed that no backslash cancels
 pub record IsWhole (front : List ℕ) : Type 0 where
   pub ends : ends_with_feed front ≡ true
   pub stops : goes_on (physical 0 front) ≡ false
 
--- behind a whole beginning, the lines are counted on: the first physical line there has a number that is one more than the
+-- after a whole beginning, line numbers go on: the first physical line there has a number one above the count of
 -- line feeds before it
 abbrev pub LineFeedsAreCounted : Type 0
 LineFeedsAreCounted = (front rest : List ℕ) → IsWhole front

@@ -4,7 +4,7 @@ use Rattle.fab_text.specs.declared.pieces.Span.{Span}
 use Rattle.fab_text.specs.Lines.{Physical, physical, is_continued, content, words_of}
 
 -- the physical line at a place of a text: whether the next one continues it, a place from which the rest of the
--- text is read on, and the words that it adds to those found before it
+-- text can be read, and the words that it adds to those found before
 pub record IsNextLine (text : List ℕ) (at : ℕ) (continued : Bool) (next : ℕ) (old new : List Span) : Type 0 where
   pub line : Physical
   pub first : physical at (drop at text) ≡ line ∷ physical next (drop next text)

@@ -1,5 +1,5 @@
 //! Text in and text out: the lines of a text and their words, decimal numbers read and printed, and
-//! writes that put out all of their bytes or say that they did not.
+//! writes that write all bytes or report that they did not.
 #![tactic(auto)]
 
 pub mod numbers;

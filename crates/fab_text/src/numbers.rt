@@ -1,4 +1,4 @@
-//! Decimal numbers in texts, read exactly: a whole number of the smallest unit that is asked for.
+//! Decimal numbers in texts, read exactly: as a whole number of the smallest unit requested.
 
 ghost use Rattle.std.specs.Prelude.{◌≡◌, ◌++◌, ◌*◌, ◌^◌, ◌<◌, IsTrue, Some, position};
 ghost use Rattle.std.specs.Char.{is_ascii_digit};
@@ -11,14 +11,14 @@ ghost use Rattle.fab_text.specs.FaultTexts.{num_fault_text};
 use std::fmt;
 use thiserror::Error;
 
-/// Why a text is no number. The first that applies is answered, in this order.
+/// Why a text is no number: the first fault that applies, in this order.
 #[derive(Clone, Copy, Debug, PartialEq, Eq, Error)]
 pub enum NumFault {
-    /// It has no digit, or a byte that may not stand there.
+    /// It has no digit, or a byte that is not allowed at its place.
     BadDigit,
-    /// It has more digits behind the point than there are places.
+    /// It has more digits after the point than `places`.
     TooManyPlaces,
-    /// In the unit asked for, the number is above 18,446,744,073,709,551,615.
+    /// In the requested unit, the number is above 18,446,744,073,709,551,615.
     TooLarge,
 }
 
@@ -46,7 +46,7 @@ fn point_place(text: &[u8]) -> Option<usize>
     text.iter().position(|byte| *byte == b'.')
 }
 
-/// What stands before the point, and behind it.
+/// The parts of a text before and after the point.
 fn parts(text: &[u8], places: u32) -> (&[u8], &[u8])
     ensures whole { result.0.now ≡ whole_part text.now places }
     ensures fraction { result.1.now ≡ fraction_part text.now places }
@@ -60,7 +60,7 @@ fn parts(text: &[u8], places: u32) -> (&[u8], &[u8])
     }
 }
 
-/// The number that digits write behind those of another, if it fits.
+/// Appends the digits to those of `value`: the resulting number, if it fits in 64 bits.
 fn with_digits(value: u64, digits: &[u8]) -> Option<u64>
     requires { IsTrue (list_all is_ascii_digit digits.now) }
     ensures { SomeIff result (digits_value_after 10 value digits.now < 2 ^ 64) (digits_value_after 10 value digits.now) }
@@ -74,7 +74,7 @@ fn with_digits(value: u64, digits: &[u8]) -> Option<u64>
     Some(total)
 }
 
-/// A number times a power of ten, if it fits.
+/// A number times ten to the power of `places`, if it fits in 64 bits.
 fn scaled(value: u64, places: u32) -> Option<u64>
     ensures { SomeIff result (value * 10 ^ places < 2 ^ 64) (value * 10 ^ places) }
 {
@@ -90,7 +90,7 @@ fn is_numeral(whole: &[u8], fraction: &[u8]) -> bool
     are_digits(whole) && are_digits(fraction) && whole.len() + fraction.len() > 0
 }
 
-/// The number that digits write, times ten to the power of `rest`, if it fits.
+/// The number that digits write, times ten to the power of `rest`, if it fits in 64 bits.
 fn in_units(whole: &[u8], fraction: &[u8], rest: u32) -> Option<u64>
     requires { IsTrue (is_numeral (whole.now ++ fraction.now)) }
     ensures { SomeIff result (digits_value 10 (whole.now ++ fraction.now) * 10 ^ rest < 2 ^ 64) (digits_value 10 (whole.now ++ fraction.now) * 10 ^ rest) }
@@ -100,8 +100,8 @@ fn in_units(whole: &[u8], fraction: &[u8], rest: u32) -> Option<u64>
     scaled(value, rest)
 }
 
-/// The number that a text writes, times ten to the power of `places`: digits, at least one, and for places
-/// above 0 at most one point among them, with at most `places` digits behind it. No sign, no rounding.
+/// The number that a text writes, times ten to the power of `places`. The text has at least one digit. For places
+/// above 0 it may have one point, with at most `places` digits after it. No sign, no rounding.
 #[tactic(auto, unfolding(crate::specs::Decimal::decimal_of))]
 pub fn decimal(text: &[u8], places: u32) -> Result<u64, NumFault>
     ensures { result ≡ decimal_of text.now places }

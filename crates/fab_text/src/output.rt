@@ -1,4 +1,4 @@
-//! Whole writes: what takes bytes, and a write that goes on until all of them are out or one fails.
+//! Whole writes: a sink for bytes, and a write that goes on until all bytes are written or one write fails.
 
 ghost use Rattle.std.specs.Prelude.{◌≡◌, ℕ, Option, Some, ◌≤◌, ◌<◌, List, length, take, IfOk, OnOk, OnErr};
 ghost use Rattle.std.specs.Io.KnownBytes.{Appends, WriteAppends};
@@ -10,7 +10,7 @@ use std::io::Write;
 use std::marker::Model;
 use thiserror::Error;
 
-/// A writer that failed, or that took nothing of some bytes.
+/// A writer failed, or took none of the bytes it was given.
 #[derive(Clone, Copy, Debug, PartialEq, Eq, Error)]
 pub struct WriteFault;
 
@@ -22,27 +22,27 @@ impl fmt::Display for WriteFault {
     }
 }
 
-/// What takes bytes, and counts the writes that failed.
+/// Takes bytes, and counts the writes that failed.
 pub trait Sink {
     /// What it has taken, where that is known.
     ghost contents: { Self → Option (List ℕ) };
 
-    /// How often it failed.
+    /// How many writes have failed.
     ghost failed: { Self → ℕ };
 
-    /// Takes the first so many of the bytes, which then stand at the end of its contents. A fault takes none.
+    /// Takes the first `n` of the bytes and returns `n`. They are appended to its contents. A fault takes none.
     fn write(&mut self, bytes: &[u8]) -> Result<usize, WriteFault>
         ensures within { IfOk result (λ n. n ≤ length bytes.now) }
         ensures taken { WriteAppends (contents self.old) (contents self.new) result bytes.now }
         ensures failed { failed self.new ≡ failed_after bytes.now result (failed self.old) };
 
-    /// How many writes failed: those that answered a fault, and those that took nothing of bytes that are not
-    /// empty. At the greatest number it stays.
+    /// How many writes failed: those that returned a fault, and those that took none of some bytes. The count stays
+    /// at its greatest value.
     fn failures(&self) -> u64
         ensures { result ≡ failed self.now };
 
-    /// Whether it can be written to, as far as can be told before the first byte: asked before long work, so that the work is not
-    /// done in vain. It takes nothing. A writer that is not ready has failed once more. One that cannot tell is ready.
+    /// Whether it can be written to, as far as this is known before the first byte. Callers ask before long work, so that
+    /// the work is not wasted. Takes nothing. A writer that is not ready counts one more failure; one that cannot tell is ready.
     fn is_ready(&mut self) -> bool
         ensures kept { contents self.new ≡ contents self.old }
         ensures failed { failed self.new ≡ failed_unless result (failed self.old) }
@@ -67,7 +67,7 @@ impl<W: Write> Model for Counted<W> {
 }
 
 impl<W: Write> Counted<W> {
-    /// A writer, none of whose writes has failed yet.
+    /// A writer with no failed write yet.
     pub fn new(inner: W) -> Self
         ensures contents { result.contents ≡ W.contents inner }
         ensures failures { result.failures ≡ 0 }
@@ -109,7 +109,7 @@ impl<W: Write> Sink for Counted<W> {
     }
 }
 
-/// Writes all of the bytes. Where a write fails, a beginning of them has gone out.
+/// Writes all of the bytes. If a write fails, only a beginning of them has been written.
 pub fn write_whole<W: Sink>(out: &mut W, bytes: &[u8]) -> Result<(), WriteFault>
     ensures whole { OnOk result (Appends (W.contents out.old) (W.contents out.new) bytes.now) }
     ensures beginning { OnErr result ((n : ℕ) × (n < length bytes.now) × Appends (W.contents out.old) (W.contents out.new) (take n bytes.now)) }

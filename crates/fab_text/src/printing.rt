@@ -1,4 +1,4 @@
-//! Numbers as text, at the end of a line that is being made.
+//! Numbers as text, appended to a line that is being made.
 
 ghost use Rattle.std.specs.Prelude.{◌≡◌, ◌++◌, decimal, OnOk, OnErr};
 ghost use Rattle.fab_text.specs.Fixed.{fixed3, fixed4};
@@ -6,8 +6,7 @@ ghost use Rattle.fab_text.specs.Fixed.{fixed3, fixed4};
 use itoa::Buffer;
 use std::alloc::AllocError;
 
-/// Puts the decimal digits of a number at the end, without needless zeros in front. Want of memory changes
-/// nothing.
+/// Appends the decimal digits of a number, without leading zeros. If memory runs out, nothing changes.
 pub fn push_number(out: &mut Vec<u8>, n: u64) -> Result<(), AllocError>
     ensures ok { OnOk result (out.new.items ≡ out.old.items ++ decimal n) }
     ensures err { OnErr result (out.new.items ≡ out.old.items) }
@@ -16,7 +15,7 @@ pub fn push_number(out: &mut Vec<u8>, n: u64) -> Result<(), AllocError>
     out.extend_from_slice(buffer.format(n).as_bytes())
 }
 
-/// Puts bytes behind a whole number at the end. Want of memory changes nothing.
+/// Appends a whole number and then some bytes. If memory runs out, nothing changes.
 fn push_parts(out: &mut Vec<u8>, whole: u64, rest: &[u8]) -> Result<(), AllocError>
     ensures ok { OnOk result (out.new.items ≡ out.old.items ++ (decimal whole ++ rest.now)) }
     ensures err { OnErr result (out.new.items ≡ out.old.items) }
@@ -30,8 +29,8 @@ fn push_parts(out: &mut Vec<u8>, whole: u64, rest: &[u8]) -> Result<(), AllocErr
     Ok(())
 }
 
-/// Puts a number of ten-thousandths at the end: its whole part, a point and four digits, as `6.4968` for
-/// 64968. Want of memory changes nothing.
+/// Appends a number of ten-thousandths: its whole part, a point and four digits, such as `6.4968` for
+/// 64968. If memory runs out, nothing changes.
 pub fn push_fixed4(out: &mut Vec<u8>, n: u64) -> Result<(), AllocError>
     ensures ok { OnOk result (out.new.items ≡ out.old.items ++ fixed4 n) }
     ensures err { OnErr result (out.new.items ≡ out.old.items) }
@@ -46,8 +45,8 @@ pub fn push_fixed4(out: &mut Vec<u8>, n: u64) -> Result<(), AllocError>
     push_parts(out, n / 10_000, &rest)
 }
 
-/// Puts a number of thousandths at the end: its whole part, a point and three digits, as `1.680` for 1680.
-/// Want of memory changes nothing.
+/// Appends a number of thousandths: its whole part, a point and three digits, such as `1.680` for 1680.
+/// If memory runs out, nothing changes.
 pub fn push_fixed3(out: &mut Vec<u8>, n: u64) -> Result<(), AllocError>
     ensures ok { OnOk result (out.new.items ≡ out.old.items ++ fixed3 n) }
     ensures err { OnErr result (out.new.items ≡ out.old.items) }

@@ -1,5 +1,5 @@
-//! The lines of a text, one after the other, with no copy of its bytes: the reader that every input
-//! format stands on.
+//! The lines of a text, one after the other, without a copy of its bytes: the reader that every input
+//! format is built on.
 
 ghost use Rattle.std.specs.Prelude.{◌≡◌, ℕ, ◌+◌, ◌-◌, ◌++◌, ◌∷◌, [], ◌≤◌, ◌<◌, length, map, take, drop, slice_range, position, IfOk, OnOk, OnErr, IfSome, IfNone, if◌then◌else◌};
 ghost use Rattle.std.specs.List.{before_first};
@@ -69,7 +69,7 @@ fn line_feed_place(rest: &[u8]) -> Option<usize>
     rest.iter().position(|byte| *byte == b'\n')
 }
 
-/// The physical line at the front of a text that is not empty, and how many bytes it takes with its end.
+/// The first physical line of a text that is not empty, and how many bytes it takes, its line feed included.
 fn first_line(rest: &[u8]) -> (&[u8], usize)
     requires { 0 < length rest.now }
     ensures line { result.0.now ≡ before_first is_line_feed rest.now }
@@ -82,7 +82,7 @@ fn first_line(rest: &[u8]) -> (&[u8], usize)
     }
 }
 
-/// How many bytes of a physical line hold its words.
+/// Whether the next line continues a physical line, and how many of its first bytes hold its words.
 fn kept_len(line: &[u8]) -> (bool, usize)
     ensures continued { result.0 ≡ is_continued (content line.now) }
     ensures within { result.1 ≤ length line.now }
@@ -96,7 +96,7 @@ fn kept_len(line: &[u8]) -> (bool, usize)
     }
 }
 
-/// The words found so far, each as bytes and as a place.
+/// The words found so far, each as bytes and as a place in the text.
 #[derive(Drop)]
 struct Gathered<'a> {
     text: &'a [u8],
@@ -130,7 +130,7 @@ impl<'a> Gathered<'a> {
         Ok(())
     }
 
-    /// Adds the words that stand from a place on to another.
+    /// Adds the words between two places.
     fn push_words(&mut self, from: usize, to: usize) -> Result<(), AllocError>
         requires order { from ≤ to }
         requires within { to ≤ length self.old.text.now }
@@ -154,7 +154,7 @@ impl<'a> Gathered<'a> {
         Ok(())
     }
 
-    /// Adds the words of the physical line at a place. Answers whether the next line continues it, and where that begins.
+    /// Adds the words of the physical line at a place. Returns whether the next line continues it, and where that line begins.
     fn push_physical(&mut self, at: usize) -> Result<(bool, usize), AllocError>
         requires { at < length self.old.text.now }
         ensures text { self.new.text.now ≡ self.old.text.now }
@@ -168,7 +168,7 @@ impl<'a> Gathered<'a> {
     }
 }
 
-/// A whole line at a place that is not past the end: its words, where the next line begins, and the number there.
+/// The whole line at a place before the end: its words, where the next line begins, and that line's number.
 fn read_joined<'a>(
     alloc: Global,
     text: &'a [u8],
@@ -195,7 +195,7 @@ fn read_joined<'a>(
     }
 }
 
-/// The first line with words from a place on, and where what follows it begins.
+/// The first line with words from a place on, and where the rest begins, with the number of the line there.
 fn next_line<'a>(
     alloc: Global,
     text: &'a [u8],
@@ -227,11 +227,12 @@ fn next_line<'a>(
     Ok((None, place, number))
 }
 
-/// The lines of a text that are left to read.
+/// The lines of a text that are still to be read.
 ///
 /// A physical line ends at a line feed or at the end of the text, and is cut at its first `#`. Separators
-/// (space, tab, carriage return) at its end are then dropped. Where a backslash is then last, it is dropped
-/// and the next physical line continues this one, behind a separator. Lines without words are passed over.
+/// (space, tab, carriage return) at its end are then dropped. If its last byte is then a backslash, that is dropped
+/// too, and the next physical line continues this one. A line break always separates words. Lines without words
+/// are skipped.
 #[derive(Drop)]
 pub struct Lines<'a> {
     alloc: Global,
@@ -264,8 +265,7 @@ impl<'a> Lines<'a> {
         }
     }
 
-    /// The first line that is left, which is then left no more; `None` where there is none. Want of memory
-    /// changes nothing.
+    /// Takes the next line; `None` after the last one. If memory runs out, nothing changes.
     pub fn next(&mut self) -> Result<Option<Line<'a>>, AllocError>
         ensures some { IfOk result (λ r. IfSome r (λ line. self.old ≡ shown line ∷ self.new)) }
         ensures none { IfOk result (λ r. IfNone r ((self.old ≡ []) × (self.new ≡ []))) }
@@ -278,13 +278,13 @@ impl<'a> Lines<'a> {
     }
 }
 
-/// The law that the words of a line are the greatest runs without separators, whatever the text.
+/// The law that the words of a line are the longest runs without separators, whatever the text.
 pub fn words_are_greatest_runs()
     ensures separators { SeparatorsPassed }
     ensures runs { RunsAreWords }
 {}
 
-/// The law that each word of each line of a text has a byte and no separator, no line feed and no `#`.
+/// The law that each word of each line of a text has at least one byte, and no separator, line feed or `#`.
 pub fn lines_have_words()
     ensures { LinesHaveWords }
 {}
@@ -295,7 +295,7 @@ pub fn line_feeds_end_lines()
     ensures end { TextsEndLines }
 {}
 
-/// The law that a line has the number of its first physical line, which is one more than the line feeds that stand
+/// The law that a line has the number of its first physical line: one more than the number of line feeds
 /// before it in the text.
 pub fn lines_are_numbered_by_line_feeds()
     ensures counted { LineFeedsAreCounted }

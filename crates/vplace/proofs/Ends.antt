@@ -62,7 +62,7 @@ refused_is run_fault.WorkersOutOfRange h = tt
 refused_is run_fault.Report h = absurd (device h)
 refused_is run_fault.NoMemory h = absurd (memory h)
 
--- what was told of a fault: its status, or want of memory
+-- what was told of a fault: its status, or a lack of memory
 pub refused_by : (r : Status) (e : RunFault) → (r ≡ status_of e) ⊎ (r ≡ status.NoMemory) → IsRefused r → IsRefusal e × (status_of e ≡ r)
 refused_by r e (inl q) h = (refused_is e (subst IsRefused q h), sym q)
 refused_by r e (inr q) h = absurd (memory (subst IsRefused q h))

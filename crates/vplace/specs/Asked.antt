@@ -12,7 +12,7 @@ use Rattle.vplace.specs.declared.asked.WordFault.TheVariants.{SizeInPart, StopIn
 use Rattle.vplace.specs.declared.asked.PlaceWords.{PlaceWords}
 use Rattle.vplace.specs.declared.asked.ResumeWords.{ResumeWords}
 
--- the size of the array is asked for by both numbers or by none; one alone asks for nothing
+-- the requested size of the array: both numbers give one, and without both none is requested; one number alone is refused
 abbrev pub size_asked : Option ℕ → Option ℕ → Option (Option (ℕ × ℕ))
 size_asked (Some nx) (Some ny) = Some (Some (nx, ny))
 size_asked None None = Some None
@@ -24,7 +24,7 @@ columns_alone = refl
 pub no_size : size_asked None None ≡ Some None
 no_size = refl
 
--- a stop is asked for with a name to save at, or neither is; one alone asks for nothing
+-- the requested stop: a stop with a save name gives one, and without both none is requested; one of them alone is refused
 abbrev pub stop_asked : {A : Type 0} → Option ℕ → Option A → Option (Option ℕ)
 stop_asked (Some stop) (Some save) = Some (Some stop)
 stop_asked None None = Some None
@@ -36,17 +36,17 @@ a_stop_and_a_name = refl
 pub a_name_alone : stop_asked None (Some (codes "t.point")) ≡ None
 a_name_alone = refl
 
--- the text asks for this cooling: by the word `adaptive`, else by a factor with at most three places
+-- the text asks for this cooling: the word `adaptive`, or a factor with at most three decimal places
 abbrev pub IsCoolingAsked : List ℕ → Cooling → Type 0
 IsCoolingAsked text Adaptive = text ≡ codes "adaptive"
 IsCoolingAsked text (Factor alpha) = decimal_of text 3 ≡ Ok alpha
 
--- the moves of a stage, by their number where that is given, else by VPR's rule
+-- the moves of a stage: their number if it is given, else VPR's rule
 abbrev pub moves_asked : Option ℕ → ℕ → Moves
 moves_asked (Some moves) inner = Given moves
 moves_asked None inner = Inner inner
 
--- the words ask for these numbers: temperatures with at most four places, in ten-thousandths
+-- the words ask for these numbers; temperatures have at most four decimal places, and are in ten-thousandths
 pub record AreAsked (w : PlaceWords) (o : Options) : Type 0 where
   pub seed : o.seed ≡ w.seed
   pub size : size_asked w.nx w.ny ≡ Some o.size
@@ -58,19 +58,19 @@ pub record AreAsked (w : PlaceWords) (o : Options) : Type 0 where
   pub workers : o.workers ≡ w.workers
   pub stop : stop_asked w.stop w.save ≡ Some o.stop
 
--- the size is asked for in full
+-- the size is given in full, or not at all
 abbrev HasSize : PlaceWords → Type 0
 HasSize w = (size : Option (ℕ × ℕ)) × (size_asked w.nx w.ny ≡ Some size)
 
--- the stop is asked for in full
+-- the stop is given in full, or not at all
 abbrev HasStop : PlaceWords → Type 0
 HasStop w = (stop : Option ℕ) × (stop_asked w.stop w.save ≡ Some stop)
 
--- the text is that of a number with so many places
+-- the text is a number with at most this many decimal places
 abbrev IsNumber : List ℕ → ℕ → Type 0
 IsNumber text places = (n : ℕ) × (decimal_of text places ≡ Ok n)
 
--- the first that is wrong with the words, in this order: the size, the stop, the first temperature, the last, the factor
+-- the first fault of the words, in this order: the size, the stop, the first temperature, the last one, the factor
 abbrev pub IsWordFault : PlaceWords → WordFault → Type 0
 IsWordFault w SizeInPart = size_asked w.nx w.ny ≡ None
 IsWordFault w StopInPart = HasSize w × (stop_asked w.stop w.save ≡ None)
@@ -79,7 +79,7 @@ IsWordFault w (BadNumber ExitT e) = HasSize w × HasStop w × IsNumber w.init_t.
 IsWordFault w (BadNumber AlphaT e) =
     HasSize w × HasStop w × IsNumber w.init_t.items 4 × IsNumber w.exit_t.items 4 × (w.alpha_t.items ≡ codes "adaptive" → ⊥) × (decimal_of w.alpha_t.items 3 ≡ Err e)
 
--- what can be wrong with the words of `resume`
+-- the fault of the words of `resume`, if they have one
 abbrev pub IsResumeFault : ResumeWords → WordFault → Type 0
 IsResumeFault w StopInPart = stop_asked w.stop w.save ≡ None
 IsResumeFault w fault = ⊥

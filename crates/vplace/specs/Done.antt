@@ -1,4 +1,4 @@
--- What a run of the program that ended with 0 did (our own).
+-- What a run of the program did that ended with status 0 (our own).
 use Rattle.std.specs.Prelude.{ℕ, ◌<◌, List, Option, length}
 use Rattle.std.specs.Io.KnownBytes.{Appends}
 use Rattle.fab_run.specs.Check.{IsReported}
@@ -9,23 +9,23 @@ use Rattle.vplace.specs.Files.{Held}
 use Rattle.vplace.specs.Placing.{AreGiven, DidPlace}
 use Rattle.vplace.specs.Resuming.{DidResume}
 
--- some text went out: help, or the version
+-- some text was written: help, or the version
 abbrev pub IsTold : Option (List ℕ) → Option (List ℕ) → Type 0
 IsTold old new = (text : List ℕ) × (0 < length text) × Appends old new text
 
--- the report of a check of named files went out
+-- the report of a check of named files was written
 abbrev pub IsChecked : Option Held → Option (List ℕ) → Option (List ℕ) → Type 0
 IsChecked held old new =
     (names : CheckNames) × (arch : List ℕ) × (net : List ℕ) × (place : List ℕ) × (cost : ℕ) × AreGiven held names arch net place × IsReported arch net place cost old new
 
--- the report of a run of named files went out, and what it left was put at its name
+-- the report of a run of named files was written, and what it left was put at its name
 abbrev pub IsPlaced : Option Held → Option Held → Option (List ℕ) → Option (List ℕ) → Type 0
 IsPlaced held held_new old new = (words : PlaceWords) × DidPlace words held held_new old new
 
--- the report of a run that goes on from a named checkpoint went out, and what it left was put at its name
+-- the report of a run that goes on from a named checkpoint was written, and what it left was put at its name
 abbrev pub IsResumed : Option Held → Option Held → Option (List ℕ) → Option (List ℕ) → Type 0
 IsResumed held held_new old new = (words : ResumeWords) × DidResume words held held_new old new
 
--- the report of a check of these texts went out
+-- the report of a check of these texts was written
 abbrev pub IsExample : List ℕ → List ℕ → List ℕ → Option (List ℕ) → Option (List ℕ) → Type 0
 IsExample arch net place old new = (cost : ℕ) × IsReported arch net place cost old new

@@ -30,7 +30,7 @@ pub record ResumeCall : Type 0 where
   pub report : List ℕ
   pub did : DidResume words (Some before) (Some after) (Some []) (Some report)
 
--- what a name gives, where there is one
+-- what a name gives, if there is one
 abbrev pub given_at : Option (List ℕ) → Held → Option (List ℕ)
 given_at (Some name) held = held name
 given_at None held = None
@@ -44,8 +44,8 @@ pub record Finds (c : ResumeCall) (arch_text net_text saved : Option (List ℕ))
   pub net : c.before c.words.net.items ≡ net_text
   pub point : c.before c.words.point.items ≡ saved
 
--- calls behind one that ended so and saved this: each finds the architecture and the netlist of the run, and what the call before it
--- saved where it stopped; the last one finished
+-- calls after one that ended like this and saved this: each finds the architecture and the netlist of the run, and what the call before it
+-- saved when it stopped; the last one finished
 abbrev pub AreBehind : Option (List ℕ) → Option (List ℕ) → Ending → Option (List ℕ) → List ResumeCall → Type 0
 AreBehind arch net Finished saved [] = Unit {0}
 AreBehind arch net (Stopped q) saved [] = ⊥
@@ -58,12 +58,12 @@ abbrev pub ArePieces : PlaceCall → List ResumeCall → Type 0
 ArePieces c cs =
     AreBehind (c.before c.words.arch.items) (c.before c.words.net.items) c.did.answer.ending (given_at (save_name c.words) c.after) cs
 
--- their reports, one behind the other
+-- their reports, joined
 abbrev pub reports_of : List ResumeCall → List ℕ
 reports_of [] = []
 reports_of (c ∷ cs) = c.report ++ reports_of cs
 
--- what the last call puts: the names that its place text shows, its out name, and what lies there after it
+-- what the last call leaves: the names that its place text shows, and what its out name gives after it
 pub record LastOf : Type 0 where
   pub net_name : List ℕ
   pub arch_name : List ℕ
@@ -81,8 +81,8 @@ last_call c cs = last_of (record { net_name = c.words.net.items; arch_name = c.w
 abbrev pub without_stop : PlaceWords → PlaceWords
 without_stop w = record w { stop = None; save = None }
 
--- what one call of `place` without a stop reports and writes, with the files and the numbers of the first call, and the names that the
--- last one shows: the reports joined, and what lies at the last out name
+-- what one call of `place` without a stop reports and writes, with the files and the numbers of the first call, and the names that the last
+-- one shows: the reports joined, and what the last out name gives
 pub record IsOneRun (c : PlaceCall) (cs : List ResumeCall) : Type 0 where
   pub texts : Texts
   pub options : Options
@@ -102,7 +102,7 @@ pub record IsOneRun (c : PlaceCall) (cs : List ResumeCall) : Type 0 where
 abbrev pub PiecesAreOneRun : Type 0
 PiecesAreOneRun = (c : PlaceCall) (cs : List ResumeCall) → ArePieces c cs → IsOneRun c cs
 
--- the words ask for the run of these, but for batch and workers, without a stop
+-- the words ask for the same run as these, apart from batch and workers, without a stop
 pub record AskTheSame (u w : PlaceWords) : Type 0 where
   pub nx : u.nx ≡ w.nx
   pub ny : u.ny ≡ w.ny
@@ -114,7 +114,7 @@ pub record AskTheSame (u w : PlaceWords) : Type 0 where
   pub moves : u.moves ≡ w.moves
   pub stop : u.stop ≡ None
 
--- a call of `place` is that run unbroken: it finds the texts that the first call finds, its words ask for the same, and its place text
+-- a call of `place` is this run unbroken: it finds the texts that the first call finds, its words ask for the same, and its place text
 -- shows the names that the last call shows
 pub record IsUnbroken (u c : PlaceCall) (cs : List ResumeCall) : Type 0 where
   pub words : AskTheSame u.words c.words
@@ -124,7 +124,7 @@ pub record IsUnbroken (u c : PlaceCall) (cs : List ResumeCall) : Type 0 where
   pub net_name : u.words.net.items ≡ (last_call c cs).net_name
   pub arch_name : u.words.arch.items ≡ (last_call c cs).arch_name
 
--- so each such call reports what the pieces report, and puts at its out name what lies at the last out name
+-- so each such call reports what the pieces report, and puts at its out name what the last out name gives
 abbrev pub UnbrokenCallsAreTold : Type 0
 UnbrokenCallsAreTold = (c : PlaceCall) (cs : List ResumeCall) (u : PlaceCall) → ArePieces c cs → IsUnbroken u c cs
     → (u.report ≡ c.report ++ reports_of cs) × (u.after u.words.out.items ≡ (last_call c cs).lies)

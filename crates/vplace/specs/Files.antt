@@ -2,16 +2,16 @@
 use Rattle.std.specs.Prelude.{ℕ, ◌≡◌, List, [], ◌∷◌, Option, Some, None, if◌then◌else◌, codes, refl}
 use Rattle.std.specs.Str.{bytes_eq}
 
--- what names give: the bytes of a file, where there is one
+-- what names give: the bytes of a file, if there is one
 abbrev pub Held : Type 0
 Held = List ℕ → Option (List ℕ)
 
--- a name gave these bytes; nothing is said where the files are not known, as those of the system
+-- a name gave these bytes; nothing is claimed if the files are not known, like those of the system
 abbrev pub Gives : Option Held → List ℕ → List ℕ → Type 0
 Gives None name bytes = Unit {0}
 Gives (Some held) name bytes = held name ≡ Some bytes
 
--- bytes were put at a name: it gives them now, and each other name gives what it gave
+-- bytes were put at a name: it gives them now, and each other name gives what it gave before
 abbrev pub Puts : Option Held → Option Held → List ℕ → List ℕ → Type 0
 Puts None new name bytes = Unit {0}
 Puts (Some old) None name bytes = ⊥

@@ -6,16 +6,16 @@ use Rattle.clap.specs.Words.{first_value, one_text}
 use Rattle.vplace.specs.declared.asked.PlaceWords.{PlaceWords}
 use Rattle.vplace.specs.declared.asked.ResumeWords.{ResumeWords}
 
--- the text is that of a number of so many bits: digits, perhaps behind a plus sign
+-- the text is a number below 2^bits: digits, perhaps after a plus sign
 abbrev pub IsWhole : ℕ → List ℕ → Type 0
 IsWhole bits text = IsNumeral 10 (without_leading_plus text) × (digits_value 10 (without_leading_plus text) < 2 ^ bits)
 
--- the number that an option gives: that of its text, none where it has no text or the text is no such number
+-- the number that an option gives: that of its text; none if it has no text or the text is no such number
 abbrev pub GivesNumber : ℕ → Found → List ℕ → Option ℕ → Type 0
 GivesNumber bits found option None = (text : List ℕ) → one_text found option ≡ Some text → IsWhole bits text → ⊥
 GivesNumber bits found option (Some n) = (text : List ℕ) × (one_text found option ≡ Some text) × IsWhole bits text × (n ≡ digits_value 10 (without_leading_plus text))
 
--- the same of an option that has a default, so that it always gives one
+-- the same for an option that has a default, so that it always gives a number
 abbrev pub GivesDefault : Found → List ℕ → ℕ → Type 0
 GivesDefault found option n = (given : Option ℕ) × GivesNumber 64 found option given × (n ≡ unwrap_or given 0)
 

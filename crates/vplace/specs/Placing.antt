@@ -16,16 +16,16 @@ pub record AreGiven (held : Option Held) (n : CheckNames) (arch net place : List
   pub net_file : Gives held n.net.items net
   pub place_file : Gives held n.place.items place
 
--- the text of a location file, where one is named
+-- the text of a location file, if one is named
 abbrev pub GivesPads : Option Held → Option (List ℕ) → Option (List ℕ) → Type 0
 GivesPads held None text = text ≡ None
 GivesPads held (Some name) text = (bytes : List ℕ) × (text ≡ Some bytes) × Gives held name bytes
 
--- the name of the location file, where there is one
+-- the name of the location file, if there is one
 abbrev pub name_of : PlaceWords → Option (List ℕ)
 name_of w = option_map (λ name. name.items) w.pads
 
--- the name that a run that stops saves at, where there is one
+-- the save name, if there is one
 abbrev pub save_name : PlaceWords → Option (List ℕ)
 save_name w = option_map (λ name. name.items) w.save
 
@@ -37,13 +37,13 @@ pub record AreNamed (held : Option Held) (w : PlaceWords) (t : Texts) : Type 0 w
   pub net_label : t.net_label ≡ w.net.items
   pub arch_label : t.arch_label ≡ w.arch.items
 
--- `place` with these words did what it was asked: the report of a run of the named files went out, and what the run left was put at its
+-- `place` with these words did what it was asked: the report of a run of the named files was written, and what the run left was put at its
 -- name
 pub record DidPlace (w : PlaceWords) (held held_new : Option Held) (old new : Option (List ℕ)) : Type 0 where
   pub texts : Texts
   pub options : Options
   pub answer : Answer
-  pub place : List ℕ  -- the text of its placement; nothing where it stopped
+  pub place : List ℕ  -- the text of its placement; empty if it stopped
   pub named : AreNamed held w texts
   pub asked : AreAsked w options
   pub placed : IsPlaced (AskFor texts options) texts answer old new (Some []) (Some place)

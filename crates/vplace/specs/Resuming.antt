@@ -9,7 +9,7 @@ use Rattle.vplace.specs.Asked.{stop_asked}
 use Rattle.vplace.specs.Files.{Gives, Held}
 use Rattle.vplace.specs.Leaving.{IsPut}
 
--- the name that a run that stops again saves at, where there is one
+-- the save name, if there is one
 abbrev pub save_name : ResumeWords → Option (List ℕ)
 save_name w = option_map (λ name. name.items) w.save
 
@@ -22,7 +22,7 @@ pub record AreNamedToResume (held : Option Held) (w : ResumeWords) (t : Texts) (
   pub net_label : t.net_label ≡ w.net.items
   pub arch_label : t.arch_label ≡ w.arch.items
 
--- `resume` with these words did what it was asked: the report of the piece that goes on from the named checkpoint went out, and what the
+-- `resume` with these words did what it was asked: the report of the piece that goes on from the named checkpoint was written, and what the
 -- run left was put at its name; a new checkpoint has the seed of the one that was read
 pub record DidResume (w : ResumeWords) (held held_new : Option Held) (old new : Option (List ℕ)) : Type 0 where
   pub texts : Texts
@@ -30,7 +30,7 @@ pub record DidResume (w : ResumeWords) (held held_new : Option Held) (old new : 
   pub stop : Option ℕ
   pub going : Going  -- what the checkpoint that was read stands for
   pub answer : Answer
-  pub place : List ℕ  -- the text of its placement; nothing where it stopped
+  pub place : List ℕ  -- the text of its placement; empty if it stopped
   pub named : AreNamedToResume held w texts point
   pub asked : stop_asked w.stop w.save ≡ Some stop
   pub read : HasPoint texts point going

@@ -13,11 +13,11 @@ use Rattle.vplace.specs.declared.asked.Number.TheVariants.{InitT, ExitT, AlphaT}
 use Rattle.vplace.specs.declared.asked.WordFault.{WordFault}
 use Rattle.vplace.specs.declared.asked.WordFault.TheVariants.{SizeInPart, StopInPart, BadNumber}
 
--- the line went out, with a line feed at its end, unless the writer failed
+-- the line was written, with a line feed at its end, unless the writer failed
 abbrev pub IsSaid : List ℕ → Option (List ℕ) → Option (List ℕ) → ℕ → ℕ → Type 0
 IsSaid line old new failed_old failed_new = Appends old new (line ++ codes "\n") ⊎ (failed_new ≡ grown failed_old)
 
--- something was said: a text that is not empty went out, unless the writer failed
+-- something was said: a text that is not empty was written, unless the writer failed
 abbrev pub IsFaultSaid : Option (List ℕ) → Option (List ℕ) → ℕ → ℕ → Type 0
 IsFaultSaid old new failed_old failed_new = (text : List ℕ) × (0 < length text) × (Appends old new text ⊎ (failed_new ≡ grown failed_old))
 

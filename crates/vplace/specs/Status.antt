@@ -1,5 +1,4 @@
--- How a run of the program ends (our own): the number that the shell is told, and the end that each fault of a run
--- leads to.
+-- How a run of the program ends (our own): its exit status, and the end that each fault of a run leads to.
 use Rattle.std.specs.Prelude.{ℕ, ◌≡◌, ◌⊎◌}
 use Rattle.fab_arch.specs.declared.fault.ArchFault.TheVariants.{NoMemory as ArchNoMemory}
 use Rattle.fab_net.specs.declared.fault.NetFault.TheVariants.{NoMemory as NetNoMemory}
@@ -17,7 +16,8 @@ code_of CommandLine = 2
 code_of NoMemory = 3
 code_of Device = 4
 
--- A text or a size is refused, and so are numbers of the command line; want of memory is said to be that, whichever reader met it; a writer that failed is a device.
+-- A faulty text or size is refused, and so are numbers of the command line. A lack of memory is reported as such, whichever reader met it.
+-- A writer that failed is a device.
 abbrev pub status_of : RunFault → Status
 status_of (Arch ArchNoMemory) = NoMemory
 status_of (Arch _) = Refused

@@ -1,4 +1,4 @@
-//! What the words of `place` and of `resume` ask for, and the first that is wrong with them.
+//! What the words of `place` and of `resume` ask for, and their first fault.
 
 ghost use Rattle.std.specs.Prelude.{◌≡◌, ◌≢◌, Some, None, Ok, Err, IfOk, IfErr, MatchResult, codes};
 ghost use Rattle.fab_text.specs.Decimal.{decimal_of};
@@ -45,7 +45,7 @@ pub struct ResumeWords {
     pub save: Option<Vec<u8>>,
 }
 
-/// Which of the options whose value is a decimal number.
+/// An option whose value is a decimal number.
 #[derive(Clone, Copy, Debug, PartialEq, Eq)]
 pub enum Number {
     InitT,
@@ -58,13 +58,13 @@ pub enum Number {
 pub enum WordFault {
     /// The columns are given without the rows, or the rows without the columns.
     SizeInPart,
-    /// The stop is given without the name to save at, or the name without the stop.
+    /// The stop is given without the save name, or the save name without the stop.
     StopInPart,
-    /// The number of an option is none, or has too many places.
+    /// The value of an option is not a number, has too many decimal places, or is too large.
     BadNumber(Number, NumFault),
 }
 
-/// The size of the array, where its columns and rows are given; one without the other is refused.
+/// The size of the array, if both its columns and its rows are given; one without the other is refused.
 fn size_of(words: &PlaceWords) -> Result<Option<(u16, u16)>, WordFault>
     ensures { MatchResult result (λ size. size_asked words.now.nx words.now.ny ≡ Some size) (λ fault. (fault ≡ SizeInPart) × (size_asked words.now.nx words.now.ny ≡ None)) }
 {
@@ -75,7 +75,7 @@ fn size_of(words: &PlaceWords) -> Result<Option<(u16, u16)>, WordFault>
     }
 }
 
-/// The stop, where it is given with a name to save at; one without the other is refused.
+/// The stop, if it is given with a save name; one without the other is refused.
 pub fn stop_of(stop: Option<u64>, save: &Option<Vec<u8>>) -> Result<Option<u64>, WordFault>
     ensures { MatchResult result (λ asked. stop_asked stop save.now ≡ Some asked) (λ fault. (fault ≡ StopInPart) × (stop_asked stop save.now ≡ None)) }
 {
@@ -85,7 +85,7 @@ pub fn stop_of(stop: Option<u64>, save: &Option<Vec<u8>>) -> Result<Option<u64>,
     }
 }
 
-/// A number with so many places, in its smallest unit.
+/// A number with at most this many decimal places, in its smallest unit.
 fn scaled(option: Number, text: &[u8], places: u32) -> Result<u64, WordFault>
     ensures { MatchResult result (λ n. decimal_of text.now places ≡ Ok n) (λ fault. (e : NumFaultOf) × (fault ≡ BadNumber option e) × (decimal_of text.now places ≡ Err e)) }
 {
@@ -102,8 +102,8 @@ fn cooling_of(text: &[u8]) -> Result<Cooling, WordFault>
     Ok(Cooling::Factor(scaled(Number::AlphaT, text, 3)?))
 }
 
-/// The options of a run, or the first that is wrong with the words: the size, the stop, then the first temperature, the last, and
-/// the factor.
+/// The options of a run, or the first fault of the words, in this order: the size, the stop, the first temperature, the last one, the
+/// factor.
 pub fn options_of(words: &PlaceWords) -> Result<Options, WordFault>
     ensures value { IfOk result (AreAsked words.now) }
     ensures fault { IfErr result (IsWordFault words.now) }

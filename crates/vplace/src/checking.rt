@@ -1,4 +1,4 @@
-//! The subcommand `check`: three files are read, and only then is the first of their texts looked at.
+//! The subcommand `check`: reads all three files before it looks at the first text.
 
 ghost use Rattle.std.specs.Prelude.{◌≡◌, ◌≢◌, ◌⊎◌, ℕ, List, OnOk, IfErr};
 ghost use Rattle.fab_arch.specs.declared.array.Site.{Site};
@@ -28,7 +28,7 @@ pub struct CheckNames {
     pub place: Vec<u8>,
 }
 
-/// Checks a placement that lies in files.
+/// Checks a placement from files.
 pub fn check_files<F: NamedFiles, O: Sink, E: Sink>(
     alloc: Global,
     names: &CheckNames,
@@ -36,7 +36,7 @@ pub fn check_files<F: NamedFiles, O: Sink, E: Sink>(
     out: &mut O,
     err: &mut E,
 ) -> Status
-    // What goes out is the report of the named files.
+    // The report of the named files is written.
     ensures done { result ≡ Status.Done → (arch net place : List ℕ) × (cost : ℕ) × AreGiven (F.held files.now) names.now arch net place × IsReported arch net place cost (O.contents out.old) (O.contents out.new) }
     // A refusal is that of the first check of the named files that fails.
     ensures refused { result ≡ Status.Refused → (arch net place : List ℕ) × (fault : RunFaultOf) × AreGiven (F.held files.now) names.now arch net place × FaultOf arch net place fault × (status_of fault ≡ Status.Refused) }
@@ -71,8 +71,8 @@ pub fn check_files<F: NamedFiles, O: Sink, E: Sink>(
     )
 }
 
-/// Checks a placement, all of whose texts are at hand: the report goes out where they mean a design, an array and a
-/// legal placement, else one line of the first check that fails goes to the standard error.
+/// Checks a placement whose texts have all been read. If they mean a design, an array and a legal placement, the report is written; else
+/// one line about the first check that fails goes to standard error.
 pub fn check_texts<O: Sink, E: Sink>(
     alloc: Global,
     arch: &[u8],
@@ -81,14 +81,14 @@ pub fn check_texts<O: Sink, E: Sink>(
     out: &mut O,
     err: &mut E,
 ) -> Status
-    // What goes out is the report of what the texts mean.
+    // The report of what the texts mean is written.
     ensures done { result ≡ Status.Done → (cost : ℕ) × IsReported arch.now net.now place.now cost (O.contents out.old) (O.contents out.new) }
     // A refusal is that of the first check that fails.
     ensures refused { result ≡ Status.Refused → (fault : RunFaultOf) × FaultOf arch.now net.now place.now fault × (status_of fault ≡ Status.Refused) }
     // Texts that mean all this are never refused.
     ensures only { (d : Netlist) (g : GridShape) (sites : List Site) → AreChecked arch.now net.now place.now d g sites → (result ≡ Status.Done) ⊎ ((result ≡ Status.NoMemory) ⊎ (result ≡ Status.Device)) }
     ensures silent { result ≡ Status.Refused → O.contents out.new ≡ O.contents out.old }
-    // A device failed only where the report's writer did.
+    // A device failed only if the report's writer did.
     ensures device { result ≡ Status.Device → O.failed out.new ≡ grown (O.failed out.old) }
     ensures written { result ≡ Status.Done → O.failed out.new ≡ O.failed out.old }
     ensures quiet { result ≡ Status.Done → E.contents err.new ≡ E.contents err.old }

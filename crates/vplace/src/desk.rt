@@ -1,4 +1,4 @@
-// A small design in memory: two pads and one logic block, whose every move finds its block's own site; its files, and runs of the
+// A small design in memory: two pads and one logic block, whose every move finds its block's own site; with its files, and runs of the
 // program on them.
 
 ghost use Rattle.std.specs.Prelude.{Some, [], ◌∷◌, option_map, codes};
@@ -31,7 +31,7 @@ frozen range 1.000 moves 3 accepted 0 cost 4.0000
 final cost 4.0000 accepted 0 of 15
 ";
 
-/// What of the report has gone out when a name is tried.
+/// The part of the report that is written before a name is tried.
 pub const HEAD: &[u8] = b"blocks 3 logic 1 pads 2 nets 2 array 1 x 1\nstart cost 4.0000\n";
 
 /// The text of its placement.
@@ -85,8 +85,8 @@ pub const WORDS: [&[u8]; 17] = [
     b"3",
 ];
 
-/// The files of the design. What is put at `t.place` and at `t.point` is kept. The names `late`, for which the disk is full by then, and
-/// `huge`, for which there is no memory by then, are taken too; no other name is.
+/// The files of the design. Bytes that are put at `t.place` and at `t.point` are kept. Two more names can be reserved: for `late` the disk
+/// is full when the bytes come, and for `huge` memory has run out by then. No other name can; `none` runs out of memory.
 #[derive(Drop)]
 pub struct Desk {
     arch: &'static [u8],
@@ -194,7 +194,7 @@ pub fn run(
     run_on(rt, Desk::new(rt.alloc(), None), words, 100_000)
 }
 
-/// The same on these files, where the output takes so many bytes.
+/// The same on these files, with an output that takes `room` bytes.
 pub fn run_on(
     rt: &(impl AllocGlobal + Threads + Wait + Sync),
     mut desk: Desk,
@@ -217,7 +217,7 @@ pub fn run_on(
     left.push(b'\n')?;
     left.extend_from_slice(&out.into_inner().taken)?;
     left.extend_from_slice(&err.into_inner())?;
-    // Each place that was taken was given up, or written.
+    // Each place that was reserved was released, or written.
     if desk.taken.get() != 0 {
         left.extend_from_slice(b"a place is left")?;
     }

@@ -1,4 +1,4 @@
-//! What a run leaves once it has answered, and where it goes: the placement where it finished, or the checkpoint where it stopped.
+//! What a run leaves after its answer, and where it goes: the placement if it finished, or the checkpoint if it stopped.
 
 ghost use Rattle.std.specs.Prelude.{◌≡◌, ◌≢◌, ◌⊎◌, ℕ, Ok, OnOk, OnErr, IfOk, IfErr, IfSome, IsErrAnd, MatchOption, MatchResult};
 ghost use Rattle.fab_text.specs.Lines.{lines};
@@ -28,11 +28,11 @@ use std::alloc::{AllocError, Global};
 /// What a run left in memory.
 #[derive(Drop)]
 pub struct Left<O: Drop> {
-    /// The text of its placement; nothing where it stopped.
+    /// The text of its placement; empty if it stopped.
     pub place: Vec<u8>,
     /// The text of the point where it stopped, if it did.
     pub point: Option<Vec<u8>>,
-    /// The place that was taken at the name that was tried.
+    /// The place that was reserved at the name that was tried.
     pub outlet: Option<O>,
 }
 
@@ -53,14 +53,14 @@ fn tell_fault<E: Sink>(
         (RunFault::Place(PlaceFault::Write), Some(WriteFault::Unwritable)) => {
             messages::unwritable(err, role)
         }
-        // Where the name was not refused, the place text found no memory.
+        // Otherwise memory ran out, for the name or for the place text.
         (RunFault::Place(PlaceFault::Write), _) => messages::no_memory(err),
         _ => messages::run_fault(alloc, err, fault, net),
     }
 }
 
-/// What a run left in memory whose place text is this one. `told` is the text of the point where it stopped, if it did. Where it
-/// gave no answer, the place that was taken is given up, and the fault is said.
+/// What a run left in memory, given its place text and `told`, the text of the point where it stopped, if it did. If the run gave no
+/// answer, its reserved place is released, and the fault is said.
 pub fn left_by<F: NamedFiles, N: Named, E: Sink>(
     alloc: Global,
     told: Result<Option<Vec<u8>>, RunFault>,
@@ -126,12 +126,12 @@ pub fn text_of_point(
     let mut text = Counted::new(Vec::new(alloc));
     match write_point(alloc, &mut text, seed, design, grid, point) {
         Ok(()) => Ok(text.into_inner()),
-        // A vector fails to take bytes for want of memory alone.
+        // A vector refuses bytes only if memory runs out.
         Err(_) => Err(AllocError),
     }
 }
 
-/// The text of a file of this role goes to its name. `outlet` is the place that was taken there, if one was.
+/// Puts the text of a file of this role at its name. `outlet` is the place that was reserved there, if one was.
 fn put_text<F: NamedFiles, E: Sink>(
     alloc: Global,
     files: &mut F,
@@ -163,7 +163,7 @@ fn put_text<F: NamedFiles, E: Sink>(
     }
 }
 
-/// The place that was taken at the out name, if one was. One that was taken at the save name is given up.
+/// The place that was reserved at the out name, if one was. One at the save name is released.
 fn outlet_at_out<F: NamedFiles>(
     files: &F,
     names: &OutNames,
@@ -181,7 +181,7 @@ fn outlet_at_out<F: NamedFiles>(
     None
 }
 
-/// What a run left goes to its file: the checkpoint where it stopped, else the placement.
+/// Puts what a run left at its name: the checkpoint if it stopped, else the placement.
 pub fn leave<F: NamedFiles, E: Sink>(
     alloc: Global,
     files: &mut F,

@@ -1,4 +1,4 @@
-//! Files by name, as the program reads and writes them: the system's, or in a test those that lie in memory.
+//! Files by name, as the program reads and writes them: those of the system, or, in a test, files in memory.
 
 ghost use Rattle.std.specs.Prelude.{◌≡◌, ℕ, List, Option, IfOk, OnOk, OnErr};
 ghost use Rattle.vplace.specs.Files.{Gives, Held, Puts};
@@ -11,7 +11,7 @@ use std::io::{Error, ErrorKind};
 pub enum ReadFault {
     /// There is no such file, or the system does not give its bytes.
     Unreadable,
-    /// There was no memory for its bytes.
+    /// Memory ran out for its bytes.
     NoMemory,
 }
 
@@ -20,12 +20,12 @@ pub enum ReadFault {
 pub enum WriteFault {
     /// The system makes no such file, or does not take its bytes.
     Unwritable,
-    /// There was no memory to write it.
+    /// Memory ran out while it was written.
     NoMemory,
 }
 
 impl WriteFault {
-    /// What an error of the system is told as.
+    /// The fault that an error of the system is reported as.
     pub fn of(error: &Error) -> Self {
         match error.kind() {
             ErrorKind::OutOfMemory => WriteFault::NoMemory,
@@ -36,28 +36,28 @@ impl WriteFault {
 
 /// Files that are read and written by their names. A name is any bytes.
 pub trait NamedFiles {
-    /// What the names give, where that is known.
+    /// What the names give, if that is known.
     ghost held: { Self → Option Held };
 
     /// The place of a file that is to be written.
     type Outlet: Drop;
 
-    /// The name that a place was taken for.
+    /// The name that a place was reserved for.
     ghost name_of: { Self.Outlet → List ℕ };
 
     /// All bytes of a file.
     fn read(&self, alloc: Global, name: &[u8]) -> Result<Vec<u8>, ReadFault>
         ensures { IfOk result (λ bytes. Gives (held self.now) name.now bytes.items) };
 
-    /// Finds out whether bytes can be put at a name, and takes a place for them. At the name itself nothing is made.
+    /// Checks that bytes can be put at a name, and reserves a place for them. Nothing is made at the name itself.
     fn reserve(&self, alloc: Global, name: &[u8]) -> Result<Self::Outlet, WriteFault>
         ensures { IfOk result (λ outlet. name_of outlet ≡ name.now) };
 
-    /// Puts bytes at the name that the place was taken for, instead of all that it gave.
+    /// Puts bytes at the name that the place was reserved for, in place of all that it gave.
     fn put(&mut self, outlet: Self::Outlet, bytes: &[u8]) -> Result<(), WriteFault>
         ensures put { OnOk result (Puts (held self.old) (held self.new) (name_of outlet) bytes.now) }
         ensures kept { OnErr result (held self.new ≡ held self.old) };
 
-    /// Gives a place up that was taken for nothing.
+    /// Releases a place that is not needed.
     fn release(&self, outlet: Self::Outlet);
 }

@@ -17,38 +17,38 @@ use std::alloc::{AllocError, Global};
 pub enum Asked {
     /// To check the built-in example.
     Example,
-    /// To check a placement that lies in files.
+    /// To check a placement from files.
     Check(CheckNames),
-    /// To place a design that lies in files.
+    /// To place a design from files.
     Place(PlaceWords),
-    /// To go on with a run from a checkpoint that lies in a file.
+    /// To resume a run from a checkpoint file.
     Resume(ResumeWords),
 }
 
 const NAME: &str = "vplace";
 
-const VERSION: &str = "0.9.0";
+const VERSION: &str = "1.0.0";
 
 const ABOUT: &str =
     "Place FPGA designs by simulated annealing, after VPR 4.30, and check placements";
 
 const AFTER: &str =
-    "Without a command, a built-in example of four blocks on a 3 x 3 array is checked.
-A run of `place` may stop on its way and write a checkpoint, from which `resume` goes on.
+    "Without a command, vplace checks a built-in example of four blocks on a 3 x 3 array.
+A run of `place` can stop early and write a checkpoint, from which `resume` goes on.
 
 Exit status:
   0  done
   1  a file or the size of the array is refused, or the design does not fit on it
-  2  the command line is wrong, or another of its numbers is out of its range
-  3  there is no memory
+  2  the command line is wrong, or one of its other numbers is out of range
+  3  memory ran out
   4  a file cannot be read, or the report, the out file or the save file cannot be written";
 
 const CHECK_ABOUT: &str = "Check a placement: legal or not, and its wire cost";
 
 const CHECK_AFTER: &str =
-    "A placement is legal where each block of the netlist stands on a site of its kind and no two on one site.
+    "A placement is legal if each block of the netlist is on a site of its kind, and no two blocks are on one site.
 Prints two lines, `legal B blocks on a NX x NY array` and `cost C`, or one line on standard error that
-names the first fault, as `vplace: place: P8 Missing block 3`.
+names the first fault, such as `vplace: place: P8 Missing block 3`.
 
 Example:
   vplace check --arch small.arch --net small.net --place small.place";
@@ -91,7 +91,7 @@ fn check_names(alloc: Global, matches: &ArgMatches<'_>) -> Result<CheckNames, Al
     Ok(CheckNames { arch, net, place })
 }
 
-// The words as the parser takes them, behind the program's name.
+// The words as the parser takes them, after the program's name.
 fn shown_words(alloc: Global, words: &[Vec<u8>]) -> Result<Vec<String>, AllocError> {
     let mut texts = Vec::new(alloc);
     texts.push(String::from_str(alloc, NAME)?)?;
@@ -110,12 +110,12 @@ fn asked_for(alloc: Global, matches: &ArgMatches<'_>) -> Result<Asked, AllocErro
     }
     match matches.subcommand_matches("check") {
         Some(check) => Ok(Asked::Check(check_names(alloc, check)?)),
-        // The parser asks for a command, so there is one.
+        // This does not happen: the parser requires a command.
         None => Ok(Asked::Example),
     }
 }
 
-/// What the words ask for; else what is to be said of them. No words ask for the check of the built-in example.
+/// What the words ask for; else what to say about them. No words ask for the check of the built-in example.
 pub fn parse_words(alloc: Global, words: &[Vec<u8>]) -> Result<Asked, Error>
     ensures example { words.now ≡ [] → result ≡ Ok Example }
 {

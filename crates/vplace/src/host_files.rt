@@ -1,5 +1,5 @@
-//! The files of the system. A file is written beside its place and then renamed, so that neither a full disk nor a kill spoils
-//! what lay there.
+//! The files of the system. A plain file is written to a temporary file next to it, which then replaces it, so that neither a full disk nor
+//! a kill damages the old file. Where that is not possible, the file itself is written.
 
 ghost use Rattle.std.specs.Prelude.{◌≡◌, None, IfOk};
 ghost use Rattle.std.specs.Io.KnownBytes.{Appends};
@@ -12,10 +12,10 @@ use std::io::{Error, ErrorKind};
 use std::os::unix::fs::{FileTypeExt, MetadataExt};
 use std::{fs, str};
 
-// How many names are tried for a file beside another.
+// How many names are tried for a temporary file.
 const MOST_BESIDE: u32 = 100;
 
-// How many links are followed, as in Linux.
+// How many symbolic links are followed, as in Linux.
 const MOST_LINKS: u32 = 40;
 
 /// The files of the system.
@@ -24,10 +24,10 @@ pub struct HostFiles<'a> {
     rt: &'a HostRuntime,
 }
 
-/// The place that was taken for an out file.
+/// The place that was reserved for an out file.
 #[derive(Drop)]
 pub struct Outlet {
-    // The name that was asked for, of which contracts speak.
+    // The requested name, which contracts refer to.
     name: Vec<u8>,
     way: Way,
 }
@@ -35,13 +35,13 @@ pub struct Outlet {
 // Where the bytes of an out file go.
 #[derive(Drop)]
 enum Way {
-    // To a file beside, under a lock, which then takes the place of the other.
+    // To a temporary file, under a lock, which then replaces the target.
     Beside(Beside),
-    // To the file itself: a device, a pipe, or a plain file in a folder that takes no new file.
+    // To the file itself: a device, a pipe, an open file of a process, or a file next to which no temporary one can be made.
     InPlace(String),
 }
 
-// A file that is to take the place of another.
+// A temporary file that is to replace another.
 #[derive(Drop)]
 struct Beside {
     file: File,
@@ -63,7 +63,7 @@ impl NamedFiles for HostFiles<'_> {
 
     ghost name_of = { λ outlet. outlet.name.items };
 
-    /// The library opens files by names that are text; a file with another name is not read.
+    /// The library opens files only by names that are text; a file with another name is not read.
     fn read(&self, _alloc: Global, name: &[u8]) -> Result<Vec<u8>, ReadFault> {
         let Ok(name) = str::from_utf8(name) else {
             return Err(ReadFault::Unreadable);
@@ -105,7 +105,7 @@ impl NamedFiles for HostFiles<'_> {
     }
 }
 
-/// All of the bytes go to a writer, which comes back only then.
+/// Writes all of the bytes, and returns the writer only if that succeeds.
 fn written<W: Sink + Drop>(mut out: W, bytes: &[u8]) -> Result<W, WriteFault>
     ensures whole { IfOk result (λ w. Appends (W.contents out) (W.contents w) bytes.now) }
 {
@@ -115,12 +115,12 @@ fn written<W: Sink + Drop>(mut out: W, bytes: &[u8]) -> Result<W, WriteFault>
     }
 }
 
-// Whether the name is that of an open file of a process, as /dev/stdout leads to. Its writer may have put bytes there already.
+// Whether the name is that of an open file of a process, which /dev/stdout leads to. Its writer may already have put bytes there.
 fn is_open_file(name: &str) -> bool {
     name.starts_with("/dev/fd/") || name.starts_with("/proc/") && name.contains("/fd/")
 }
 
-// The folder of a name, with its slash; nothing for one in the working folder.
+// The folder of a name, with its slash; empty for a name in the working folder.
 fn folder_of(name: &str) -> &str {
     match name.rfind('/') {
         Some(slash) => name.get(..slash + 1).unwrap_or(""),
@@ -141,14 +141,15 @@ impl HostFiles<'_> {
             self.stop_unless_writable(target.as_str())?;
             return self.place_beside(alloc, target, Some(found.permissions()));
         }
-        // A pipe is not opened before there are bytes for it: it would wait for a reader.
+        // A pipe is opened only when there are bytes for it: opening it waits for a reader.
         if !found.file_type().is_fifo() {
             self.stop_unless_writable(target.as_str())?;
         }
         Ok(Way::InPlace(target))
     }
 
-    // The name that symbolic links lead to from this one, and what is there, if anything is. An open file of a process is an end.
+    // Follows symbolic links to the name that they end at. Returns that name, and what is there, if anything. An open file of a process is
+    // an end.
     fn end_of_links(
         &self,
         alloc: Global,
@@ -190,8 +191,8 @@ impl HostFiles<'_> {
         }
     }
 
-    // A new file beside the target, with its mode before it has a byte. Where the folder takes none, or none with so long a name, the
-    // target is written itself.
+    // Makes a temporary file next to the target, and gives it the target's mode before it has a byte. If the folder takes no new file, or
+    // none with so long a name, the target itself is written.
     fn place_beside(
         &self,
         alloc: Global,
@@ -222,8 +223,8 @@ impl HostFiles<'_> {
         Ok(Way::Beside(beside))
     }
 
-    // A new file of this name under a lock; none where another run uses the one that is there, or where something else has the name.
-    // One that a killed run left is removed first, so that the new one belongs to who runs this.
+    // A new file of this name, under a lock; none if another run uses the file that is there, or if something else has the name. A file
+    // that a killed run left is removed first, so that the new one belongs to the user of this run.
     fn fresh(&self, name: &str) -> Result<Option<File>, Error> {
         match self.create(name) {
             Err(error) if error.kind() == ErrorKind::AlreadyExists => {}
@@ -245,7 +246,7 @@ impl HostFiles<'_> {
             .open(self.rt, name)
     }
 
-    // Another run may have taken a new file for one that was left, and removed it.
+    // Another run may have taken a new file for one that a killed run left, and removed it.
     fn locked(&self, file: File, name: &str) -> Result<Option<File>, Error> {
         if is_in_use(&file) || !self.is_at(&file, name) {
             return Ok(None);
@@ -253,7 +254,7 @@ impl HostFiles<'_> {
         Ok(Some(file))
     }
 
-    // Removes a plain file that no run uses, and says whether it did.
+    // Removes a plain file that no run uses. Returns whether it did.
     fn remove_left(&self, name: &str) -> bool {
         match fs::symlink_metadata(self.rt, name) {
             Ok(found) if found.is_file() => {}
@@ -269,7 +270,7 @@ impl HostFiles<'_> {
         }
     }
 
-    // Whether the name still is that of the open file: the run that held the lock before may have renamed it meanwhile.
+    // Whether the name is still that of the open file: the run that held the lock before may have renamed it.
     fn is_at(&self, file: &File, name: &str) -> bool {
         match (file.metadata(), fs::symlink_metadata(self.rt, name)) {
             (Ok(open), Ok(named)) => open.dev() == named.dev() && open.ino() == named.ino(),
@@ -277,11 +278,11 @@ impl HostFiles<'_> {
         }
     }
 
-    // Where the file beside cannot take the place (the target is a mount point, or another user's in a sticky folder, or somebody
-    // removed the file), the target itself is written.
+    // If the temporary file cannot replace the target (the target is a mount point, or belongs to another user in a sticky folder, or
+    // somebody removed the temporary file), the target itself is written.
     fn replace(&self, beside: Beside, bytes: &[u8]) -> Result<(), WriteFault> {
         let Beside { file, name, target } = beside;
-        // The lock is held until what is left of a failed write is gone.
+        // The lock is held until what a failed write left is removed.
         let lock = file.try_clone().map_err(|error| WriteFault::of(&error))?;
         let filled = self.fill(file, bytes);
         let is_there = self.is_at(&lock, name.as_str());
@@ -308,7 +309,7 @@ impl HostFiles<'_> {
         file.sync_all().map_err(|error| WriteFault::of(&error))
     }
 
-    // Whether the name is that of a plain file or of none: it may have become another's in the hours of a run.
+    // Whether the name is that of a plain file or of none: this may have changed during a long run.
     fn is_replaceable(&self, target: &str) -> bool {
         match fs::symlink_metadata(self.rt, target) {
             Ok(found) => found.is_file(),
@@ -316,7 +317,7 @@ impl HostFiles<'_> {
         }
     }
 
-    // The file is whole by now. A system that cannot sync a folder keeps the name in its own time.
+    // Faults are ignored: the file is whole by now, and a system that cannot sync a folder stores the name in its own time.
     fn sync_folder(&self, target: &str) {
         let folder = folder_of(target);
         let folder = if folder.is_empty() { "." } else { folder };
@@ -343,8 +344,8 @@ impl HostFiles<'_> {
     }
 }
 
-// Whether the target is written itself where no file beside it can be made: where it is there and its folder is closed, or where the
-// name beside would be too long.
+// Whether the target itself is written when no temporary file can be made: if the target exists and its folder is closed, or if the
+// temporary name would be too long.
 fn must_be_in_place(kind: ErrorKind, is_there: bool) -> bool {
     match kind {
         ErrorKind::InvalidFilename => true,
@@ -353,7 +354,7 @@ fn must_be_in_place(kind: ErrorKind, is_there: bool) -> bool {
     }
 }
 
-// Whether another run holds the lock of a file, which this run now has else. A file system without locks is used without.
+// Whether another run holds the lock of a file; if none does, this run takes it. A file system without locks is used without.
 fn is_in_use(file: &File) -> bool {
     matches!(file.try_lock(), Err(TryLockError::WouldBlock))
 }
@@ -362,7 +363,7 @@ fn text_of(alloc: Global, text: &str) -> Result<String, WriteFault> {
     String::from_str(alloc, text).map_err(|_| WriteFault::NoMemory)
 }
 
-// The name of the file beside, and of those that are tried where other runs use it.
+// The name of the temporary file, and of those that are tried while other runs use it.
 fn beside_name(alloc: Global, target: &str, number: u32) -> Result<String, WriteFault> {
     let name = match number {
         0 => format!(in alloc; "{target}.vplace-part"),

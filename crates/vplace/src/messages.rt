@@ -15,7 +15,7 @@ use fab_run::{RunFault, fault_line};
 use fab_text::{Sink, write_whole};
 use std::alloc::{AllocError, Global};
 
-/// Says that there is no memory. A standard error that fails too has nobody to be told.
+/// Says that memory ran out. If standard error fails too, nobody can be told.
 pub fn no_memory<E: Sink>(err: &mut E) -> Status
     ensures status { result ≡ Status.NoMemory }
     ensures said { IsSaid no_memory_line (E.contents err.old) (E.contents err.new) (E.failed err.old) (E.failed err.new) }
@@ -25,7 +25,7 @@ pub fn no_memory<E: Sink>(err: &mut E) -> Status
     Status::NoMemory
 }
 
-/// Which of the files that a run reads.
+/// A file that a run reads.
 #[derive(Clone, Copy, Debug, PartialEq, Eq)]
 pub enum Role {
     Arch,
@@ -67,7 +67,7 @@ pub fn unwritable_report<E: Sink>(err: &mut E) -> Status
     Status::Device
 }
 
-/// Which of the files that a run writes.
+/// A file that a run writes.
 #[derive(Clone, Copy, Debug, PartialEq, Eq)]
 pub enum OutRole {
     /// The placement.
@@ -128,10 +128,10 @@ pub fn word_fault<E: Sink>(alloc: Global, err: &mut E, fault: WordFault) -> Stat
     }
 }
 
-/// Says why a run gave no answer. `net` is the netlist text in which the span of a fault lies.
+/// Says why a run gave no answer. `net` is the netlist text that the span of a fault refers to.
 pub fn run_fault<E: Sink>(alloc: Global, err: &mut E, fault: &RunFault, net: &[u8]) -> Status
     ensures status { (result ≡ status_of fault.now) ⊎ (result ≡ Status.NoMemory) }
-    // The line of the fault went out, or that there was no memory for it.
+    // The line of the fault was written, or that there was no memory for it.
     ensures said { ((result ≡ status_of fault.now) × IsSaid (line_of_fault fault.now net.now) (E.contents err.old) (E.contents err.new) (E.failed err.old) (E.failed err.new)) ⊎ ((result ≡ Status.NoMemory) × IsSaid no_memory_line (E.contents err.old) (E.contents err.new) (E.failed err.old) (E.failed err.new)) }
     ensures heard { IsFaultSaid (E.contents err.old) (E.contents err.new) (E.failed err.old) (E.failed err.new) }
     ensures open { result ≢ Status.Done }

@@ -11,7 +11,7 @@ use std::alloc::{AllocError, Global};
 /// What an option takes.
 #[derive(Clone, Copy)]
 pub enum Takes {
-    /// The name of a file; the option is needed.
+    /// The name of a file; the option is required.
     NeededFile,
     /// The name of a file.
     File,
@@ -43,7 +43,7 @@ pub const NET: OptionRow = (
 pub const OUT: OptionRow = (
     "out",
     Takes::NeededFile,
-    "Where the placement is written, once the run is over",
+    "The file for the placement, written when the run is over",
 );
 
 pub const BATCH: OptionRow = (
@@ -61,13 +61,13 @@ pub const WORKERS: OptionRow = (
 pub const STOP: OptionRow = (
     "stop",
     Takes::Whole(None),
-    "After how many moves of the whole run it stops, where any are left then; with --save",
+    "Stop after this many moves of the whole run, if any are left then; with --save",
 );
 
 pub const SAVE: OptionRow = (
     "save",
     Takes::File,
-    "Where a run that stops writes its checkpoint, with --stop",
+    "The file for the checkpoint of a run that stops; with --stop",
 );
 
 // An option with one value.
@@ -115,7 +115,7 @@ pub fn with_options<'a>(
     Ok(command)
 }
 
-/// The file name that an option was given; an empty one where it was not.
+/// The file name that an option was given; empty if it was not given.
 pub fn file_name(
     alloc: Global,
     matches: &ArgMatches<'_>,
@@ -136,14 +136,14 @@ pub fn optional_name(
     Ok(Some(file_name(alloc, matches, option)?))
 }
 
-/// The number of an option.
+/// The whole number that an option was given, if it was.
 pub fn whole(matches: &ArgMatches<'_>, option: &str) -> Option<u64>
     ensures { GivesNumber 64 (found_of matches.now) option.now result }
 {
     matches.get_one::<u64>(option)
 }
 
-/// The number of an option that counts columns or rows.
+/// The number of columns or rows that an option was given, if it was.
 pub fn side(matches: &ArgMatches<'_>, option: &str) -> Option<u16>
     ensures { GivesNumber 16 (found_of matches.now) option.now result }
 {

@@ -1,5 +1,4 @@
-//! The place text of a run on its way to a file: it lies in memory until the run has answered, and its name is tried before the
-//! first move.
+//! The output file of a run: its text stays in memory until the run has answered, and its name is tried before the first move.
 
 ghost use Rattle.std.specs.Prelude.{◌≡◌, ℕ, List, [], Some};
 ghost use Rattle.std.specs.Option.{ForSome};
@@ -9,7 +8,7 @@ use std::alloc::Global;
 use std::io::Write;
 use std::marker::{Brand, PhantomData};
 
-/// The name of an out file, known to its type, so that whoever is lent the file leaves one of the same name.
+/// The name of an out file as part of its type, so that code that borrows the file cannot leave one of another name.
 pub trait Named {
     ghost name: { List ℕ };
 }
@@ -18,7 +17,7 @@ impl Named for Brand {
     ghost name = { [] };
 }
 
-/// The bytes of a file that is yet to be written, and the place that was taken for them.
+/// The bytes of a file that is not written yet, and the place that was reserved for them.
 #[derive(Drop)]
 pub struct OutFile<'a, F: NamedFiles, N: Named> {
     pub files: &'a F,
@@ -29,7 +28,7 @@ pub struct OutFile<'a, F: NamedFiles, N: Named> {
     pub fault: Option<WriteFault>,
     pub failures: u64,
     pub of: PhantomData<N>,
-    // The place was taken for the name.
+    // The place was reserved for the name.
     ghost named: { name.now ≡ N.name },
     ghost placed: { ForSome outlet (λ place. F.name_of place ≡ N.name) },
 }

@@ -8,14 +8,14 @@ use crate::messages::OutRole;
 /// The names of the files that a run may leave.
 #[derive(Clone, Copy, Debug)]
 pub struct OutNames<'a> {
-    /// Of the placement of a run that finishes.
+    /// The out name: that of the placement of a run that finishes.
     pub out: &'a [u8],
-    /// Of the checkpoint of a run that stops, where a stop is asked for.
+    /// The save name: that of the checkpoint of a run that stops, if a stop is requested.
     pub save: Option<&'a [u8]>,
 }
 
 impl<'a> OutNames<'a> {
-    /// The name that is tried before the first move: that of the checkpoint where a stop is asked for, else that of the placement.
+    /// The name that is tried before the first move: the save name if a stop is requested, else the out name.
     pub fn tried(&self) -> &'a [u8]
         ensures { result.now ≡ tried_name self.now }
     {
@@ -25,7 +25,7 @@ impl<'a> OutNames<'a> {
         }
     }
 
-    /// What the file of that name is.
+    /// What the file at that name is.
     pub fn tried_role(&self) -> OutRole {
         match self.save {
             Some(_) => OutRole::Point,

@@ -16,13 +16,13 @@ const ABOUT: &str = "Place a design by simulated annealing, and write its placem
 
 const AFTER: &str =
     "Anneals stage by stage: each stage makes the same number of moves at one temperature, and the next is colder.
-Temperatures are in units of cost, with at most four places; the last stage, at 0, takes no move that costs more.
+Temperatures are in units of cost, with at most four decimals; the last stage, at 0, accepts no move that costs more.
 Prints the design and its array, the cost at the start, a line for each stage as it ends, and the final cost;
 then writes the placement. The same files and numbers give the same bytes on every machine, whatever --batch and
 --workers are.
 
-With --stop and --save a run stops after so many moves, if any are left then, and writes a checkpoint in place of
-the placement: `vplace resume` goes on from it, there or on another machine. The reports of the pieces, joined as by
+With --stop and --save a run stops after this many moves, if any are left then, and writes a checkpoint instead of
+the placement: `vplace resume` goes on from it, on this or another machine. The reports of the pieces, joined as by
 cat, are the report of the unbroken run, and the last piece writes its placement. A run that ends before the stop
 writes the placement, and no checkpoint.
 
@@ -31,10 +31,10 @@ Examples:
   vplace place --arch small.arch --net small.net --out small.place --seed 7 --stop 100000 --save small.point";
 
 const PADS: &str =
-    "The locations: a line `NAME X Y SUB` fixes a block there, a last word `free` only begins it there";
+    "The locations: a line `NAME X Y SUB` fixes a block there; with a last word `free` it only starts there";
 
 const NX: &str =
-    "The columns of the array, 1 to 1000, with --ny; without both, the least square array that holds the design is taken";
+    "The columns of the array, 1 to 1000, with --ny; without both, the smallest square array that holds the design";
 
 const NY: &str = "The rows of the array, 1 to 1000, with --nx";
 
@@ -42,15 +42,15 @@ const SEED: &str = "The seed of the random words, 0 to 18446744073709551615";
 
 const INIT_T: &str = "The first temperature, in units of cost, 0.0001 to 107374.1824";
 
-const EXIT_T: &str = "The least temperature that is run, in units of cost, 0.0001 to 107374.1824";
+const EXIT_T: &str = "The lowest temperature that is run, in units of cost, 0.0001 to 107374.1824";
 
 const ALPHA_T: &str =
     "The factor from one temperature to the next, 0.001 to 0.999, or `adaptive` for VPR's own, by the share of accepted moves";
 
 const INNER: &str =
-    "The moves of a stage, in parts of the number of blocks to the power 4/3, 1 to 10000";
+    "The moves of a stage, as a multiple of the number of blocks to the power 4/3, 1 to 10000";
 
-const MOVES: &str = "The moves of a stage, 1 to 1073741824; --inner is not used then";
+const MOVES: &str = "The moves of a stage, 1 to 1073741824; --inner is then ignored";
 
 // The options by name, in the order of the help.
 const OPTIONS: [OptionRow; 16] = [

@@ -1,5 +1,5 @@
-//! The subcommand `place`: the files are read, and only then is the first of their texts looked at; the placement, or the checkpoint
-//! of a run that stops, is written once the run has answered.
+//! The subcommand `place`: reads all files before it looks at the first text; writes the placement, or the checkpoint of a run that stops,
+//! after the run has answered.
 
 ghost use Rattle.std.specs.Prelude.{◌≡◌, ◌≢◌, ◌⊎◌, OnOk, OnErr, IfOk, IfErr, IfSome, option_map};
 ghost use Rattle.fab_text.specs.Failures.{grown};
@@ -44,7 +44,7 @@ struct Read {
     pads: Option<Vec<u8>>,
 }
 
-/// The text of a location file, where one is named.
+/// Reads the location file, if one is named.
 fn read_pads<F: NamedFiles, E: Sink>(
     alloc: Global,
     files: &F,
@@ -63,7 +63,7 @@ fn read_pads<F: NamedFiles, E: Sink>(
     }
 }
 
-/// All files of a run, in the order architecture, netlist, location file.
+/// Reads all files of a run, in the order architecture, netlist, location file.
 fn read_texts<F: NamedFiles, E: Sink>(
     alloc: Global,
     files: &F,
@@ -87,7 +87,7 @@ fn read_texts<F: NamedFiles, E: Sink>(
     Ok(Read { arch, net, pads })
 }
 
-/// The text of the point where a run stopped. Its design and its array are made again from the texts and the numbers.
+/// The text of the point where a run stopped. Its design and its array are built again from the texts and the numbers.
 fn checkpoint(
     alloc: Global,
     inputs: &Inputs,
@@ -103,7 +103,7 @@ fn checkpoint(
     Ok(text_of_point(alloc, options.seed, &design, &grid, point)?)
 }
 
-/// Places the design of a run. The answer is the text of the point where it stopped, if it did.
+/// Places the design of a run. Returns the text of the point where it stopped, if it did.
 fn run_place<R: AllocGlobal + Threads + Wait + Sync, O: Sink, P: Sink>(
     rt: &R,
     inputs: &Inputs,
@@ -126,8 +126,8 @@ fn run_place<R: AllocGlobal + Threads + Wait + Sync, O: Sink, P: Sink>(
     }
 }
 
-/// Places the design of a run, all of whose texts are at hand. The report goes out; the answer is what the run leaves, and the place
-/// that was taken for it before the first move, at the name that is tried.
+/// Places the design of a run whose texts have all been read, and writes the report. Returns what the run leaves, and the place that was
+/// reserved for it before the first move, at the name that is tried.
 pub fn place_texts<
     R: AllocGlobal + Threads + Wait + Sync,
     F: NamedFiles,
@@ -144,18 +144,18 @@ pub fn place_texts<
     err: &mut E,
 ) -> Result<Left<F::Outlet>, Status>
     requires { tried_name names.now ≡ N.name }
-    // What goes out is the report of annealing one move at a time, and what is left is the text of its placement, or of its point.
+    // The report of annealing one move at a time is written, and what is left is the text of its placement, or of its point.
     ensures placed { IfOk result (λ left. AreLeft (AskFor (texts_of inputs.now) options.now) (texts_of inputs.now) options.now.seed (O.contents out.old) (O.contents out.new) left.place.items (option_map (λ bytes. bytes.items) left.point)) }
-    // A place that was taken is that of the name.
+    // A place that was reserved is one at this name.
     ensures taken { IfOk result (λ left. IfSome left.outlet (λ outlet. F.name_of outlet ≡ tried_name names.now)) }
     // A refusal is that of the first check that fails.
     ensures refused { IfErr result (λ status. IsRefused status → (fault : RunFaultOf) × IsRunFault (texts_of inputs.now) options.now fault × (status_of fault ≡ status)) }
     // Texts and numbers that mean a run are never refused.
     ensures only { (s : Setting) → IsSetting (texts_of inputs.now) options.now s → IfErr result (λ status. (status ≡ Status.NoMemory) ⊎ (status ≡ Status.Device)) }
     ensures silent { IfErr result (λ status. IsRefused status → O.contents out.new ≡ O.contents out.old) }
-    // Else a beginning of the report may have gone out.
+    // Otherwise a beginning of the report may have been written.
     ensures cut { OnErr result ((O.contents out.new ≡ O.contents out.old) ⊎ IsReportBegun (AskFor (texts_of inputs.now) options.now) (O.contents out.old) (O.contents out.new)) }
-    // A device failed only where the report's writer did, or where the name was tried: behind all checks.
+    // A device failed only if the report's writer did, or if the name was tried, which comes after all checks.
     ensures device { IfErr result (λ status. status ≡ Status.Device → (O.failed out.new ≡ grown (O.failed out.old)) ⊎ ((s : Setting) × IsSetting (texts_of inputs.now) options.now s)) }
     ensures written { OnOk result (O.failed out.new ≡ O.failed out.old) }
     ensures quiet { OnOk result (E.contents err.new ≡ E.contents err.old) }
@@ -169,7 +169,7 @@ pub fn place_texts<
     left_by(alloc, told, place, names.tried_role(), inputs.net, err)
 }
 
-/// Places a design that lies in files, by the numbers that the words give.
+/// Places a design from files, by the numbers that the words give.
 pub fn place_files<R: AllocGlobal + Threads + Wait + Sync, F: NamedFiles, O: Sink, E: Sink>(
     rt: &R,
     words: &PlaceWords,
@@ -177,18 +177,18 @@ pub fn place_files<R: AllocGlobal + Threads + Wait + Sync, F: NamedFiles, O: Sin
     out: &mut O,
     err: &mut E,
 ) -> Status
-    // What goes out is the report of a run of the named files by the numbers asked for. What is put is the text of its placement at
-    // the out name, or where it stopped the text of its point at the save name.
+    // The report of a run of the named files, by the requested numbers, is written. The text of its placement is put at the out name, or,
+    // if it stopped, the text of its point at the save name.
     ensures placed { result ≡ Status.Done → DidPlace words.now (F.held files.old) (F.held files.new) (O.contents out.old) (O.contents out.new) }
     ensures kept { result ≢ Status.Done → F.held files.new ≡ F.held files.old }
-    // What is wrong with the words comes before the files.
+    // Faults of the words come before the files.
     ensures first { (fault : WordFaultOf) → IsWordFault words.now fault → (result ≡ Status.CommandLine) ⊎ (result ≡ Status.NoMemory) }
     // A refusal is that of the words, or of the first check of the named files that fails.
     ensures refused { IsRefused result → ((fault : WordFaultOf) × IsWordFault words.now fault) ⊎ ((t : Texts) × (o : OptionsOf) × (fault : RunFaultOf) × AreNamed (F.held files.old) words.now t × AreAsked words.now o × IsRunFault t o fault × (status_of fault ≡ result)) }
     ensures silent { IsRefused result → O.contents out.new ≡ O.contents out.old }
     ensures written { result ≡ Status.Done → O.failed out.new ≡ O.failed out.old }
     ensures quiet { result ≡ Status.Done → E.contents err.new ≡ E.contents err.old }
-    // Else something was said of the fault.
+    // Otherwise something was said about the fault.
     ensures said { result ≢ Status.Done → IsFaultSaid (E.contents err.old) (E.contents err.new) (E.failed err.old) (E.failed err.new) }
 {
     let alloc = rt.alloc();

@@ -65,7 +65,7 @@ fn a_disk_that_is_full_by_then_is_told_at_the_end(rt: HostRuntime) -> Result<(),
     Ok(())
 }
 
-// More than a pipe or a page cache takes at once.
+// More bytes than a pipe or a page cache takes at once.
 #[test]
 fn a_long_text_is_written_whole(rt: HostRuntime) -> Result<(), Fail> {
     let text = vec![in rt.alloc(); b'x'; 200_000]?;

@@ -21,13 +21,13 @@ use std::alloc::{AllocError, Global};
 use std::sync::Wait;
 use std::thread::Threads;
 
-// The text of what is said of a command line, as bytes.
+// The text of what the parser says about a command line, as bytes.
 fn text_of(alloc: Global, error: &Error) -> Result<Vec<u8>, AllocError> {
     let text = error.to_string(alloc)?;
     as_bytes(alloc, text.as_str())
 }
 
-// Help that was asked for goes to the output, what is wrong with the words to the standard error.
+// Requested help goes to the output; what is wrong with the words goes to standard error.
 fn tell<O: Sink, E: Sink>(alloc: Global, error: &Error, out: &mut O, err: &mut E) -> Status
     ensures silent { IsRefused result → O.contents out.new ≡ O.contents out.old }
     ensures written { result ≡ Status.Done → O.failed out.new ≡ O.failed out.old }
@@ -41,7 +41,7 @@ fn tell<O: Sink, E: Sink>(alloc: Global, error: &Error, out: &mut O, err: &mut E
     let Ok(text) = text_of(alloc, error) else {
         return messages::no_memory(err);
     };
-    // What is to be said is never nothing.
+    // The parser's text is never empty.
     if text.is_empty() {
         return messages::no_memory(err);
     }
@@ -80,8 +80,8 @@ fn run<R: AllocGlobal + Threads + Wait + Sync, F: NamedFiles, O: Sink, E: Sink>(
     }
 }
 
-/// Does what the words ask for, and answers the status that the shell is told: 0 done, 1 a file refused or a design
-/// that does not fit, 2 the command line, 3 no memory, 4 a device. `words` are those after the program's name.
+/// Does what the words ask for. Returns the exit status: 0 done, 1 a file or the size of the array is refused or the design does not fit, 2
+/// the command line, 3 no memory, 4 a device. `words` are those after the program's name.
 pub fn program<R: AllocGlobal + Threads + Wait + Sync, F: NamedFiles, O: Sink, E: Sink>(
     rt: &R,
     words: &[Vec<u8>],
@@ -89,22 +89,22 @@ pub fn program<R: AllocGlobal + Threads + Wait + Sync, F: NamedFiles, O: Sink, E
     out: &mut O,
     err: &mut E,
 ) -> u8
-    // Nothing goes to the output where a file or the command line is refused.
+    // Nothing is written to the output if a file, the size of the array or the command line is refused.
     ensures silent { (result ≡ 1) ⊎ (result ≡ 2) → O.contents out.new ≡ O.contents out.old }
 
-    // Where the status is 0, no write to the output failed, and nothing was said on the standard error.
+    // If the status is 0, no write to the output failed, and nothing was said on standard error.
     ensures written { result ≡ 0 → O.failed out.new ≡ O.failed out.old }
     ensures quiet { result ≡ 0 → E.contents err.new ≡ E.contents err.old }
 
-    // Where it is not 0, something was said there, unless it failed too.
+    // If it is not 0, something was said there, unless standard error failed too.
     ensures said { result ≢ 0 → IsFaultSaid (E.contents err.old) (E.contents err.new) (E.failed err.old) (E.failed err.new) }
 
-    // With no words it is 0 only where the report of the check of the built-in texts went out.
+    // With no words it is 0 only if the report of the check of the built-in texts was written.
     ensures example { words.now ≡ [] → result ≡ 0 → IsExample ARCH.now NET.now PLACE.now (O.contents out.old) (O.contents out.new) }
 
-    // In all, 0 says that what was asked for went out: help or the version, the report of the built-in check or of one of named files,
-    // or the report of a run of named files or of one that goes on from a named checkpoint, whose placement then lies at the out name,
-    // or where it stopped a checkpoint at the save name.
+    // In all, 0 means that what the words ask for was written: help or the version; the report of the built-in check, or of a check of
+    // named files; or the report of a run of named files, or of one that goes on from a named checkpoint, whose placement is then at the
+    // out name, or, if it stopped, its checkpoint at the save name.
     ensures done { result ≡ 0 → IsTold (O.contents out.old) (O.contents out.new) ⊎ (IsExample ARCH.now NET.now PLACE.now (O.contents out.old) (O.contents out.new) ⊎ (IsChecked (F.held files.old) (O.contents out.old) (O.contents out.new) ⊎ (IsPlaced (F.held files.old) (F.held files.new) (O.contents out.old) (O.contents out.new) ⊎ IsResumed (F.held files.old) (F.held files.new) (O.contents out.old) (O.contents out.new)))) }
 {
     run(rt, words, files, out, err).code()

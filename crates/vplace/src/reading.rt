@@ -1,4 +1,4 @@
-//! Files of a run, read whole.
+//! Reads whole files of a run.
 
 ghost use Rattle.std.specs.Prelude.{◌≡◌, ◌⊎◌, OnOk, OnErr, IfOk, IfErr};
 ghost use Rattle.vplace.specs.Files.{Gives};
@@ -11,7 +11,7 @@ use crate::status::Status;
 use fab_text::Sink;
 use std::alloc::Global;
 
-/// Reads the file of a role, or says why it was not read.
+/// Reads the file of a role, or says on standard error why it could not.
 pub fn read_role<F: NamedFiles, E: Sink>(
     alloc: Global,
     files: &F,
@@ -32,7 +32,7 @@ pub fn read_role<F: NamedFiles, E: Sink>(
     }
 }
 
-/// Reads the two files that mean a design: the architecture, and then the netlist.
+/// Reads the two files that mean a design: the architecture, then the netlist.
 pub fn read_arch_and_net<F: NamedFiles, E: Sink>(
     alloc: Global,
     files: &F,

@@ -16,12 +16,12 @@ const ABOUT: &str = "Go on with a run from a checkpoint, and write its placement
 
 const AFTER: &str =
     "A checkpoint is what `vplace place` or `vplace resume` wrote at its --save name when it stopped. It holds the seed, the
-array, the schedule, and where each block stands and which are fixed; give it the same architecture and netlist.
+array, the schedule, the site of each block, and which blocks are fixed; give the same architecture and netlist with it.
 Prints the rest of the report: the lines of the stages that end from here on, and the final cost. The reports of the
 pieces of a run, joined as by cat, are the report of the unbroken run, and the last piece writes its placement.
 
-With --stop and --save the run stops again after so many moves, counted from its very first move, and writes a
-checkpoint in place of the placement.
+With --stop and --save the run stops again after this many moves, counted from its very first move, and writes a
+checkpoint instead of the placement.
 
 Examples:
   vplace resume --arch small.arch --net small.net --point small.point --out small.place

@@ -1,5 +1,5 @@
-//! The subcommand `resume`: the files are read, and only then is the first of their texts looked at; the placement, or the checkpoint
-//! of a run that stops again, is written once the run has answered.
+//! The subcommand `resume`: reads all files before it looks at the first text; writes the placement, or the checkpoint of a run that stops
+//! again, after the run has answered.
 
 ghost use Rattle.std.specs.Prelude.{◌≡◌, ◌≢◌, ◌⊎◌, ℕ, List, OnOk, OnErr, IfOk, IfErr, IfSome, option_map};
 ghost use Rattle.fab_text.specs.Failures.{grown};
@@ -53,7 +53,7 @@ pub struct Restart<'a> {
     pub stop: Option<u64>,
 }
 
-/// All files of a resumed run, in the order architecture, netlist, checkpoint.
+/// Reads all files of a resumed run, in the order architecture, netlist, checkpoint.
 fn read_texts<F: NamedFiles, E: Sink>(
     alloc: Global,
     files: &F,
@@ -77,8 +77,8 @@ fn read_texts<F: NamedFiles, E: Sink>(
     Ok(Read { arch, net, point })
 }
 
-/// The text of the point where a resumed run stopped. Its design is made again from the texts, and its seed and its array are those of
-/// the checkpoint that it went on from.
+/// The text of the point where a resumed run stopped. Its design is built again from the texts; its seed and its array are those of the
+/// checkpoint that it went on from.
 fn checkpoint(
     alloc: Global,
     inputs: &Inputs,
@@ -94,7 +94,7 @@ fn checkpoint(
     Ok(text_of_point(alloc, seed, &design, &grid, point)?)
 }
 
-/// Goes on with a run. The answer is the text of the point where it stopped, if it did.
+/// Resumes a run. Returns the text of the point where it stopped, if it did.
 fn run_on<R: AllocGlobal + Threads + Wait + Sync, O: Sink, P: Sink>(
     rt: &R,
     inputs: &Inputs,
@@ -129,8 +129,8 @@ fn run_on<R: AllocGlobal + Threads + Wait + Sync, O: Sink, P: Sink>(
     }
 }
 
-/// Goes on with a run, all of whose texts are at hand. The report goes out; the answer is what the run leaves, and the place that was
-/// taken for it before the first move, at the name that is tried.
+/// Resumes a run whose texts have all been read, and writes the report. Returns what the run leaves, and the place that was reserved for it
+/// before the first move, at the name that is tried.
 pub fn resume_texts<
     R: AllocGlobal + Threads + Wait + Sync,
     F: NamedFiles,
@@ -147,19 +147,19 @@ pub fn resume_texts<
     err: &mut E,
 ) -> Result<Left<F::Outlet>, Status>
     requires { tried_name names.now ≡ N.name }
-    // What goes out is the report of annealing one move at a time from the point, and what is left is the text of its placement, or of
-    // the point where it stopped, with the seed of the checkpoint that it went on from.
+    // The report of annealing one move at a time from the point is written, and what is left is the text of its placement, or of the point
+    // where it stopped, with the seed of the checkpoint that it went on from.
     ensures placed { IfOk result (λ left. (s : Going) × HasPoint (texts_of inputs.now) restart.now.point.now s × AreLeft (AskToGoOn (texts_of inputs.now) restart.now.point.now restart.now.batch restart.now.workers restart.now.stop) (texts_of inputs.now) s.seed (O.contents out.old) (O.contents out.new) left.place.items (option_map (λ bytes. bytes.items) left.point)) }
-    // A place that was taken is that of the name.
+    // A place that was reserved is one at this name.
     ensures taken { IfOk result (λ left. IfSome left.outlet (λ outlet. F.name_of outlet ≡ tried_name names.now)) }
     // A refusal is that of the first check that fails.
     ensures refused { IfErr result (λ status. IsRefused status → (fault : RunFaultOf) × IsGoingFault (texts_of inputs.now) restart.now.point.now restart.now.batch restart.now.workers fault × (status_of fault ≡ status)) }
     // Texts and numbers that mean a run that goes on are never refused.
     ensures only { (s : Going) → IsGoing (texts_of inputs.now) restart.now.point.now restart.now.batch restart.now.workers s → IfErr result (λ status. (status ≡ Status.NoMemory) ⊎ (status ≡ Status.Device)) }
     ensures silent { IfErr result (λ status. IsRefused status → O.contents out.new ≡ O.contents out.old) }
-    // Else a beginning of the report may have gone out.
+    // Otherwise a beginning of the report may have been written.
     ensures cut { OnErr result ((O.contents out.new ≡ O.contents out.old) ⊎ IsReportBegun (AskToGoOn (texts_of inputs.now) restart.now.point.now restart.now.batch restart.now.workers restart.now.stop) (O.contents out.old) (O.contents out.new)) }
-    // A device failed only where the report's writer did, or where the name was tried: behind all checks.
+    // A device failed only if the report's writer did, or if the name was tried, which comes after all checks.
     ensures device { IfErr result (λ status. status ≡ Status.Device → (O.failed out.new ≡ grown (O.failed out.old)) ⊎ ((s : Going) × IsGoing (texts_of inputs.now) restart.now.point.now restart.now.batch restart.now.workers s)) }
     ensures written { OnOk result (O.failed out.new ≡ O.failed out.old) }
     ensures quiet { OnOk result (E.contents err.new ≡ E.contents err.old) }
@@ -173,7 +173,7 @@ pub fn resume_texts<
     left_by(alloc, told, place, names.tried_role(), inputs.net, err)
 }
 
-/// Goes on with a run from a checkpoint that lies in a file, by the numbers that the words give.
+/// Resumes a run from a checkpoint file, by the numbers that the words give.
 pub fn resume_files<R: AllocGlobal + Threads + Wait + Sync, F: NamedFiles, O: Sink, E: Sink>(
     rt: &R,
     words: &ResumeWords,
@@ -181,18 +181,18 @@ pub fn resume_files<R: AllocGlobal + Threads + Wait + Sync, F: NamedFiles, O: Si
     out: &mut O,
     err: &mut E,
 ) -> Status
-    // What goes out is the report of the piece that goes on from the named checkpoint, to the end or to the stop asked for. What is put
-    // is the text of its placement at the out name, or where it stopped the text of its point at the save name.
+    // The report of the piece that goes on from the named checkpoint, up to the requested stop or to the end, is written. The text of its
+    // placement is put at the out name, or, if it stopped, the text of its point at the save name.
     ensures placed { result ≡ Status.Done → DidResume words.now (F.held files.old) (F.held files.new) (O.contents out.old) (O.contents out.new) }
     ensures kept { result ≢ Status.Done → F.held files.new ≡ F.held files.old }
-    // What is wrong with the words comes before the files.
+    // Faults of the words come before the files.
     ensures first { (fault : WordFaultOf) → IsResumeFault words.now fault → (result ≡ Status.CommandLine) ⊎ (result ≡ Status.NoMemory) }
     // A refusal is that of the words, or of the first check of the named files that fails.
     ensures refused { IsRefused result → ((fault : WordFaultOf) × IsResumeFault words.now fault) ⊎ ((t : Texts) × (point : List ℕ) × (fault : RunFaultOf) × AreNamedToResume (F.held files.old) words.now t point × IsGoingFault t point words.now.batch words.now.workers fault × (status_of fault ≡ result)) }
     ensures silent { IsRefused result → O.contents out.new ≡ O.contents out.old }
     ensures written { result ≡ Status.Done → O.failed out.new ≡ O.failed out.old }
     ensures quiet { result ≡ Status.Done → E.contents err.new ≡ E.contents err.old }
-    // Else something was said of the fault.
+    // Otherwise something was said about the fault.
     ensures said { result ≢ Status.Done → IsFaultSaid (E.contents err.old) (E.contents err.new) (E.failed err.old) (E.failed err.new) }
 {
     let alloc = rt.alloc();

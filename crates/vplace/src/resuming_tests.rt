@@ -11,13 +11,13 @@ const RESUME: [&[u8]; 9] = [
     b"t.place",
 ];
 
-// What of the report goes out before the fifth move is made.
+// The report of the first five moves.
 const FIRST: &[u8] = b"blocks 3 logic 1 pads 2 nets 2 array 1 x 1
 start cost 4.0000
 stage 0 t 10.0000 range 1.000 moves 3 accepted 0 cost 4.0000
 ";
 
-// What goes out after it.
+// The report of the moves after them.
 const REST: &[u8] = b"stage 1 t 5.0000 range 1.000 moves 3 accepted 0 cost 4.0000
 stage 2 t 2.5000 range 1.000 moves 3 accepted 0 cost 4.0000
 stage 3 t 1.2500 range 1.000 moves 3 accepted 0 cost 4.0000
@@ -25,7 +25,7 @@ frozen range 1.000 moves 3 accepted 0 cost 4.0000
 final cost 4.0000 accepted 0 of 15
 ";
 
-// These words, and further ones.
+// These words, and more.
 fn with<'a>(
     alloc: Global,
     words: &[&'a [u8]],
@@ -36,7 +36,7 @@ fn with<'a>(
     Ok(all)
 }
 
-// What a run that goes on from the point left.
+// What a run left that was resumed from the point.
 fn resume(
     rt: &(impl AllocGlobal + Threads + Wait + Sync),
     more: &[&[u8]],

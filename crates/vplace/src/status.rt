@@ -1,4 +1,4 @@
-//! How a run of the program ended, and the number that the shell is told.
+//! How a run of the program ended, and its exit status.
 
 ghost use Rattle.std.specs.Prelude.{◌≡◌, ◌≢◌, ◌⊎◌};
 ghost use Rattle.fab_file.specs.declared.fault.PlaceFault.TheVariants.{Write};
@@ -14,20 +14,20 @@ use fab_run::{PointFault, RunFault};
 /// How a run of the program ended.
 #[derive(Clone, Copy, Debug, PartialEq, Eq)]
 pub enum Status {
-    /// It did what was asked.
+    /// It did what the words ask for.
     Done,
-    /// A file is refused, or the design does not fit.
+    /// A file or the size of the array is refused, or the design does not fit on it.
     Refused,
-    /// The command line is wrong, or its numbers are no schedule or out of their limits.
+    /// The command line is wrong, or its schedule, batch or workers are out of range.
     CommandLine,
-    /// There was no memory to go on.
+    /// Memory ran out.
     NoMemory,
-    /// A file could not be read, or an output not be written.
+    /// A file could not be read, or an output could not be written.
     Device,
 }
 
 impl Status {
-    /// The number that the shell is told.
+    /// The exit status, 0 to 4.
     pub fn code(self) -> u8
         ensures { result ≡ code_of self }
     {
@@ -41,7 +41,7 @@ impl Status {
     }
 }
 
-/// How a run ends that met this fault.
+/// How a run with this fault ends.
 pub fn status_after(fault: &RunFault) -> Status
     ensures status { result ≡ status_of fault.now }
     ensures open { result ≢ Status.Done }

@@ -13,11 +13,10 @@ use std::sync::Wait;
 use std::test::*;
 use std::thread::Threads;
 
-// What the example of four blocks is answered with.
+// The answer for the example of four blocks.
 const LEGAL: &[u8] = b"legal 4 blocks on a 3 x 3 array\ncost 6.4968\n";
 
-// Three files in memory, with the texts of the example; any other name is that of a file that cannot be read, but for
-// `huge`, for which there is no memory.
+// Three files in memory, with the texts of the example. No other name can be read; for `huge` memory runs out.
 #[derive(Drop)]
 struct Shelf {
     reads: Cell<u32>,
@@ -93,7 +92,7 @@ fn words_of(alloc: Global, words: &[&[u8]]) -> Result<Vec<Vec<u8>>, AllocError> 
     Ok(all)
 }
 
-// Runs the program with an output that takes so many bytes.
+// Runs the program with an output that takes `room` bytes.
 fn run_narrow(
     rt: &(impl AllocGlobal + Threads + Wait + Sync),
     files: &mut Shelf,

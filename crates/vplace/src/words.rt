@@ -1,15 +1,15 @@
-//! The words of the command line: read as bytes, shown to the parser of the command line as text, and turned back.
+//! The words of the command line: read as bytes, shown to the parser as text, and turned back into bytes.
 //!
-//! A word may be any bytes, and the parser takes text alone. So a word that is no UTF-8 is shown as text in which a
-//! letter of the end of Unicode's private range stands for each byte from 128 on. A word that is UTF-8 is shown as it
-//! is, unless it has such a letter itself.
+//! A word may be any bytes, but the parser takes only text. So a word that is not UTF-8 is shown as text in which each byte from 128 on is
+//! replaced by a letter from the end of Unicode's private range. A word that is UTF-8 is shown as it is, unless it contains such a letter
+//! itself.
 
 use std::alloc::{AllocError, Global};
 use std::env::FillError;
 use std::rt::Env;
 use std::str;
 
-// The letter of byte b is this code and b.
+// The letter for byte b has the code FIRST_CODE + b.
 const FIRST_CODE: u32 = 0x10_FF00;
 
 // Whether a letter stands for a byte from 128 on.
@@ -17,7 +17,7 @@ fn is_stand_in(letter: char) -> bool {
     u32::from(letter) >= FIRST_CODE + 128
 }
 
-// What a byte is shown as in a word that is no UTF-8.
+// The letter that shows a byte in a word that is not UTF-8.
 fn letter_of(byte: u8) -> char {
     if byte < 128 {
         return char::from(byte);
@@ -53,7 +53,7 @@ pub fn as_bytes(alloc: Global, text: &str) -> Result<Vec<u8>, AllocError> {
     Ok(bytes)
 }
 
-// The word at a place, from room for 256 bytes up to room that is enough.
+// The word at a place. The buffer starts at 256 bytes and doubles until the word fits.
 fn word_at<R: Env + AllocGlobal>(rt: &R, place: usize) -> Result<Option<Vec<u8>>, AllocError> {
     let mut room = 256usize;
     for _ in 0..usize::BITS {

@@ -8,7 +8,7 @@ pub returns-clause-pieces : goal.returns-clause-pieces
 returns-clause-pieces g c = pieces_show
 
 pub returns-clause-watched : goal.returns-clause-watched
-returns-clause-watched g c = watchers_read_standings
+returns-clause-watched g c = watchers_read_standings g.W.Words.moves
 
 pub returns-clause-order : goal.returns-clause-order
-returns-clause-order g c = watchers_read_in_order
+returns-clause-order g c = watchers_read_in_order g.W.Words.moves

@@ -118,7 +118,7 @@ returns-clause-shown g c =
     let p = piece_of stream_moves c.args.anneal c.args.piece.now.head.items c.args.piece.now.pace.stop in
     let made = c.in_ok-anneal_beside.ensures.made.made in
     let fact : AreShown p c.args.piece.now.pace.batch c.args.shower.now.shown c.anneal_beside.new.shower.shown =
-    whole_shown p c.args.piece.now.pace.batch made.count c.anneal_beside.new.course.anneal.standing.done c.args.shower.now.shown c.anneal_beside.new.shower.shown made.piece made.done c.in_ok-anneal_beside.ensures.made.shown in
+    whole_shown p c.args.piece.now.pace.batch made.count c.anneal_beside.new.course.anneal.standing c.args.shower.now.shown c.anneal_beside.new.shower.shown made.piece made.stands made.done c.in_ok-anneal_beside.ensures.made.shown in
     search (rules, fact)
 
 pub returns-clause-shown_cut : goal.returns-clause-shown_cut
@@ -126,6 +126,6 @@ returns-clause-shown_cut g c =
     let p = piece_of stream_moves c.args.anneal c.args.piece.now.head.items c.args.piece.now.pace.stop in
     let made = c.in_ok-anneal_beside.ensures.made.made in
     let whole : AreShown p c.args.piece.now.pace.batch c.args.shower.now.shown c.anneal_beside.new.shower.shown =
-    whole_shown p c.args.piece.now.pace.batch made.count c.anneal_beside.new.course.anneal.standing.done c.args.shower.now.shown c.anneal_beside.new.shower.shown made.piece made.done c.in_ok-anneal_beside.ensures.made.shown in
+    whole_shown p c.args.piece.now.pace.batch made.count c.anneal_beside.new.course.anneal.standing c.args.shower.now.shown c.anneal_beside.new.shower.shown made.piece made.stands made.done c.in_ok-anneal_beside.ensures.made.shown in
     let fact = part_whole p c.args.piece.now.pace.batch c.args.shower.now.shown c.anneal_beside.new.shower.shown whole in
     search (rules, fact)
