@@ -1,12 +1,19 @@
 //! Laws about moves made one at a time and about moves judged ahead, for code that builds on them. Each law is the contract of a
 //! function that does nothing.
 
-ghost use Rattle.fab_commit.specs.Laws.{AcceptedSwapsAreSerial, MovesCompose, PlacementsStayLegal, RedoneIsSerial, StampsTell, VerdictsAreOfTheirBase};
-ghost use Rattle.fab_commit.specs.Points.{PointsAreToldAgain};
-ghost use Rattle.fab_commit.specs.RunLaws.{RedoneInRuns, WaysOfABeginning, WaysOfATurn, WaysOfRuns};
-ghost use Rattle.fab_commit.specs.TurnLaws.{CutTurnsLeadOn, EveryBatchIsSerial, RedoneByStamps, TurnsAreReached, TurnsLeadOn, WaysOfTurns};
+ghost use Rattle.fab_commit.specs.Laws.EverySchedule.{EveryScheduleIsSerial};
+ghost use Rattle.fab_commit.specs.Laws.Moves.{AcceptedSwapsAreSerial, MovesCompose, PlacementsStayLegal, RedoneIsSerial, StampsTell, VerdictsAreOfTheirBase};
+ghost use Rattle.fab_commit.specs.Run.Points.{PointsAreToldAgain};
+ghost use Rattle.fab_commit.specs.Laws.Runs.{RedoneInRuns, WaysOfABeginning, WaysOfATurn, WaysOfRuns};
+ghost use Rattle.fab_commit.specs.Laws.Turns.{CutTurnsLeadOn, EveryBatchIsSerial, RedoneByStamps, TurnsAreReached, TurnsLeadOn, WaysOfTurns};
 
 use fab_site::Words;
+
+/// Law: from a standing with nothing claimed or judged, every list of events leads to the same live standing as making moves one at a
+/// time, as many as the events committed. Each verdict that is taken is the judgement of its move on the live placement.
+pub fn every_schedule_is_serial()
+    ensures { EveryScheduleIsSerial }
+{}
 
 /// Law: making m moves and then n moves is making m + n moves.
 pub fn moves_compose()

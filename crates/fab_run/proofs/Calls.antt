@@ -7,11 +7,11 @@ use Rattle.fab_net.specs.Netlist.{Netlist}
 use Rattle.fab_file.specs.Written.{are_labels}
 use Rattle.fab_move.specs.Stream.{stream_moves}
 use Rattle.fab_sched.specs.Annealing.{Plan}
-use Rattle.fab_commit.specs.declared.points.Point.{Point}
-use Rattle.fab_commit.specs.Commits.{run}
-use Rattle.fab_commit.specs.Points.{standing_at}
+use Rattle.fab_commit.specs.declared.run.point.Point.{Point}
+use Rattle.fab_commit.specs.Run.Commits.{run}
+use Rattle.fab_commit.specs.Run.Points.{standing_at}
 use Rattle.fab_commit.specs.Serial.{Run, Standing, from}
-use Rattle.fab_commit.proofs.Folding.{from_add}
+use Rattle.fab_commit.proofs.RunLemmas.Folding.{from_add}
 use Rattle.fab_run.specs.declared.inputs.Ending.{Ending}
 use Rattle.fab_run.specs.declared.inputs.Ending.TheVariants.{Finished, Stopped}
 use Rattle.fab_run.specs.declared.inputs.Options.{Options}

@@ -2,7 +2,7 @@
 use Rattle.std.proofs.Common.{◌≡◌, ℕ, ◌+◌, true, cond, List, [], ◌∷◌, ◌++◌, Option, is_some, refl, sym, ap, ◌∙◌, append_assoc}
 use Rattle.std.proofs.lemmas.List.{append-nil}
 use Rattle.fab_commit.specs.Serial.{Run, Standing, accepted_among, from}
-use Rattle.fab_commit.proofs.Folding.{from_add}
+use Rattle.fab_commit.proofs.RunLemmas.Folding.{from_add}
 use Rattle.fab_run.specs.Piece.{end_line, last_line, stage_costs, stage_lines}
 use Rattle.fab_run.specs.Chains.{ChainsAreRuns, IsUnbroken, chain_lines}
 use Rattle.fab_run.specs.Ends.{EndsAfter, StopsAfter}

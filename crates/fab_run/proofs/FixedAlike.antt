@@ -20,12 +20,12 @@ use Rattle.fab_move.specs.Judge.{Judged, judged, judged_as, problem}
 use Rattle.fab_move.specs.Propose.{movable, proposal, propose_for, propose_held, target}
 use Rattle.fab_move.specs.Stream.{stream_moves}
 use Rattle.fab_sched.specs.Annealing.{Plan}
-use Rattle.fab_commit.specs.Commits.{run}
-use Rattle.fab_commit.specs.History.{accepted_from, is_redone}
-use Rattle.fab_commit.specs.Readings.{reading_at, readings, shown_after}
+use Rattle.fab_commit.specs.Run.Commits.{run}
+use Rattle.fab_commit.specs.Model.History.{accepted_from, is_redone}
+use Rattle.fab_commit.specs.Run.Readings.{reading_at, readings, shown_after}
 use Rattle.fab_commit.specs.Serial.{Standing, accepted_among, after_move, from, judged_here, moves_left, numbers_if, one_if, or_zero, step}
-use Rattle.fab_commit.specs.Turns.{base_of, redone_in_run}
-use Rattle.fab_commit.specs.World.{accepted_now, clash}
+use Rattle.fab_commit.specs.Model.Turns.{base_of, redone_in_run}
+use Rattle.fab_commit.specs.Model.World.{accepted_now, clash}
 use Rattle.fab_run.specs.declared.inputs.Ending.{Ending}
 use Rattle.fab_run.specs.declared.inputs.Ending.TheVariants.{Finished, Stopped}
 use Rattle.fab_run.specs.Ends.{Answer, AreRedone, EndsAs, IsPiece, Piece, piece_report}

@@ -7,12 +7,12 @@ use Rattle.fab_net.specs.Netlist.{Netlist}
 use Rattle.fab_dial.specs.declared.readings.Reading.{Reading}
 use Rattle.fab_move.specs.Stream.{stream_moves}
 use Rattle.fab_sched.specs.declared.schedules.Stage.{Stage}
-use Rattle.fab_commit.specs.declared.points.Point.{Point}
-use Rattle.fab_commit.specs.Points.{IsPoint, standing_at}
-use Rattle.fab_commit.specs.Readings.{readings}
+use Rattle.fab_commit.specs.declared.run.point.Point.{Point}
+use Rattle.fab_commit.specs.Run.Points.{IsPoint, standing_at}
+use Rattle.fab_commit.specs.Run.Readings.{readings}
 use Rattle.fab_commit.specs.Serial.{Run, Standing, accepted_among, accepted_here, from, judged_here, left_at, numbers_if, one_if, or_zero, stage_at, step}
-use Rattle.fab_commit.specs.Turns.{redone_in_run}
-use Rattle.fab_commit.proofs.Standings.{points_are_told_again}
+use Rattle.fab_commit.specs.Model.Turns.{redone_in_run}
+use Rattle.fab_commit.proofs.RunLemmas.Standings.{points_are_told_again}
 use Rattle.fab_run.specs.declared.inputs.Ending.{Ending}
 use Rattle.fab_run.specs.declared.inputs.Ending.TheVariants.{Finished, Stopped}
 use Rattle.fab_run.specs.Ends.{Answer, AreRedone, EndsAs, IsPiece, IsPointAt, Piece, piece_report}

@@ -8,7 +8,7 @@ use Rattle.fab_sched.specs.Annealing.{next_heat, next_range}
 use Rattle.fab_commit.specs.Serial.{Run, Standing, after_move, accepted_among, accepted_here, from, judged_here, left_at, moves_left, one_if, or_zero, stage_at, stage_of, step}
 use Rattle.fab_sched.specs.declared.schedules.Stage.{Stage}
 use Rattle.std.proofs.lemmas.Nat.{mod_below}
-use Rattle.fab_commit.proofs.Folding.{still_hot, step_is, left_step, from_add}
+use Rattle.fab_commit.proofs.RunLemmas.Folding.{still_hot, step_is, left_step, from_add}
 use Rattle.fab_run.specs.RunReport.{stage_line}
 use Rattle.fab_run.specs.Piece.{IsOver, cost_at, cost_here, line_here, stage_costs, stage_lines}
 

@@ -28,8 +28,8 @@ use Rattle.fab_file.proofs.Split.{Says}
 use Rattle.fab_file.proofs.Spoken.{decimal_back}
 use Rattle.fab_file.proofs.Told.{AllSay, has_word, lines_told, words_in}
 use Rattle.fab_file.proofs.Back.{IsPlaced, all_by_place, any_first, first_words, in_range, name_at, name_word, places, saying, site_small, words_at_block}
-use Rattle.fab_commit.specs.declared.points.Point.{Point}
-use Rattle.fab_commit.specs.Points.{IsPoint}
+use Rattle.fab_commit.specs.declared.run.point.Point.{Point}
+use Rattle.fab_commit.specs.Run.Points.{IsPoint}
 use Rattle.fab_run.specs.declared.point_words.Version.TheVariants.{Two}
 use Rattle.fab_run.specs.PointFields.{array_in, cooling_in, is_end, is_fixed_line, number_at, number_in, schedule_from, schedule_in, stage_in, version_in}
 use Rattle.fab_run.specs.PointMeaning.{NamesFixed, SaysFixed, SaysPlaces}

@@ -16,7 +16,7 @@ use Rattle.fab_sched.specs.Annealing.{IsCooling, IsLawful, MayStand, MayStandBy,
 use Rattle.fab_file.specs.declared.fault.PlaceFault.{PlaceFault}
 use Rattle.fab_file.specs.Taken.{LinesOf, no_lines, take_fault, with_line}
 use Rattle.fab_file.proofs.Meaning.{each_there, there}
-use Rattle.fab_commit.specs.declared.points.Point.{Point}
+use Rattle.fab_commit.specs.declared.run.point.Point.{Point}
 use Rattle.fab_run.specs.declared.point_fault.PointFault.{PointFault}
 use Rattle.fab_run.specs.declared.point_fault.PointFault.TheVariants.{BadField, BadVersion, OutOfRange}
 use Rattle.fab_run.specs.declared.point_fault.PointField.{PointField}

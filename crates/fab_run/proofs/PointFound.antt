@@ -18,8 +18,8 @@ use Rattle.fab_file.specs.declared.fault.PlaceFault.TheVariants.{NotAPad, Repeat
 use Rattle.fab_file.specs.Place.{block_in}
 use Rattle.fab_file.specs.PlaceFaults.{is_repeated}
 use Rattle.fab_file.proofs.Seats.{first_word, unnamed}
-use Rattle.fab_commit.specs.declared.points.Point.{Point}
-use Rattle.fab_commit.specs.Points.{IsPoint}
+use Rattle.fab_commit.specs.declared.run.point.Point.{Point}
+use Rattle.fab_commit.specs.Run.Points.{IsPoint}
 use Rattle.fab_run.specs.declared.point_fault.PointFault.{PointFault}
 use Rattle.fab_run.specs.declared.point_fault.PointFault.TheVariants.{BadField, Block}
 use Rattle.fab_run.specs.declared.point_words.Version.{Version}

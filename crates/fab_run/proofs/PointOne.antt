@@ -26,8 +26,8 @@ use Rattle.fab_file.specs.Place.{Places, block_in, names_block}
 use Rattle.fab_file.specs.PlaceFaults.{is_repeated}
 use Rattle.fab_file.proofs.Seats.{first_word, or_neither}
 use Rattle.fab_file.proofs.Legal.{agree, all_at, before_distinct, no_block_fault, number_at as number_at_name}
-use Rattle.fab_commit.specs.declared.points.Point.{Point}
-use Rattle.fab_commit.specs.Points.{IsPoint}
+use Rattle.fab_commit.specs.declared.run.point.Point.{Point}
+use Rattle.fab_commit.specs.Run.Points.{IsPoint}
 use Rattle.fab_run.specs.declared.point_fault.PointFault.{PointFault}
 use Rattle.fab_run.specs.declared.point_fault.PointFault.TheVariants.{BadField, Block, NoMemory, OutOfRange}
 use Rattle.fab_run.specs.declared.point_fault.PointField.{PointField}

@@ -13,9 +13,9 @@ use Rattle.fab_cost.specs.Cost.{cost_of}
 use Rattle.fab_move.specs.Stream.{stream_moves, stream_starts}
 use Rattle.fab_sched.specs.Annealing.{Plan}
 use Rattle.fab_sched.proofs.Cubes.{moves_are}
-use Rattle.fab_commit.specs.declared.points.Point.{Point}
-use Rattle.fab_commit.specs.Commits.{run, standing_in}
-use Rattle.fab_commit.specs.Points.{standing_at}
+use Rattle.fab_commit.specs.declared.run.point.Point.{Point}
+use Rattle.fab_commit.specs.Run.Commits.{run, standing_in}
+use Rattle.fab_commit.specs.Run.Points.{standing_at}
 use Rattle.fab_commit.specs.Serial.{at_start}
 use Rattle.fab_run.specs.declared.inputs.Moves.{Moves}
 use Rattle.fab_run.specs.declared.inputs.Moves.TheVariants.{Given, Inner}

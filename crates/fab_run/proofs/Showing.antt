@@ -3,12 +3,12 @@ use Rattle.std.proofs.Common.{◌≡◌, ℕ, ◌+◌, ◌-◌, ◌<◌, ◌≤�
 use Rattle.std.specs.Prelude.{Err, OnOk, OnErr}
 use Rattle.std.proofs.lemmas.List.{append-nil}
 use Rattle.fab_dial.specs.declared.readings.Reading.{Reading}
-use Rattle.fab_commit.specs.declared.turns.Turn.{Turn}
+use Rattle.fab_commit.specs.declared.run.turn.Turn.{Turn}
 use Rattle.fab_commit.specs.Serial.{Run, Standing, from, moves_left}
-use Rattle.fab_commit.specs.Commits.{AnnealOf, run_of}
-use Rattle.fab_commit.specs.Readings.{HasShown, IsShown, reading_at, readings}
-use Rattle.fab_commit.specs.Turned.{IsTurned}
-use Rattle.fab_commit.proofs.Showing.{cut_first, shown_behind, shown_on}
+use Rattle.fab_commit.specs.Run.Commits.{AnnealOf, run_of}
+use Rattle.fab_commit.specs.Run.Readings.{HasShown, IsShown, reading_at, readings}
+use Rattle.fab_commit.specs.Run.Turned.{IsTurned}
+use Rattle.fab_commit.proofs.RunLemmas.Showing.{cut_first, shown_behind, shown_on}
 use Rattle.fab_run.specs.Ends.{IsPiece, IsWithin, Piece}
 use Rattle.fab_run.specs.Shown.{AreShown, AreShownBegun, AreShownInPart, EndsShown, HaveShown, HaveShownInPart, LeadsShown, LeadsShownWithin}
 use Rattle.fab_run.proofs.Lifting.{Answered}

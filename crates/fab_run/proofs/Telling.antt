@@ -8,8 +8,8 @@ use Rattle.std.proofs.Math.Nat.{mod-add-div}
 use Rattle.fab_sched.specs.Annealing.{Plan, IsCooling, cooled, factor_by, hot, next_heat}
 use Rattle.fab_sched.proofs.Falling.{cooled_on, cooler, factor_small, hot_le}
 use Rattle.fab_commit.specs.Serial.{Run, Standing, accepted_among, from, judged_here, left_at, moves_left, one_if, step}
-use Rattle.fab_commit.specs.Commits.{AnnealOf, IsSameRun, run, run_of}
-use Rattle.fab_commit.proofs.Folding.{still_hot, step_is, from_add}
+use Rattle.fab_commit.specs.Run.Commits.{AnnealOf, IsSameRun, run, run_of}
+use Rattle.fab_commit.proofs.RunLemmas.Folding.{still_hot, step_is, from_add}
 use Rattle.fab_run.specs.Piece.{stage_costs, stage_lines}
 use Rattle.fab_run.proofs.Pieces.{accepted_add, costs_add, lines_add, stays_in}
 

@@ -1,18 +1,17 @@
 -- Turns within a stage, one after another.
 use Rattle.std.proofs.Common.{◌≡◌, ℕ, ◌+◌, ◌-◌, ◌<◌, ◌≤◌, List, ◌++◌, min, sym, ap, subst, ◌∙◌, arith, append_assoc, take, Ok}
-use Rattle.fab_commit.specs.declared.turns.Turn.{Turn}
-use Rattle.fab_commit.specs.ByTurns.{LeadsByTurns}
-use Rattle.fab_commit.specs.Commits.{AnnealOf, run_of, world_of}
-use Rattle.fab_commit.specs.RunLaws.{is_redone_way}
-use Rattle.fab_commit.specs.TurnEvents.{turn_events}
-use Rattle.fab_commit.specs.World.{ways}
+use Rattle.fab_commit.specs.declared.run.turn.Turn.{Turn}
+use Rattle.fab_commit.specs.Run.ByTurns.{LeadsByTurns}
+use Rattle.fab_commit.specs.Run.Commits.{AnnealOf, run_of, world_of}
+use Rattle.fab_commit.specs.Model.TurnEvents.{turn_events}
+use Rattle.fab_commit.specs.Model.World.{is_redone_way, ways}
 use Rattle.fab_run.specs.Stages.{AreCountedOn}
 use Rattle.std.specs.List.{count_by}
 use Rattle.fab_commit.specs.Serial.{Run, Standing, accepted_among, from, moves_left}
-use Rattle.fab_commit.specs.Turned.{IsTurned}
-use Rattle.fab_commit.proofs.ByTurns.{redone_by_a_shorter, redone_by_turns}
-use Rattle.fab_commit.proofs.Folding.{from_add, left_from}
-use Rattle.fab_commit.proofs.Owning.{accepted_add}
+use Rattle.fab_commit.specs.Run.Turned.{IsTurned}
+use Rattle.fab_commit.proofs.RunLemmas.ByTurns.{redone_by_a_shorter, redone_by_turns}
+use Rattle.fab_commit.proofs.RunLemmas.Folding.{from_add, left_from}
+use Rattle.fab_commit.proofs.RunLemmas.Owning.{accepted_add}
 
 -- how many moves the next turn makes
 pub turn_makes : (r q : Run) (x y : Standing) (made left batch : ℕ) → q ≡ r → left ≡ moves_left r x → y ≡ from r x made → made < left → min batch (moves_left q y) ≡ min batch (left - made)

@@ -6,12 +6,12 @@ use Rattle.std.proofs.lemmas.List.{append-nil, append_assoc}
 use Rattle.std.proofs.lemmas.List.Elements.{All-append, All-cons, All-head, All-nil, All-tail}
 use Rattle.std.specs.declared.alloc.AllocError.{AllocError}
 use Rattle.fab_dial.specs.declared.readings.Reading.{Reading}
-use Rattle.fab_commit.specs.declared.turns.Turn.{Turn}
+use Rattle.fab_commit.specs.declared.run.turn.Turn.{Turn}
 use Rattle.fab_commit.specs.Serial.{Run, Standing, from, step}
-use Rattle.fab_commit.specs.Commits.{AnnealOf, IsSameRun, run, run_of}
-use Rattle.fab_commit.specs.Readings.{IsShown, begins, reading_at, readings, shown_after}
-use Rattle.fab_commit.specs.Turned.{IsTurned}
-use Rattle.fab_commit.proofs.Folding.{from_add, step_done}
+use Rattle.fab_commit.specs.Run.Commits.{AnnealOf, IsSameRun, run, run_of}
+use Rattle.fab_commit.specs.Run.Readings.{IsShown, begins, reading_at, readings, shown_after}
+use Rattle.fab_commit.specs.Run.Turned.{IsTurned}
+use Rattle.fab_commit.proofs.RunLemmas.Folding.{from_add, step_done}
 use Rattle.fab_run.specs.Ends.{Piece}
 use Rattle.fab_run.specs.Shown.{AreMadeAll}
 use Rattle.fab_run.specs.Watched.{AreOf, AreRising, IsAfter, IsAfterOne, OnlyShowed, PiecesShowStandings, Showed, Source, TurnsShowStandings, WatchersReadInOrder, WatchersReadStandings}

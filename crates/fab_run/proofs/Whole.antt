@@ -10,9 +10,9 @@ use Rattle.fab_file.specs.Written.{IsCut}
 use Rattle.fab_cost.specs.Cost.{cost_of}
 use Rattle.fab_move.specs.Stream.{stream_moves}
 use Rattle.fab_commit.specs.Serial.{Run, Standing, accepted_among, from, stage_at, stage_of}
-use Rattle.fab_commit.specs.Commits.{AnnealOf, IsSameRun, run_of}
-use Rattle.fab_commit.specs.Turns.{redone_in_run}
-use Rattle.fab_commit.proofs.ByTurns.{by_no_turn}
+use Rattle.fab_commit.specs.Run.Commits.{AnnealOf, IsSameRun, run_of}
+use Rattle.fab_commit.specs.Model.Turns.{redone_in_run}
+use Rattle.fab_commit.proofs.RunLemmas.ByTurns.{by_no_turn}
 use Rattle.fab_run.specs.Piece.{end_line, last_line, run_costs, stage_costs, stage_lines}
 use Rattle.fab_arch.specs.Grid.{GridShape}
 use Rattle.fab_net.specs.Netlist.{Netlist}

@@ -3,7 +3,7 @@ use Rattle.std.specs.Prelude.{ℕ, ◌≡◌, List, [], ◌∷◌, ◌++◌, Opt
 use Rattle.fab_text.specs.Lines.{lines}
 use Rattle.fab_net.specs.Netlist.{Netlist}
 use Rattle.fab_commit.specs.Serial.{Run, Standing, accepted_among, from}
-use Rattle.fab_commit.specs.declared.points.Point.{Point}
+use Rattle.fab_commit.specs.declared.run.point.Point.{Point}
 use Rattle.fab_run.specs.declared.inputs.Ending.{Ending}
 use Rattle.fab_run.specs.declared.inputs.Ending.TheVariants.{Finished, Stopped}
 use Rattle.fab_run.specs.declared.inputs.Options.{Options}

@@ -3,11 +3,11 @@ use Rattle.std.specs.Prelude.{ℕ, ◌≡◌, ◌+◌, ◌≤◌, ◌⊎◌, tru
 use Rattle.std.specs.Io.KnownBytes.{Appends}
 use Rattle.fab_site.specs.Placement.{IsLegal, PlacementOf, fixed_at}
 use Rattle.fab_file.specs.Written.{IsCut}
-use Rattle.fab_commit.specs.declared.points.Point.{Point}
-use Rattle.fab_commit.specs.Commits.{AnnealOf, run_of}
-use Rattle.fab_commit.specs.Points.{IsPoint, standing_at}
+use Rattle.fab_commit.specs.declared.run.point.Point.{Point}
+use Rattle.fab_commit.specs.Run.Commits.{AnnealOf, run_of}
+use Rattle.fab_commit.specs.Run.Points.{IsPoint, standing_at}
 use Rattle.fab_commit.specs.Serial.{Run, Standing, accepted_among, from}
-use Rattle.fab_commit.specs.Turns.{redone_in_run}
+use Rattle.fab_commit.specs.Model.Turns.{redone_in_run}
 use Rattle.fab_run.specs.declared.inputs.Ending.{Ending}
 use Rattle.fab_run.specs.declared.inputs.Ending.TheVariants.{Finished, Stopped}
 use Rattle.fab_run.specs.declared.inputs.Outcome.{Outcome}

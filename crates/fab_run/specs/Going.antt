@@ -6,7 +6,7 @@ use Rattle.fab_arch.specs.Grid.{GridShape}
 use Rattle.fab_net.specs.Netlist.{Netlist}
 use Rattle.fab_file.specs.declared.fault.PlaceFault.TheVariants.{BadLabel, Write}
 use Rattle.fab_file.specs.Written.{are_labels}
-use Rattle.fab_commit.specs.declared.points.Point.{Point}
+use Rattle.fab_commit.specs.declared.run.point.Point.{Point}
 use Rattle.fab_run.specs.declared.fault.RunFault.{RunFault}
 use Rattle.fab_run.specs.declared.fault.RunFault.TheVariants.{Arch, Net, Place, Point as PointRole, BatchOutOfRange, WorkersOutOfRange, Report, NoMemory}
 use Rattle.fab_run.specs.Check.{IsDesignFault, MeanDesign}

@@ -12,9 +12,9 @@ use Rattle.fab_file.specs.Place.{StandsFor}
 use Rattle.fab_file.specs.declared.fault.PlaceFault.TheVariants.{Write}
 use Rattle.fab_file.specs.Written.{IsCut, place_text}
 use Rattle.fab_move.specs.Stream.{stream_moves, stream_starts}
-use Rattle.fab_commit.specs.Points.{standing_at}
+use Rattle.fab_commit.specs.Run.Points.{standing_at}
 use Rattle.fab_commit.specs.Serial.{Run, Standing, at_start}
-use Rattle.fab_commit.specs.Commits.{run}
+use Rattle.fab_commit.specs.Run.Commits.{run}
 use Rattle.fab_run.specs.declared.fault.RunFault.{RunFault}
 use Rattle.fab_run.specs.declared.fault.RunFault.TheVariants.{Place, Report, NoMemory}
 use Rattle.fab_run.specs.declared.inputs.Ending.{Ending}

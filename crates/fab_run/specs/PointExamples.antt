@@ -11,7 +11,7 @@ use Rattle.fab_sched.specs.declared.schedules.Cooling.TheVariants.{Factor}
 use Rattle.fab_sched.specs.Annealing.{plan_of}
 use Rattle.fab_file.specs.declared.fault.PlaceFault.TheVariants.{NotAPad, Repeated}
 use Rattle.fab_file.specs.PlaceFaults.{is_repeated}
-use Rattle.fab_commit.specs.declared.points.Point.{Point}
+use Rattle.fab_commit.specs.declared.run.point.Point.{Point}
 use Rattle.fab_run.specs.declared.point_fault.PointFault.TheVariants.{BadField, BadVersion, OutOfRange}
 use Rattle.fab_run.specs.declared.point_fault.PointField.TheVariants.{Array}
 use Rattle.fab_run.specs.declared.point_words.Version.TheVariants.{One, Two}

@@ -11,7 +11,7 @@ use Rattle.fab_file.specs.declared.fault.PlaceFault.{PlaceFault}
 use Rattle.fab_file.specs.declared.fault.PlaceFault.TheVariants.{UnknownBlock, Repeated, NotAPad, BadLine}
 use Rattle.fab_file.specs.Place.{block_in}
 use Rattle.fab_file.specs.PlaceFaults.{block_fault, is_repeated}
-use Rattle.fab_commit.specs.declared.points.Point.{Point}
+use Rattle.fab_commit.specs.declared.run.point.Point.{Point}
 use Rattle.fab_run.specs.declared.point_fault.PointFault.{PointFault}
 use Rattle.fab_run.specs.declared.point_fault.PointFault.TheVariants.{BadVersion, BadField, OutOfRange, Block, NoMemory}
 use Rattle.fab_run.specs.declared.point_fault.PointField.{PointField}

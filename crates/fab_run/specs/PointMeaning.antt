@@ -10,8 +10,8 @@ use Rattle.fab_site.specs.Placement.{fixed_at, site_of}
 use Rattle.fab_sched.specs.Annealing.{IsLawful}
 use Rattle.fab_file.specs.Place.{Places, block_in, names_block, word_at}
 use Rattle.fab_file.specs.PlaceFaults.{is_repeated}
-use Rattle.fab_commit.specs.declared.points.Point.{Point}
-use Rattle.fab_commit.specs.Points.{IsPoint}
+use Rattle.fab_commit.specs.declared.run.point.Point.{Point}
+use Rattle.fab_commit.specs.Run.Points.{IsPoint}
 use Rattle.fab_run.specs.declared.point_words.Version.{Version}
 use Rattle.fab_run.specs.declared.point_words.Version.TheVariants.{One, Two}
 use Rattle.fab_run.specs.PointFields.{version_in, number_in, array_in, schedule_in, stage_in, is_fixed_line, is_end}

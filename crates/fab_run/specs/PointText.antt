@@ -15,8 +15,8 @@ use Rattle.fab_sched.specs.declared.schedules.Cooling.TheVariants.{Factor, Adapt
 use Rattle.fab_sched.specs.declared.schedules.Stage.{Stage}
 use Rattle.fab_sched.specs.Annealing.{IsLawful as IsLawfulPlan, Plan, plan_of}
 use Rattle.fab_file.specs.Written.{ended}
-use Rattle.fab_commit.specs.declared.points.Point.{Point}
-use Rattle.fab_commit.specs.Points.{IsPoint}
+use Rattle.fab_commit.specs.declared.run.point.Point.{Point}
+use Rattle.fab_commit.specs.Run.Points.{IsPoint}
 use Rattle.fab_run.specs.declared.point_fault.PointFault.{PointFault}
 use Rattle.fab_run.specs.declared.point_fault.PointFault.TheVariants.{Write}
 use Rattle.fab_run.specs.PointMeaning.{StandsForPoint}

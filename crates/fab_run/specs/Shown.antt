@@ -2,7 +2,7 @@
 use Rattle.std.specs.Prelude.{ℕ, ◌≡◌, ◌+◌, ◌-◌, ◌≤◌, ◌⊎◌, List, ◌++◌, Option}
 use Rattle.fab_dial.specs.declared.readings.Reading.{Reading}
 use Rattle.fab_commit.specs.Serial.{Run, Standing, from}
-use Rattle.fab_commit.specs.Readings.{HasShown, IsCutAfter, readings}
+use Rattle.fab_commit.specs.Run.Readings.{HasShown, IsCutAfter, readings}
 use Rattle.fab_run.specs.Ends.{IsPiece, IsWithin, Piece}
 
 -- n moves are made from here: the run does not end before the last of them

@@ -3,11 +3,11 @@ use Rattle.std.specs.Prelude.{ℕ, ◌≡◌, ◌+◌, ◌-◌, ◌++◌, List, 
 use Rattle.std.specs.Io.KnownBytes.{Appends}
 use Rattle.fab_file.specs.Written.{IsCut}
 use Rattle.fab_commit.specs.Serial.{Run, Standing, accepted_among, from}
-use Rattle.fab_commit.specs.ByTurns.{IsByTurns}
+use Rattle.fab_commit.specs.Run.ByTurns.{IsByTurns}
 use Rattle.fab_dial.specs.declared.readings.Reading.{Reading}
-use Rattle.fab_commit.specs.Commits.{AnnealOf, IsSameRun, run_of}
-use Rattle.fab_commit.specs.Readings.{readings}
-use Rattle.fab_commit.specs.Turns.{redone_in_run}
+use Rattle.fab_commit.specs.Run.Commits.{AnnealOf, IsSameRun, run_of}
+use Rattle.fab_commit.specs.Run.Readings.{readings}
+use Rattle.fab_commit.specs.Model.Turns.{redone_in_run}
 use Rattle.fab_run.specs.declared.fault.RunFault.{RunFault}
 use Rattle.fab_run.specs.declared.fault.RunFault.TheVariants.{Report}
 use Rattle.fab_run.specs.Ends.{IsPiece, IsWithin}

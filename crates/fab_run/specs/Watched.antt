@@ -3,11 +3,11 @@ use Rattle.std.specs.Prelude.{ℕ, ◌≡◌, ◌+◌, ◌<◌, ◌⊎◌, List,
 use Rattle.std.specs.declared.alloc.AllocError.{AllocError}
 use Rattle.fab_dial.specs.declared.readings.Reading.{Reading}
 use Rattle.fab_dial.specs.Shown.{StartsWith}
-use Rattle.fab_commit.specs.declared.turns.Turn.{Turn}
+use Rattle.fab_commit.specs.declared.run.turn.Turn.{Turn}
 use Rattle.fab_commit.specs.Serial.{Run, Standing, from}
-use Rattle.fab_commit.specs.Commits.{AnnealOf, run_of}
-use Rattle.fab_commit.specs.Readings.{IsShown, reading_at}
-use Rattle.fab_commit.specs.Turned.{IsTurned}
+use Rattle.fab_commit.specs.Run.Commits.{AnnealOf, run_of}
+use Rattle.fab_commit.specs.Run.Readings.{IsShown, reading_at}
+use Rattle.fab_commit.specs.Run.Turned.{IsTurned}
 use Rattle.fab_run.specs.Ends.{Piece}
 use Rattle.fab_run.specs.Shown.{AreMadeAll, AreShown, AreShownInPart}
 

@@ -5,7 +5,7 @@ ghost use Rattle.std.specs.Io.KnownBytes.{Appends};
 ghost use Rattle.fab_site.specs.Placement.{IsLegal};
 ghost use Rattle.fab_sched.specs.Annealing.{IsLawful};
 ghost use Rattle.fab_move.specs.Stream.{stream_moves};
-ghost use Rattle.fab_commit.specs.Commits.{run_of};
+ghost use Rattle.fab_commit.specs.Run.Commits.{run_of};
 ghost use Rattle.fab_run.specs.Piece.{end_line};
 ghost use Rattle.fab_run.specs.Ends.{AreRedone, EndsAs, IsBegun, IsReportCutOf, IsReportOf, IsToldPiece, answer_of, piece_of};
 ghost use Rattle.fab_run.specs.Setting.{texts_of};

@@ -9,7 +9,7 @@ ghost use Rattle.fab_site.specs.Placement.{fixed_at, site_of};
 ghost use Rattle.fab_sched.specs.declared.schedules.Cooling.TheVariants.{Factor};
 ghost use Rattle.fab_sched.specs.Annealing.{IsLawful, MayStand};
 ghost use Rattle.fab_file.specs.Place.{block_in};
-ghost use Rattle.fab_commit.specs.declared.points.Point.{Point as PointOf};
+ghost use Rattle.fab_commit.specs.declared.run.point.Point.{Point as PointOf};
 ghost use Rattle.fab_run.specs.declared.point_fault.PointFault.TheVariants.{BadField, NoMemory, OutOfRange};
 ghost use Rattle.fab_run.specs.declared.point_fault.PointField.TheVariants.{Array, Schedule as ScheduleField, Stage as StageField, Temperature, Range, Total};
 ghost use Rattle.fab_run.specs.PointFields.{is_fixed_line, number_in, array_in, schedule_in, stage_in, version_in};

@@ -3,9 +3,9 @@
 ghost use Rattle.std.specs.Prelude.{◌≡◌, ℕ, ◌+◌, ◌-◌, ◌<◌, ◌≤◌, ◌++◌, Some, OnOk, OnErr, IfOk, IfErr, MatchOption};
 ghost use Rattle.fab_sched.specs.Annealing.{IsLawful};
 ghost use Rattle.fab_commit.specs.Serial.{accepted_among, from, moves_left, stage_of};
-ghost use Rattle.fab_commit.specs.ByTurns.{LeadsByTurns};
-ghost use Rattle.fab_commit.specs.Commits.{IsSameRun, run_of};
-ghost use Rattle.fab_commit.specs.Readings.{readings};
+ghost use Rattle.fab_commit.specs.Run.ByTurns.{LeadsByTurns};
+ghost use Rattle.fab_commit.specs.Run.Commits.{IsSameRun, run_of};
+ghost use Rattle.fab_commit.specs.Run.Readings.{readings};
 ghost use Rattle.fab_run.specs.Piece.{stage_costs, stage_lines};
 ghost use Rattle.fab_run.specs.Placed.{IsReportFault};
 ghost use Rattle.fab_run.specs.Shown.{AreShownBegun, EndsShown, LeadsShown, LeadsShownWithin};

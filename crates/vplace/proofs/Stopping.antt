@@ -3,8 +3,8 @@ use Rattle.std.proofs.Common.{ℕ, ◌≡◌, ◌+◌, inl, inr, ◌∙◌, ap, 
 use Rattle.std.specs.Prelude.{MatchOption, Result, Ok, Err, IfOk}
 use Rattle.fab_arch.specs.Grid.{GridShape, Holds}
 use Rattle.fab_net.specs.Netlist.{Netlist, logic_count, pad_count}
-use Rattle.fab_commit.specs.declared.points.Point.{Point}
-use Rattle.fab_commit.specs.Points.{IsPoint}
+use Rattle.fab_commit.specs.declared.run.point.Point.{Point}
+use Rattle.fab_commit.specs.Run.Points.{IsPoint}
 use Rattle.fab_commit.specs.Serial.{Standing}
 use Rattle.fab_run.specs.declared.inputs.Ending.{Ending}
 use Rattle.fab_run.specs.declared.inputs.Ending.TheVariants.{Finished, Stopped}

@@ -4,7 +4,7 @@ use Rattle.fab_run.specs.declared.inputs.Ending.{Ending}
 use Rattle.fab_run.specs.declared.inputs.Ending.TheVariants.{Finished, Stopped}
 use Rattle.fab_text.specs.Lines.{lines}
 use Rattle.fab_net.specs.Netlist.{Netlist}
-use Rattle.fab_commit.specs.declared.points.Point.{Point}
+use Rattle.fab_commit.specs.declared.run.point.Point.{Point}
 use Rattle.fab_run.specs.Check.{MeanDesign}
 use Rattle.fab_run.specs.PointMeaning.{StandsForPoint}
 use Rattle.fab_run.specs.PointText.{point_text}

@@ -3,7 +3,7 @@
 
 ghost use Rattle.std.specs.Prelude.{◌≡◌, ◌≢◌, ◌⊎◌, OnOk, OnErr, IfOk, IfErr, IfSome, option_map};
 ghost use Rattle.fab_text.specs.Failures.{grown};
-ghost use Rattle.fab_commit.specs.Points.{IsPoint};
+ghost use Rattle.fab_commit.specs.Run.Points.{IsPoint};
 ghost use Rattle.fab_run.specs.Check.{report_failed_with};
 ghost use Rattle.fab_run.specs.Ends.{Answer};
 ghost use Rattle.fab_run.specs.Placed.{AskFor, IsPlaced, IsReportBegun};

@@ -1,4 +1,4 @@
-use Rattle.fab_commit.proofs.Reasons.{moves_compose}
+use Rattle.fab_commit.proofs.ModelLemmas.Reasons.{moves_compose}
 use Rattle.fab_commit.proofs.laws.moves_compose.Goals as goal
 
 pub returns : goal.returns

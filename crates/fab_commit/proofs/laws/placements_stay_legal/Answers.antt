@@ -1,4 +1,4 @@
-use Rattle.fab_commit.proofs.Reasons.{placements_stay_legal}
+use Rattle.fab_commit.proofs.ModelLemmas.Reasons.{placements_stay_legal}
 use Rattle.fab_commit.proofs.laws.placements_stay_legal.Goals as goal
 
 pub returns : goal.returns

@@ -1,4 +1,4 @@
-use Rattle.fab_commit.proofs.Standings.{points_are_told_again}
+use Rattle.fab_commit.proofs.RunLemmas.Standings.{points_are_told_again}
 use Rattle.fab_commit.proofs.laws.points_are_told_again.Goals as goal
 
 pub returns : goal.returns

@@ -1,4 +1,4 @@
-use Rattle.fab_commit.proofs.RunLaws.{redone_in_runs, ways_of_a_beginning, ways_of_a_turn, ways_of_runs}
+use Rattle.fab_commit.proofs.ModelLemmas.RunLaws.{redone_in_runs, ways_of_a_beginning, ways_of_a_turn, ways_of_runs}
 use Rattle.fab_commit.proofs.laws.redone_is_told.Goals as goal
 
 pub returns-clause-beginning : goal.returns-clause-beginning

@@ -1,4 +1,4 @@
-use Rattle.fab_commit.proofs.Reasons.{accepted_serial, redone_serial}
+use Rattle.fab_commit.proofs.ModelLemmas.Reasons.{accepted_serial, redone_serial}
 use Rattle.fab_commit.proofs.laws.spoiled_verdicts_are_serial.Goals as goal
 
 pub returns-clause-accepted : goal.returns-clause-accepted

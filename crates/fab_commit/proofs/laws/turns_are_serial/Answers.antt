@@ -1,4 +1,4 @@
-use Rattle.fab_commit.proofs.TurnLaws.{cut_turns_lead_on, every_batch_is_serial, redone_by_stamps, turns_are_reached, turns_lead_on, ways_of_turns}
+use Rattle.fab_commit.proofs.ModelLemmas.TurnLaws.{cut_turns_lead_on, every_batch_is_serial, redone_by_stamps, turns_are_reached, turns_lead_on, ways_of_turns}
 use Rattle.fab_commit.proofs.laws.turns_are_serial.Goals as goal
 
 pub returns-clause-reached : goal.returns-clause-reached

@@ -1,4 +1,4 @@
-use Rattle.fab_commit.proofs.Reasons.{verdicts_of_their_base}
+use Rattle.fab_commit.proofs.ModelLemmas.Reasons.{verdicts_of_their_base}
 use Rattle.fab_commit.proofs.laws.verdicts_are_of_their_base.Goals as goal
 
 pub returns : goal.returns

@@ -1,7 +1,7 @@
 use Rattle.std.proofs.Common.{◌≡◌, subst, sym, ◌∙◌, rules}
 use Rattle.std.specs.Io.KnownBytes.{Appends}
 use Rattle.fab_move.specs.Stream.{stream_moves}
-use Rattle.fab_commit.specs.Commits.{run_of}
+use Rattle.fab_commit.specs.Run.Commits.{run_of}
 use Rattle.fab_run.specs.RunReport.{final_line}
 use Rattle.fab_run.specs.Piece.{end_line}
 use Rattle.fab_run.specs.Ends.{IsBegun}

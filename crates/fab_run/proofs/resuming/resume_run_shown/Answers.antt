@@ -1,6 +1,6 @@
 use Rattle.std.proofs.Common.{◌≡◌, ◌∙◌, [], ap, sym, subst}
 use Rattle.fab_move.specs.Stream.{stream_moves}
-use Rattle.fab_commit.specs.Points.{going_on}
+use Rattle.fab_commit.specs.Run.Points.{going_on}
 use Rattle.fab_run.specs.Ends.{piece_of}
 use Rattle.fab_run.specs.Going.{Going, IsGoing, IsGoingFault}
 use Rattle.fab_run.specs.Placed.{AskToGoOn, piece_from}

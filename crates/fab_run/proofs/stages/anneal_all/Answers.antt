@@ -2,19 +2,19 @@ use Rattle.std.proofs.Common.{◌≡◌, ℕ, ◌+◌, ◌-◌, ◌<◌, ◌≤�
 use Rattle.std.specs.Io.KnownBytes.{Appends}
 use Rattle.std.proofs.lemmas.List.{append-nil}
 use Rattle.std.proofs.lemmas.Result.{err_from_is_err_and}
-use Rattle.fab_commit.proofs.Folding.{from_add, goes_on}
+use Rattle.fab_commit.proofs.RunLemmas.Folding.{from_add, goes_on}
 use Rattle.fab_run.specs.Stages.{AreCountedOn}
 use Rattle.fab_sched.specs.Annealing.{IsCooling, Plan}
 use Rattle.fab_commit.specs.Serial.{Standing, accepted_among, from, moves_left, stage_at}
-use Rattle.fab_commit.specs.ByTurns.{LeadsByTurns}
-use Rattle.fab_commit.specs.Commits.{run_of}
-use Rattle.fab_commit.proofs.ByTurns.{by_turns_then}
+use Rattle.fab_commit.specs.Run.ByTurns.{LeadsByTurns}
+use Rattle.fab_commit.specs.Run.Commits.{run_of}
+use Rattle.fab_commit.proofs.RunLemmas.ByTurns.{by_turns_then}
 use Rattle.fab_run.specs.Ends.{IsWithin}
 use Rattle.fab_run.specs.Piece.{IsOver, stage_costs, stage_lines}
 use Rattle.fab_run.proofs.Pieces.{left_is, left_there, no_costs, no_lines, over_later}
 use Rattle.fab_run.proofs.Turning.{counted_by_turns, counted_then}
 use Rattle.fab_run.proofs.Telling.{HasTold, appends_none, warmth, colder_by_stage, cut_between, cut_within, short_within, same_run, same_twice, told_on}
-use Rattle.fab_commit.proofs.Showing.{shown_first}
+use Rattle.fab_commit.proofs.RunLemmas.Showing.{shown_first}
 use Rattle.fab_run.specs.Shown.{AreShownBegun, EndsShown, LeadsShown, LeadsShownWithin}
 use Rattle.fab_run.proofs.Showing.{begun_within, shown_all}
 use Rattle.fab_run.proofs.stages.anneal_all.Goals as goal

@@ -1,7 +1,7 @@
 use Rattle.std.proofs.Common.{◌≡◌, ℕ, ◌+◌, ◌-◌, ◌≤◌, Some}
-use Rattle.fab_commit.specs.ByTurns.{LeadsByTurns}
-use Rattle.fab_commit.specs.Commits.{IsSameRun, run_of}
-use Rattle.fab_commit.specs.Readings.{HasShown}
+use Rattle.fab_commit.specs.Run.ByTurns.{LeadsByTurns}
+use Rattle.fab_commit.specs.Run.Commits.{IsSameRun, run_of}
+use Rattle.fab_commit.specs.Run.Readings.{HasShown}
 use Rattle.fab_run.proofs.Telling.{HasTold, warmth}
 use Rattle.fab_run.proofs.stages.anneal_all.Given as goal
 

@@ -1,6 +1,6 @@
 use Rattle.std.proofs.Common.{◌≡◌, ◌+◌, ◌-◌, ◌≤◌, ◌++◌, IfOk, sym, ap, subst, ◌∙◌, arith, rules}
 use Rattle.fab_commit.specs.Serial.{from, moves_left}
-use Rattle.fab_commit.specs.Commits.{run_of}
+use Rattle.fab_commit.specs.Run.Commits.{run_of}
 use Rattle.fab_cost.specs.Cost.{cost_of}
 use Rattle.fab_run.specs.Piece.{cost_at}
 use Rattle.fab_run.proofs.Pieces.{left_is, total_grows, told_line, told_cost}

@@ -1,8 +1,8 @@
 use Rattle.std.proofs.Common.{◌≡◌, ◌+◌, ◌-◌, ◌<◌, ◌++◌, subst, ◌∙◌, arith, rules}
-use Rattle.fab_commit.specs.ByTurns.{LeadsByTurns}
-use Rattle.fab_commit.specs.Commits.{run_of}
+use Rattle.fab_commit.specs.Run.ByTurns.{LeadsByTurns}
+use Rattle.fab_commit.specs.Run.Commits.{run_of}
 use Rattle.fab_commit.specs.Serial.{accepted_among, from, moves_left}
-use Rattle.fab_commit.proofs.ByTurns.{by_turns_then}
+use Rattle.fab_commit.proofs.RunLemmas.ByTurns.{by_turns_then}
 use Rattle.fab_run.proofs.Pieces.{left_le}
 use Rattle.fab_run.proofs.Telling.{same_run, same_twice}
 use Rattle.fab_run.proofs.Turning.{accepted_then, counted_behind, counted_by_turns, from_then, turn_makes_all}

@@ -1,6 +1,6 @@
 use Rattle.std.proofs.Common.{◌≡◌, ◌+◌, ◌-◌, ◌≤◌, ◌++◌}
-use Rattle.fab_commit.specs.ByTurns.{LeadsByTurns}
-use Rattle.fab_commit.specs.Commits.{IsSameRun, run_of}
+use Rattle.fab_commit.specs.Run.ByTurns.{LeadsByTurns}
+use Rattle.fab_commit.specs.Run.Commits.{IsSameRun, run_of}
 use Rattle.fab_commit.specs.Serial.{accepted_among, from}
 use Rattle.fab_run.specs.Shown.{LeadsShown}
 use Rattle.fab_run.proofs.stages.make_part.Given as goal

@@ -1,0 +1,14 @@
+-- Lemmas about the annealer that a run executes.
+pub mod Advancing
+pub mod Annealing
+pub mod Beginning
+pub mod ByTurns
+pub mod CatchingUp
+pub mod Committing
+pub mod Folding
+pub mod Owning
+pub mod Pipelining
+pub mod Showing
+pub mod Stamping
+pub mod Standings
+pub mod Kept

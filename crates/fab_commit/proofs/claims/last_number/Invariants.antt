@@ -1,6 +1,0 @@
-use Rattle.std.proofs.Common.{◌≡◌, drop}
-use Rattle.fab_commit.specs.Worlds.{last_among}
-use Rattle.fab_commit.proofs.claims.last_number.Given as goal
-
-abbrev pub invariant-loop-verdict : goal.invariant-loop-verdict
-invariant-loop-verdict l = last_among l.worker l.verdicts (drop l.verdict-index l.verdicts) ≡ last_among l.worker l.verdicts l.verdicts

@@ -1,6 +1,0 @@
-use Rattle.std.proofs.Common.{◌≡◌, drop}
-use Rattle.fab_commit.specs.World.{verdict_for}
-use Rattle.fab_commit.proofs.claims.verdict_for.Given as goal
-
-abbrev pub invariant-loop-verdict : goal.invariant-loop-verdict
-invariant-loop-verdict l = verdict_for l.number (drop l.verdict-index l.verdicts) ≡ verdict_for l.number l.verdicts

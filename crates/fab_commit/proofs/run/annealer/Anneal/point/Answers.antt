@@ -1,0 +1,23 @@
+use Rattle.std.proofs.Common.{Some, ap, subst, ◌∙◌}
+use Rattle.std.specs.Arc.{arc_value}
+use Rattle.fab_site.specs.Placement.{fixed_at}
+use Rattle.fab_commit.specs.Serial.{Standing}
+use Rattle.fab_commit.specs.Run.Commits.{run_for}
+use Rattle.fab_commit.specs.Run.Points.{TellsPoint}
+use Rattle.fab_commit.proofs.RunLemmas.Beginning.{stage_told}
+use Rattle.fab_commit.proofs.run.annealer.Anneal.point.Goals as goal
+
+pub returns-clause-tells : goal.returns-clause-tells
+returns-clause-tells g c =
+    let a = c.self.inside in
+    let s = a.pipeline.owner.state in
+    let r = run_for g.W.Words.moves (arc_value a.given) in
+    subst (λ m. TellsPoint m c.in_ok-point.point) c.self.view_is
+    (record {
+      schedule = c.in_ok-point.ensures.schedule ∙ ap (λ x. x.schedule) c.deref.ensures;
+      stage = ap Some c.in_ok-point.ensures.stage ∙ stage_told r s c.self.invariant.1.owned.sound c.if-self.false;
+      total = ap (λ (x : Standing). x.total) c.in_ok-point.ensures.stands;
+      fixed = λ b. c.in_ok-point.ensures.fixed b ∙ ap (λ x. fixed_at x.fixed b) c.deref.ensures;
+      array = c.in_ok-point.ensures.lawful.array ∙ ap (λ x. x.grid.now) c.deref.ensures;
+      sites = ap (λ (x : Standing). x.sites) c.in_ok-point.ensures.stands;
+    })

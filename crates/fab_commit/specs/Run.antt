@@ -1,0 +1,10 @@
+-- What contracts say of the annealer that a run executes (our own).
+pub mod Commits
+pub mod Owners
+pub mod Pipelines
+pub mod Points
+pub mod Readings
+pub mod StampTables
+pub mod Workers
+pub mod Turned
+pub mod ByTurns

@@ -1,0 +1,12 @@
+//! What a run executes: an annealer, whose owner commits moves while workers judge the next ones.
+
+pub mod annealer;
+pub mod job;
+mod owner;
+mod pipeline;
+pub mod point;
+mod stamps;
+pub(crate) mod state;
+pub(crate) mod swaps;
+pub mod turn;
+pub mod workers;

@@ -1,0 +1,344 @@
+//! An annealer: moves are judged ahead by workers, and committed in order of number.
+
+ghost use Rattle.std.specs.Prelude.{◌≡◌, ◌↔◌, ◌+◌, ◌-◌, ◌<◌, ◌≤◌, [], map, min, None, Ok, IfOk, IfSome};
+ghost use Rattle.std.specs.Arc.{arc_value};
+ghost use Rattle.fab_cost.specs.Cost.{cost_of};
+ghost use Rattle.fab_sched.specs.Annealing.{IsLawful};
+ghost use Rattle.fab_site.specs.Placement.{IsLegal};
+ghost use Rattle.fab_move.specs.Judge.{says};
+ghost use Rattle.fab_commit.specs.declared.model.judged.JudgedMove.{JudgedMove};
+ghost use Rattle.fab_commit.specs.Serial.{IsStanding, at_start, from, stage_of};
+ghost use Rattle.fab_commit.specs.Run.Commits.{IsSound, run, run_for, run_of, standing_of};
+ghost use Rattle.fab_commit.specs.Run.Points.{IsPoint, TellsPoint, going_on, standing_at};
+ghost use Rattle.fab_commit.specs.Run.Readings.{IsShown, reading_at};
+ghost use Rattle.fab_commit.specs.Run.Turned.{IsTurned};
+
+use crate::run::pipeline::{Pipeline, first_pipeline, turn};
+use crate::run::point::{Point, point_of};
+use crate::run::state::{Given, State, first_state, running, state_at};
+use crate::run::turn::Turn;
+use crate::run::workers::Workers;
+use fab_arch::Grid;
+use fab_board::{Gate, Naming};
+use fab_cost::WireCost;
+use fab_dial::{Dial, Reading, Shower};
+use fab_move::Verdict;
+use fab_net::Design;
+use fab_sched::{Schedule, Stage};
+use fab_site::{Fixed, Placement, Words};
+use std::alloc::{AllocError, Global};
+use std::marker::{Brand, Model};
+use std::sync::{Arc, Wait};
+use std::thread::Threads;
+
+/// Anneals a placement of a design on an array.
+pub struct Anneal<'a, W: Words + Drop> {
+    alloc: Global,
+    given: Arc<Given<'a, W>>,
+    pipeline: Pipeline,
+}
+
+impl<'a, W: Words + Drop> Model for Anneal<'a, W> {
+    ghost use Rattle.std.specs.Prelude.{map};
+    ghost use Rattle.std.specs.Arc.{arc_value};
+    ghost use Rattle.fab_commit.specs.Run.Commits.{AnnealOf, run, run_for, standing_of};
+    ghost use Rattle.fab_commit.specs.Run.Owners.{verdict_of};
+    ghost use Rattle.fab_commit.specs.Run.Pipelines.{HasTurn};
+
+    ghost Value = { AnnealOf W };
+
+    ghost view = { λ a. record {
+      design = (arc_value a.given).design.now;
+      grid = (arc_value a.given).grid.now;
+      fixed = (arc_value a.given).fixed;
+      plan = (arc_value a.given).schedule;
+      words = (arc_value a.given).words;
+      standing = standing_of a.pipeline.owner.state;
+      ahead = map (verdict_of a.pipeline.base) a.pipeline.ahead.items;
+      swaps = a.pipeline.owner.swaps.items;
+      accepted = a.pipeline.owner.state.accepted.items;
+      redone = a.pipeline.owner.redone;
+    } };
+
+    ghost invariant = { λ a. HasTurn (run_for W.moves (arc_value a.given)) a.pipeline };
+}
+
+impl<'a, W: Words + Drop> Drop for Anneal<'a, W> {
+    // This is one call wherever an annealer goes out of scope. A derived `drop` would be proved again at each place.
+    fn drop(self) {
+        let Anneal {
+            alloc: _,
+            given: _,
+            pipeline: _,
+        } = self;
+    }
+}
+
+impl<'a, W: Words + Drop> Anneal<'a, W> {
+    /// Creates an annealer before its first move, with this placement. By contract the placement is a legal one of the array. An error
+    /// means that memory ran out.
+    pub fn new(
+        alloc: Global,
+        design: &'a Design,
+        grid: &'a Grid,
+        placement: Placement,
+        fixed: Fixed,
+        schedule: Schedule,
+        words: W,
+    ) -> Result<Anneal<'a, W>, AllocError>
+        requires legal { IsLegal design.now grid.now fixed placement.sites }
+        ensures { IfOk result (λ a. a ≡ record { design = design.now; grid = grid.now; fixed = fixed; plan = schedule; words = words; standing = at_start (run design.now grid.now fixed (W.moves words) schedule) placement.sites; ahead = []; swaps = []; accepted = []; redone = 0 }) }
+    {
+        let _moves = schedule.moves();
+        let live = first_state(alloc, design, grid, &fixed, &schedule, placement)?;
+        let given = Given {
+            design,
+            grid,
+            fixed,
+            schedule,
+            words,
+        };
+        Anneal::at(alloc, given, live)
+    }
+
+    /// Creates an annealer that goes on from a snapshot of a run. By contract the snapshot is a lawful one of this design and array. The
+    /// annealer has accepted, judged ahead and judged again nothing yet. An error means that memory ran out.
+    pub fn from_point(
+        alloc: Global,
+        design: &'a Design,
+        grid: &'a Grid,
+        point: Point,
+        words: W,
+    ) -> Result<Anneal<'a, W>, AllocError>
+        requires point { IsPoint design.now grid.now point }
+        ensures { IfOk result (λ a. a ≡ going_on design.now grid.now point words) }
+    {
+        let Point {
+            schedule,
+            stage,
+            total,
+            fixed,
+            placement,
+        } = point;
+        let _moves = schedule.moves();
+        let live = state_at(
+            alloc, design, grid, &fixed, &schedule, placement, stage, total,
+        )?;
+        let given = Given {
+            design,
+            grid,
+            fixed,
+            schedule,
+            words,
+        };
+        Anneal::at(alloc, given, live)
+    }
+
+    /// Creates an annealer in this state, with nothing judged.
+    fn at(alloc: Global, given: Given<'a, W>, live: State) -> Result<Anneal<'a, W>, AllocError>
+        requires plan { IsLawful given.schedule }
+        requires sound { IsSound (run_for W.moves given) live }
+        requires none { live.accepted.items ≡ [] }
+        ensures { IfOk result (λ a. a ≡ record { design = given.entry.design.now; grid = given.entry.grid.now; fixed = given.entry.fixed; plan = given.entry.schedule; words = given.entry.words; standing = standing_of live; ahead = []; swaps = []; accepted = []; redone = 0 }) }
+    {
+        let pipeline = first_pipeline(alloc, &given, live)?;
+        match Arc::new(alloc, given) {
+            Ok(given) => Ok(Anneal {
+                alloc,
+                given,
+                pipeline,
+            }),
+            Err(_) => Err(AllocError),
+        }
+    }
+
+    /// A snapshot of the run, for a later run to go on from; `None` after the last move. An error means that memory ran out.
+    pub fn point(&self) -> Result<Option<Point>, AllocError>
+        ensures none { (result ≡ Ok None) ↔ (self.now.standing.heat ≡ None) }
+        ensures tells { IfOk result (λ p. IfSome p (TellsPoint self.now)) }
+        ensures stands { IfOk result (λ p. IfSome p (λ p. standing_at p ≡ self.now.standing)) }
+        // A run can go on from it.
+        ensures lawful { IfOk result (λ p. IfSome p (IsPoint self.now.design self.now.grid)) }
+    {
+        if self.pipeline.owner.state.ended {
+            return Ok(None);
+        }
+        let point = point_of(self.alloc, &self.given, &self.pipeline.owner.state)?;
+        Ok(Some(point))
+    }
+
+    /// How many moves of the run are made.
+    pub fn done(&self) -> u64
+        ensures value { result ≡ self.now.standing.done }
+        // The standing is a lawful one of its run.
+        ensures lawful { IsStanding (run_of W.moves self.now) self.now.standing }
+    {
+        self.pipeline.owner.state.done
+    }
+
+    /// How many moves of the run were accepted in all.
+    pub fn total(&self) -> u64
+        ensures { result ≡ self.now.standing.total }
+    {
+        self.pipeline.owner.state.total
+    }
+
+    /// The wire cost of the placement in ten-thousandths: one sum over all nets.
+    pub fn cost(&self) -> u64
+        ensures { result ≡ cost_of self.now.design self.now.grid self.now.standing.sites }
+    {
+        self.pipeline.owner.state.cost.cost()
+    }
+
+    /// The current placement.
+    pub fn placement(&self) -> &Placement
+        ensures grid { result.now.grid ≡ self.now.grid }
+        ensures sites { result.now.sites ≡ self.now.standing.sites }
+        ensures legal { IsLegal self.now.design self.now.grid self.now.fixed self.now.standing.sites }
+    {
+        &self.pipeline.owner.state.placement
+    }
+
+    /// The stage of the next move; `None` after the last move.
+    pub fn stage(&self) -> Option<Stage>
+        ensures { result ≡ stage_of (run_of W.moves self.now) self.now.standing }
+    {
+        running(&self.given, &self.pipeline.owner.state)
+    }
+
+    /// The numbers of the moves that this value accepted, in order.
+    pub fn accepted(&self) -> &[u64]
+        ensures { result.now ≡ self.now.accepted }
+    {
+        &self.pipeline.owner.state.accepted
+    }
+
+    /// The verdicts that were judged ahead, in order of number: for the next moves of the stage, on the placement at the start of the
+    /// last turn.
+    pub fn ahead(&self) -> &[Verdict]
+        ensures numbers { map (λ v. v.k) result.now ≡ map (λ (v : JudgedMove). v.number) self.now.ahead }
+        ensures says { map says result.now ≡ map (λ (v : JudgedMove). v.judged) self.now.ahead }
+    {
+        &self.pipeline.ahead
+    }
+
+    /// How many moves this value judged again, because a move accepted before them had touched what their verdicts rested on.
+    pub fn redone(&self) -> u64
+        ensures { result ≡ self.now.redone }
+    {
+        self.pipeline.owner.redone
+    }
+
+    /// How far the run has come.
+    fn reading(&self) -> Reading
+        ensures { result ≡ reading_at (run_of W.moves self.now) self.now.standing }
+    {
+        Reading {
+            moves: self.done(),
+            accepted: self.total(),
+            cost: self.cost(),
+        }
+    }
+}
+
+impl<'a, W: Words + Sync + Drop> Anneal<'a, W> {
+    /// Makes the next moves of the running stage, at most `batch` of them, from 1 to 4,096. Returns `Finished` if no move is left after
+    /// them.
+    ///
+    /// While these moves are committed in order of number, workers judge the next batch of the stage on the placement at the turn's
+    /// start, which does not change meanwhile. Verdicts beyond this batch are discarded, and moves of this batch that have no verdict
+    /// are judged first. A move is judged again if a move accepted since has touched what its verdict rests on. The workers' gate is
+    /// called before and after each of their judgements, and before each commit.
+    ///
+    /// An error means that memory ran out. Then the moves that were committed stay, as `done` tells, no worker is judging, nothing is
+    /// judged ahead, and another turn can go on.
+    pub fn turn_by<'g, G: Gate, J: Naming, R: Threads + Wait + Sync>(
+        &mut self,
+        rt: &R,
+        batch: u64,
+        workers: &mut Workers<'a, 'g, W, G, J>,
+    ) -> Result<Turn, AllocError>
+        requires batch { (1 ≤ batch) × (batch ≤ 4096) }
+        ensures turned { IsTurned W.moves batch self.old self.new result }
+    {
+        let alloc = self.alloc;
+        turn(rt, alloc, &self.given, &mut self.pipeline, batch, workers)?;
+        Ok(if self.pipeline.owner.state.ended {
+            Turn::Finished
+        } else {
+            Turn::More
+        })
+    }
+
+    /// Makes the next moves of the running stage, at most `batch` of them, from 1 to 4,096. Returns `Finished` if no move is left after
+    /// them.
+    ///
+    /// While these moves are committed in order of number, `workers` workers, from 1 to 64, judge the next batch of the stage on the
+    /// placement at the turn's start, which does not change meanwhile. Verdicts beyond this batch are discarded, and moves of this batch
+    /// that have no verdict are judged first. A move is judged again if a move accepted since has touched what its verdict rests on. The
+    /// gate is called before and after each judgement of a worker, and before each commit.
+    ///
+    /// An error means that memory ran out. Then the moves that were committed stay, as `done` tells, all workers have ended, nothing is
+    /// judged ahead, and another turn can go on.
+    pub fn turn<G: Gate, R: Threads + Wait + Sync>(
+        &mut self,
+        rt: &R,
+        batch: u64,
+        workers: u64,
+        gate: &G,
+    ) -> Result<Turn, AllocError>
+        requires batch { (1 ≤ batch) × (batch ≤ 4096) }
+        requires workers { (1 ≤ workers) × (workers ≤ 64) }
+        ensures turned { IsTurned W.moves batch self.old self.new result }
+    {
+        let mut workers = Workers::<'_, '_, W, G, Brand>::started(workers, gate);
+        self.turn_by(rt, batch, &mut workers)
+    }
+
+    /// Makes a turn as `turn_by` does, and then shows on the dial how far the run has come: how many moves were made, how many of them
+    /// were accepted, and the cost in ten-thousandths. By contract the shower is one of this dial. Nothing is shown if memory ran out,
+    /// even if the turn made moves, or if no move was left.
+    pub fn turn_shown_by<'g, G: Gate, J: Naming, R: Threads + Wait + Sync>(
+        &mut self,
+        rt: &R,
+        batch: u64,
+        workers: &mut Workers<'a, 'g, W, G, J>,
+        dial: &Dial,
+        shower: &mut Shower,
+    ) -> Result<Turn, AllocError>
+        requires batch { (1 ≤ batch) × (batch ≤ 4096) }
+        requires own { shower.old.dial ≡ dial.now }
+        ensures turned { IsTurned W.moves batch self.old self.new result }
+        ensures dial { shower.new.dial ≡ shower.old.dial }
+        ensures shown { IsShown W.moves self.old self.new result shower.old.shown shower.new.shown }
+    {
+        let before = self.done();
+        let turn = self.turn_by(rt, batch, workers)?;
+        if before < self.done() {
+            dial.show(rt, shower, self.reading());
+        }
+        Ok(turn)
+    }
+
+    /// Makes a turn as `turn` does, and then shows on the dial how far the run has come, as `turn_shown_by` does. By contract the shower
+    /// is one of this dial.
+    pub fn turn_shown<G: Gate, R: Threads + Wait + Sync>(
+        &mut self,
+        rt: &R,
+        batch: u64,
+        workers: u64,
+        gate: &G,
+        dial: &Dial,
+        shower: &mut Shower,
+    ) -> Result<Turn, AllocError>
+        requires batch { (1 ≤ batch) × (batch ≤ 4096) }
+        requires workers { (1 ≤ workers) × (workers ≤ 64) }
+        requires own { shower.old.dial ≡ dial.now }
+        ensures turned { IsTurned W.moves batch self.old self.new result }
+        ensures dial { shower.new.dial ≡ shower.old.dial }
+        ensures shown { IsShown W.moves self.old self.new result shower.old.shown shower.new.shown }
+    {
+        let mut workers = Workers::<'_, '_, W, G, Brand>::started(workers, gate);
+        self.turn_shown_by(rt, batch, &mut workers, dial, shower)
+    }
+}

@@ -1,0 +1,139 @@
+//! When each block, site and net was last touched.
+
+ghost use Rattle.std.specs.Prelude.{◌≡◌, ℕ, ◌<◌, ◌==◌, ◌∷◌, [], if◌then◌else◌, nat_lt, length, is_some, IfOk, slice_index, true};
+ghost use Rattle.std.specs.List.{All, list_any};
+ghost use Rattle.fab_net.specs.declared.pieces.NetId.{NetId};
+ghost use Rattle.fab_site.specs.Index.{index_of};
+ghost use Rattle.fab_move.specs.declared.marks.Mark.{Mark as IsMark};
+ghost use Rattle.fab_move.specs.declared.marks.Mark.TheVariants.{Place as place_mark};
+ghost use Rattle.fab_move.specs.Judge.{block_marks, has_mark, other_marks, touched};
+ghost use Rattle.fab_commit.specs.Run.StampTables.{IsTable, IsWithin, kept_stamp};
+ghost use Rattle.fab_commit.specs.Model.Worlds.{IsBlock};
+
+use fab_arch::{Grid, Site};
+use fab_move::Mark;
+use fab_net::{BlockId, Design, NetId};
+use fab_site::Swap;
+use fab_site::index::{index_of, site_count};
+use std::alloc::{AllocError, Global};
+
+/// For each block, site and net: one more than the number of the last accepted move that touched it, or 0 if none did.
+pub(crate) struct Stamps {
+    blocks: Vec<u64>,
+    places: Vec<u64>,
+    nets: Vec<u64>,
+}
+
+impl Drop for Stamps {
+    // This is one call wherever a value goes out of scope. A derived `drop` would be proved again at each place.
+    fn drop(self) {
+        let Stamps {
+            blocks: _,
+            places: _,
+            nets: _,
+        } = self;
+    }
+}
+
+impl Stamps {
+    /// The stamps while nothing is touched yet.
+    pub(crate) fn new(alloc: Global, design: &Design, grid: &Grid) -> Result<Stamps, AllocError>
+        ensures table { IfOk result (λ s. IsTable design.now grid.now s) }
+        ensures none { IfOk result (λ s. (m : IsMark) → kept_stamp grid.now s m ≡ 0) }
+    {
+        Ok(Stamps {
+            blocks: vec![in alloc; 0u64; design.blocks()]?,
+            places: vec![in alloc; 0u64; site_count(grid)]?,
+            nets: vec![in alloc; 0u64; design.nets()]?,
+        })
+    }
+
+    /// Stamps what an accepted swap touches.
+    pub(crate) fn touch(&mut self, design: &Design, grid: &Grid, swap: &Swap, stamp: u64)
+        requires table { IsTable design.now grid.now self.old }
+        requires within { IsWithin design.now grid.now swap.now }
+        ensures table { IsTable design.now grid.now self.new }
+        ensures touched { (m : IsMark) → kept_stamp grid.now self.new m ≡ (if has_mark m (touched design.now swap.now) then stamp else kept_stamp grid.now self.old m) }
+    {
+        self.touch_other(design, grid, swap.other, stamp);
+        self.touch_block(design, grid, swap.block, stamp);
+        self.touch_site(design, grid, swap.to, stamp);
+        self.touch_site(design, grid, swap.from, stamp);
+    }
+
+    /// Stamps a site.
+    fn touch_site(&mut self, design: &Design, grid: &Grid, site: Site, stamp: u64)
+        requires table { IsTable design.now grid.now self.old }
+        requires there { is_some (index_of grid.now site) ≡ true }
+        ensures table { IsTable design.now grid.now self.new }
+        ensures touched { (m : IsMark) → kept_stamp grid.now self.new m ≡ (if has_mark m (place_mark site ∷ []) then stamp else kept_stamp grid.now self.old m) }
+    {
+        if let Some(place) = index_of(grid, site) {
+            self.places[place] = stamp;
+        }
+    }
+
+    /// Stamps the block that a swap displaces, if any, and its nets.
+    fn touch_other(&mut self, design: &Design, grid: &Grid, other: Option<BlockId>, stamp: u64)
+        requires table { IsTable design.now grid.now self.old }
+        requires block { IsBlock design.now other }
+        ensures table { IsTable design.now grid.now self.new }
+        ensures touched { (m : IsMark) → kept_stamp grid.now self.new m ≡ (if has_mark m (other_marks design.now other) then stamp else kept_stamp grid.now self.old m) }
+    {
+        if let Some(block) = other {
+            self.touch_block(design, grid, block, stamp);
+        }
+    }
+
+    /// Stamps a block and its nets.
+    fn touch_block(&mut self, design: &Design, grid: &Grid, block: BlockId, stamp: u64)
+        requires table { IsTable design.now grid.now self.old }
+        requires block { block.0 < length design.now.kinds }
+        ensures table { IsTable design.now grid.now self.new }
+        ensures touched { (m : IsMark) → kept_stamp grid.now self.new m ≡ (if has_mark m (block_marks design.now block) then stamp else kept_stamp grid.now self.old m) }
+    {
+        self.blocks[block.0 as usize] = stamp;
+        stamp_nets(&mut self.nets, design.nets_of(block), stamp);
+    }
+
+    /// Whether one of the marks was touched by move `base` or a later one.
+    pub(crate) fn any_above(&self, grid: &Grid, base: u64, marks: &[Mark]) -> bool
+        ensures { result ≡ list_any (λ m. nat_lt base (kept_stamp grid.now self.now m)) marks.now }
+    {
+        marks.iter().any(|mark| base < self.of(grid, *mark))
+    }
+
+    /// The stamp of a mark.
+    fn of(&self, grid: &Grid, mark: Mark) -> u64
+        ensures { result ≡ kept_stamp grid.now self.now mark }
+    {
+        match mark {
+            Mark::Block(block) => stamp_at(&self.blocks, block.0 as usize),
+            Mark::Place(site) => match index_of(grid, site) {
+                Some(place) => stamp_at(&self.places, place),
+                None => 0,
+            },
+            Mark::Net(net) => stamp_at(&self.nets, net.0 as usize),
+        }
+    }
+}
+
+fn stamp_at(stamps: &[u64], index: usize) -> u64
+    ensures { result ≡ slice_index stamps.now index }
+{
+    match stamps.get(index) {
+        Some(stamp) => *stamp,
+        None => 0,
+    }
+}
+
+/// Stamps nets.
+fn stamp_nets(stamps: &mut Vec<u64>, nets: &[NetId], stamp: u64)
+    requires { All (λ (n : NetId). n.0 < length stamps.old.items) nets.now }
+    ensures length { length stamps.new.items ≡ length stamps.old.items }
+    ensures each { (k : ℕ) → slice_index stamps.new.items k ≡ (if list_any (λ (n : NetId). k == n.0) nets.now then stamp else slice_index stamps.old.items k) }
+{
+    for net in nets {
+        stamps[net.0 as usize] = stamp;
+    }
+}

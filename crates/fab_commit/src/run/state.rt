@@ -1,0 +1,336 @@
+//! The state of a run, and how one move changes it.
+
+ghost use Rattle.std.specs.Prelude.{◌≡◌, ℕ, ◌+◌, ◌-◌, ◌*◌, ◌^◌, ◌<◌, ◌≤◌, List, [], ◌++◌, max, true, false, length, vec_len, vec_capacity, Some, IfOk};
+ghost use Rattle.fab_sched.specs.Annealing.{IsStage, next_range};
+ghost use Rattle.fab_site.specs.Placement.{IsLegal, IsSwapOf};
+ghost use Rattle.fab_cost.specs.Swapping.{CountedStandsFor};
+ghost use Rattle.fab_move.specs.Judge.{IsDecision, Judged, moved, says};
+ghost use Rattle.fab_commit.specs.Serial.{Run, after_move, at_start, judged_here, left_at, numbers_if, one_if, side, stage_of};
+ghost use Rattle.fab_commit.specs.Run.Commits.{IsAdvanced, IsSound, heat_of, run, run_for, standing_in, standing_of};
+
+use fab_arch::Grid;
+use fab_cost::{EdgeBoxes, WireCost};
+use fab_move::{Decision, Verdict, View, decide, judge};
+use fab_net::Design;
+use fab_sched::{Schedule, Stage};
+use fab_site::{Fixed, Placement, Swap, Words};
+use std::alloc::{AllocError, Global};
+
+/// What a run is given.
+pub(crate) struct Given<'a, W> {
+    pub(crate) design: &'a Design,
+    pub(crate) grid: &'a Grid,
+    pub(crate) fixed: Fixed,
+    pub(crate) schedule: Schedule,
+    pub(crate) words: W,
+}
+
+impl<'a, W: Drop> Drop for Given<'a, W> {
+    // This is one call wherever a value goes out of scope. A derived `drop` would be proved again at each place.
+    fn drop(self) {
+        let Given {
+            design: _,
+            grid: _,
+            fixed: _,
+            schedule: _,
+            words: _,
+        } = self;
+    }
+}
+
+/// The state of a run.
+pub(crate) struct State {
+    pub(crate) placement: Placement,
+    pub(crate) cost: EdgeBoxes,
+    /// The running stage; after the last move, an empty stage after the frozen one.
+    pub(crate) stage: Stage,
+    pub(crate) ended: bool,
+    pub(crate) done: u64,
+    pub(crate) total: u64,
+    /// The numbers of the moves that were accepted.
+    pub(crate) accepted: Vec<u64>,
+}
+
+impl Drop for State {
+    // This is one call wherever a value goes out of scope. A derived `drop` would be proved again at each place.
+    fn drop(self) {
+        let State {
+            placement: _,
+            cost: _,
+            stage: _,
+            ended: _,
+            done: _,
+            total: _,
+            accepted: _,
+        } = self;
+    }
+}
+
+/// The longer side of an array.
+fn side_of(grid: &Grid) -> u16
+    ensures value { result ≡ max grid.now.nx grid.now.ny }
+    ensures limits { (1 ≤ result) × (result ≤ 1000) }
+{
+    grid.nx().max(grid.ny())
+}
+
+/// The stage after one more of its moves, and whether that was the last move of all.
+fn advanced(schedule: &Schedule, side: u16, stage: Stage, accepted: bool) -> (Stage, bool)
+    requires side { (1 ≤ side) × (side ≤ 1000) }
+    requires stage { IsStage schedule.now side stage }
+    requires left { stage.done < schedule.now.moves }
+    ensures { IsAdvanced schedule.now side stage accepted result.0 result.1 }
+{
+    let moves = schedule.moves();
+    let made = Stage {
+        done: stage.done + 1,
+        accepted: stage.accepted + u64::from(accepted),
+        ..stage
+    };
+    if made.done < moves {
+        return (made, false);
+    }
+    match schedule.next_stage(&made, made.accepted, side) {
+        Some(next) => (next, false),
+        None => (behind_the_last(schedule, side, &made), true),
+    }
+}
+
+/// The empty stage after the frozen one.
+fn behind_the_last(schedule: &Schedule, side: u16, frozen: &Stage) -> Stage
+    requires side { (1 ≤ side) × (side ≤ 1000) }
+    requires stage { IsStage schedule.now side frozen.now }
+    ensures { result ≡ record { index = frozen.now.index + 1; t = 0; range = next_range schedule.now side frozen.now.range frozen.now.accepted; done = 0; accepted = 0; frozen = true } }
+{
+    let _moves = schedule.moves();
+    Stage {
+        index: frozen.index + 1,
+        t: 0,
+        range: schedule.next_range(side, frozen.range, frozen.accepted),
+        done: 0,
+        accepted: 0,
+        frozen: true,
+    }
+}
+
+/// Makes the swap of a decision, if it is accepted.
+fn swap_if_accepted(
+    design: &Design,
+    grid: &Grid,
+    placement: &mut Placement,
+    cost: &mut EdgeBoxes,
+    decision: &Decision,
+)
+    requires whole { length design.now.kinds ≡ length placement.old.sites }
+    requires cost { CountedStandsFor cost.old design.now grid.now placement.old.sites }
+    requires array { placement.old.grid ≡ grid.now }
+    requires lawful { (s : Swap) → decision.now.swap ≡ Some s → IsSwapOf grid.now placement.old.sites s }
+    ensures placement { (j : Judged) → IsDecision decision.now j → placement.new ≡ record placement.old { sites = moved placement.old.sites j } }
+    ensures cost { (j : Judged) → IsDecision decision.now j → CountedStandsFor cost.new design.now grid.now (moved placement.old.sites j) }
+{
+    if !decision.accepted {
+        return;
+    }
+    if let Some(swap) = decision.swap {
+        cost.apply(design, grid, placement, &swap);
+        placement.apply(&swap);
+    }
+}
+
+/// Counts a move, if it is accepted.
+fn count(accepted: &mut Vec<u64>, total: &mut u64, number: u64, took: bool)
+    requires room { vec_len accepted.old < vec_capacity accepted.old }
+    requires few { total.old < 2 ^ 61 }
+    ensures accepted { accepted.new.items ≡ accepted.old.items ++ numbers_if number took }
+    ensures total { total.new ≡ total.old + one_if took }
+    ensures room { (vec_len accepted.new ≤ vec_len accepted.old + 1) × (vec_capacity accepted.new ≡ vec_capacity accepted.old) }
+{
+    if took {
+        accepted.push_reserved(number);
+        *total += 1;
+    }
+}
+
+/// Commits the next move as it was decided.
+pub(crate) fn commit<W: Words>(given: &Given<'_, W>, state: &mut State, decision: &Decision)
+    requires sound { IsSound (run_for W.moves given.now) state.old }
+    requires going { state.old.ended ≡ false }
+    requires room { vec_len state.old.accepted < vec_capacity state.old.accepted }
+    requires lawful { (s : Swap) → decision.now.swap ≡ Some s → IsSwapOf given.now.grid.now state.old.placement.sites s }
+    requires decides { IsDecision decision.now (judged_here (run_for W.moves given.now) (standing_of state.old) state.old.done) }
+    ensures stands { standing_of state.new ≡ after_move (run_for W.moves given.now) (standing_of state.old) (judged_here (run_for W.moves given.now) (standing_of state.old) state.old.done) }
+    ensures accepted { state.new.accepted.items ≡ state.old.accepted.items ++ numbers_if state.old.done (judged_here (run_for W.moves given.now) (standing_of state.old) state.old.done).accepted }
+    ensures room { (vec_len state.new.accepted ≤ vec_len state.old.accepted + 1) × (vec_capacity state.new.accepted ≡ vec_capacity state.old.accepted) }
+    ensures sound { IsSound (run_for W.moves given.now) state.new }
+{
+    let side = side_of(given.grid);
+    let _moves = given.schedule.moves();
+    swap_if_accepted(
+        given.design,
+        given.grid,
+        &mut state.placement,
+        &mut state.cost,
+        decision,
+    );
+    count(
+        &mut state.accepted,
+        &mut state.total,
+        state.done,
+        decision.accepted,
+    );
+    let (stage, ended) = advanced(&given.schedule, side, state.stage, decision.accepted);
+    state.stage = stage;
+    state.ended = ended;
+    state.done += 1;
+}
+
+/// The decision of a verdict.
+pub(crate) fn decision_of(verdict: &Verdict) -> Decision
+    ensures { IsDecision result (says verdict.now) }
+{
+    Decision {
+        swap: verdict.swap,
+        delta: verdict.delta,
+        accepted: verdict.accepted,
+    }
+}
+
+/// What a judgement in the running stage reads.
+#[inline(always)]
+fn view_of<'a, W: Words>(given: &'a Given<'_, W>, state: &'a State) -> View<'a, EdgeBoxes, W>
+    ensures design { result.design.now ≡ given.now.design.now }
+    ensures grid { result.grid.now ≡ given.now.grid.now }
+    ensures fixed { result.fixed.now ≡ given.now.fixed }
+    ensures placement { result.placement.now ≡ state.now.placement }
+    ensures cost { result.cost.now ≡ state.now.cost }
+    ensures words { result.words.now ≡ given.now.words }
+    ensures t { result.t ≡ state.now.stage.t }
+    ensures range { result.range ≡ state.now.stage.range }
+{
+    View {
+        design: given.design,
+        grid: given.grid,
+        fixed: &given.fixed,
+        placement: &state.placement,
+        cost: &state.cost,
+        words: &given.words,
+        t: state.stage.t,
+        range: state.stage.range,
+    }
+}
+
+/// Judges a move of the running stage on the current placement.
+pub(crate) fn judge_on<W: Words>(
+    alloc: Global,
+    given: &Given<'_, W>,
+    state: &State,
+    number: u64,
+) -> Result<Verdict, AllocError>
+    requires sound { IsSound (run_for W.moves given.now) state.now }
+    requires going { state.now.ended ≡ false }
+    ensures number { IfOk result (λ v. v.k ≡ number) }
+    ensures lawful { IfOk result (λ v. (s : Swap) → v.swap ≡ Some s → IsSwapOf given.now.grid.now state.now.placement.sites s) }
+    ensures says { IfOk result (λ v. says v ≡ judged_here (run_for W.moves given.now) (standing_of state.now) number) }
+{
+    judge(alloc, &view_of(given, state), number)
+}
+
+/// Decides a move of the running stage on the current placement: the result of [`judge_on`] without the footprint. Allocates nothing.
+pub(crate) fn decide_on<W: Words>(given: &Given<'_, W>, state: &State, number: u64) -> Decision
+    requires sound { IsSound (run_for W.moves given.now) state.now }
+    requires going { state.now.ended ≡ false }
+    ensures lawful { (s : Swap) → result.swap ≡ Some s → IsSwapOf given.now.grid.now state.now.placement.sites s }
+    ensures decides { IsDecision result (judged_here (run_for W.moves given.now) (standing_of state.now) number) }
+{
+    decide(&view_of(given, state), number)
+}
+
+/// The running stage; `None` after the last move.
+pub(crate) fn running<W: Words>(given: &Given<'_, W>, state: &State) -> Option<Stage>
+    requires { IsSound (run_for W.moves given.now) state.now }
+    ensures { result ≡ stage_of (run_for W.moves given.now) (standing_of state.now) }
+{
+    let _moves = given.schedule.moves();
+    if state.ended { None } else { Some(state.stage) }
+}
+
+/// How many moves the running stage still has.
+pub(crate) fn moves_left(schedule: &Schedule, state: &State) -> u64
+    requires inside { state.now.ended ≡ false → state.now.stage.done < schedule.now.moves }
+    requires place { state.now.done ≡ state.now.stage.index * schedule.now.moves + state.now.stage.done }
+    ensures { result ≡ left_at schedule.now.moves state.now.done (heat_of state.now.ended state.now.stage.t) }
+{
+    if state.ended {
+        0
+    } else {
+        schedule.moves() - state.stage.done
+    }
+}
+
+/// The state of a run within a stage, with `total` moves accepted in all. The placement is put on the array first.
+pub(crate) fn state_at(
+    alloc: Global,
+    design: &Design,
+    grid: &Grid,
+    fixed: &Fixed,
+    schedule: &Schedule,
+    placement: Placement,
+    stage: Stage,
+    total: u64,
+) -> Result<State, AllocError>
+    requires legal { IsLegal design.now grid.now fixed.now placement.sites }
+    requires stage { IsStage schedule.now (max grid.now.nx grid.now.ny) stage }
+    requires left { stage.done < schedule.now.moves }
+    requires counted { (stage.accepted ≤ total) × (total ≤ stage.index * schedule.now.moves + stage.done) }
+    ensures sound { IfOk result (λ s. (words : ℕ → List ℕ) → IsSound (run design.now grid.now fixed.now words schedule.now) s) }
+    ensures stands { IfOk result (λ s. standing_of s ≡ standing_in schedule.now stage placement.sites total) }
+    ensures accepted { IfOk result (λ s. s.accepted.items ≡ []) }
+{
+    let moves = schedule.moves();
+    let live = placement.on_array(design, grid)?;
+    let cost = EdgeBoxes::new(alloc, design, grid, &live)?;
+    Ok(State {
+        placement: live,
+        cost,
+        stage,
+        ended: false,
+        done: stage.index * moves + stage.done,
+        total,
+        accepted: Vec::new(alloc),
+    })
+}
+
+/// The state before the first move.
+pub(crate) fn first_state(
+    alloc: Global,
+    design: &Design,
+    grid: &Grid,
+    fixed: &Fixed,
+    schedule: &Schedule,
+    placement: Placement,
+) -> Result<State, AllocError>
+    requires legal { IsLegal design.now grid.now fixed.now placement.sites }
+    ensures sound { IfOk result (λ s. (words : ℕ → List ℕ) → IsSound (run design.now grid.now fixed.now words schedule.now) s) }
+    ensures stands { IfOk result (λ s. (words : ℕ → List ℕ) → standing_of s ≡ at_start (run design.now grid.now fixed.now words schedule.now) placement.sites) }
+    ensures accepted { IfOk result (λ s. s.accepted.items ≡ []) }
+{
+    let _moves = schedule.moves();
+    let first = schedule.first(side_of(grid));
+    state_at(alloc, design, grid, fixed, schedule, placement, first, 0)
+}
+
+/// A copy with the same standing. Its list of accepted moves is empty.
+pub(crate) fn copy_of(alloc: Global, state: &State) -> Result<State, AllocError>
+    ensures stands { IfOk result (λ s. standing_of s ≡ standing_of state.now) }
+    ensures sound { IfOk result (λ s. (r : Run) → IsSound r state.now → IsSound r s) }
+{
+    Ok(State {
+        placement: state.placement.copy()?,
+        cost: state.cost.copy()?,
+        stage: state.stage,
+        ended: state.ended,
+        done: state.done,
+        total: state.total,
+        accepted: Vec::new(alloc),
+    })
+}
