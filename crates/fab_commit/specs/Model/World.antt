@@ -1,6 +1,6 @@
 -- Moves that are judged ahead on an older placement, by any number of workers, in any order (that moves whose sets do not
 -- interact may be made in any order is after Kravitz and Rutenbar; the rest our own).
-use Rattle.std.specs.Prelude.{ℕ, ◌+◌, ◌-◌, ◌*◌, ◌/◌, Bool, not, if◌then◌else◌, nat_lt, nat_le, ◌&&◌, ◌||◌, ◌==◌, List, [], ◌∷◌, ◌++◌, Option, Some, None}
+use Rattle.std.specs.Prelude.{ℕ, ◌+◌, ◌-◌, ◌*◌, ◌/◌, Bool, true, false, not, if◌then◌else◌, nat_lt, nat_le, ◌&&◌, ◌||◌, ◌==◌, List, [], ◌∷◌, ◌++◌, Option, Some, None}
 use Rattle.std.specs.List.{list_any, filter, range_with_len}
 use Rattle.fab_net.specs.Netlist.{Netlist}
 use Rattle.fab_site.specs.declared.pieces.Swap.{Swap}
