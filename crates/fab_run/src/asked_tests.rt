@@ -126,7 +126,7 @@ fn words_of_a_move_are_asked_for_once_for_each_judgement(rt: HostRuntime) -> Res
             };
             let (made, redone) = run_asked(&rt, inputs, &options, &asked)?;
             assert_eq!(rt; made, moves);
-            assert_eq!(rt; asked.load(Ordering::SeqCst), moves + redone);
+            assert_eq!(rt; asked.load(Ordering::SeqCst), moves.saturating_add(redone));
         }
     }
     Ok(())

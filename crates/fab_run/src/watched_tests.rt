@@ -57,6 +57,38 @@ fn shown_bytes<G: Gate, R: AllocGlobal + Threads + Wait + Sync>(
     Ok((shower, bytes))
 }
 
+// The last reading of a run that nobody watches, and what it writes.
+fn last_shown<G: Gate, R: AllocGlobal + Threads + Wait + Sync>(
+    rt: &R,
+    inputs: &Inputs,
+    options: &Options,
+    first: Reading,
+    gate: &G,
+) -> Result<(Reading, Vec<u8>), RunFault> {
+    let alloc = rt.alloc();
+    let (dial, shower, watchers) = Dial::new(rt, alloc, 0, first)?;
+    let (shower, bytes) = shown_bytes(rt, inputs, options, gate, &dial, shower)?;
+    Ok((dial.gather(rt, shower, watchers), bytes))
+}
+
+// The shower after a run of seven blocks or three, which writes these bytes.
+fn shown_as<R: AllocGlobal + Threads + Wait + Abort + Sync>(
+    rt: &R,
+    of_seven: bool,
+    options: &Options,
+    wanted: &[u8],
+    dial: &Dial,
+    shower: Shower,
+) -> Result<Shower, RunFault>
+    requires { shower.dial ≡ dial.now }
+    ensures { IfOk result (λ s. s.dial ≡ dial.now) }
+{
+    let inputs = if of_seven { &SEVEN } else { &INPUTS };
+    let (shower, bytes) = shown_bytes(rt, inputs, options, &NoGate, dial, shower)?;
+    assert!(rt; bytes.as_slice() == wanted);
+    Ok(shower)
+}
+
 // Reads without a pause until the run has ended, whose turns are of three moves: each reading is that after its number of single moves, and
 // none is older than the one read before it.
 fn watch<R: Wait + Abort>(rt: &R, dial: &Dial, mut watcher: Watcher, each: &[Reading]) -> Watcher
@@ -76,15 +108,18 @@ fn watch<R: Wait + Abort>(rt: &R, dial: &Dial, mut watcher: Watcher, each: &[Rea
     watcher
 }
 
-// A run of turns of three moves, which two watchers read on threads of their own; the reading that is gathered, and what was written.
+// A run of turns of three moves, which two watchers read on threads of their own and which writes these bytes; the reading that is gathered.
 fn watched<R: AllocGlobal + Threads + Wait + Abort + Sync>(
     rt: &R,
-    inputs: &Inputs,
+    of_seven: bool,
     options: &Options,
-    first: Reading,
+    wanted: &[u8],
     each: &[Reading],
-) -> Result<(Reading, Vec<u8>), RunFault> {
-    let (dial, shower, watchers) = Dial::new(rt, rt.alloc(), 2, first)?;
+) -> Result<Reading, RunFault> {
+    let Some(first) = each.first() else {
+        return Err(RunFault::NoMemory);
+    };
+    let (dial, shower, watchers) = Dial::new(rt, rt.alloc(), 2, *first)?;
     let shown = &dial;
     let options = Options {
         batch: 3,
@@ -92,10 +127,10 @@ fn watched<R: AllocGlobal + Threads + Wait + Abort + Sync>(
     };
     let (answer, watchers) = thread::join(
         rt,
-        move || -> Result<(Shower, Vec<u8>), RunFault>
+        move || -> Result<Shower, RunFault>
             requires { shower.dial ≡ shown.now }
-            ensures { IfOk result (λ r. r.0.dial ≡ shown.entry.now) }
-        { shown_bytes(rt, inputs, &options, &NoGate, shown, shower) },
+            ensures { IfOk result (λ s. s.dial ≡ shown.entry.now) }
+        { shown_as(rt, of_seven, &options, wanted, shown, shower) },
         move || -> Result<Vec<Watcher>, AllocError>
             requires { All (λ w. w.dial ≡ shown.now) watchers.items }
             ensures { IfOk result (λ v. All (λ w. w.dial ≡ shown.entry.now) v.items) }
@@ -110,8 +145,8 @@ fn watched<R: AllocGlobal + Threads + Wait + Abort + Sync>(
             )
         },
     );
-    let (shower, bytes) = answer?;
-    Ok((dial.gather(rt, shower, watchers?), bytes))
+    let shower = answer?;
+    Ok(dial.gather(rt, shower, watchers?))
 }
 
 // What a whole run writes.
@@ -127,22 +162,9 @@ fn two_watchers_read_a_run_in_order(rt: HostRuntime) -> Result<(), Fail> {
     for moves in 0..=15 {
         each.push(after(moves))?;
     }
-    let (last, bytes) = watched(&rt, &INPUTS, &OPTIONS, after(0), &each)?;
-    assert_eq!(rt; last, after(15));
-    assert!(rt; bytes == whole(rt.alloc())?);
+    let wanted = whole(rt.alloc())?;
+    assert_eq!(rt; watched(&rt, false, &OPTIONS, &wanted, &each)?, after(15));
     Ok(())
-}
-
-// The last reading of a run of these options that nobody watches.
-fn last_shown<G: Gate, R: AllocGlobal + Threads + Wait + Sync>(
-    rt: &R,
-    options: &Options,
-    gate: &G,
-) -> Result<(Reading, Vec<u8>), RunFault> {
-    let alloc = rt.alloc();
-    let (dial, shower, watchers) = Dial::new(rt, alloc, 0, after(0))?;
-    let (shower, bytes) = shown_bytes(rt, &INPUTS, options, gate, &dial, shower)?;
-    Ok((dial.gather(rt, shower, watchers), bytes))
 }
 
 #[test]
@@ -152,7 +174,10 @@ fn a_stopped_run_shows_its_end(rt: HostRuntime) -> Result<(), Fail> {
             stop: Some(stop),
             ..OPTIONS
         };
-        assert_eq!(rt; last_shown(&rt, &options, &NoGate)?.0, after(stop));
+        assert_eq!(rt;
+            last_shown(&rt, &INPUTS, &options, after(0), &NoGate)?.0,
+            after(stop)
+        );
     }
     Ok(())
 }
@@ -225,9 +250,9 @@ fn a_crew_judges_the_next_batch_while_a_batch_is_committed(rt: HostRuntime) -> R
         workers: 2,
         ..OPTIONS
     };
-    let held = last_shown(&rt, &options, &gate)?;
+    let held = last_shown(&rt, &INPUTS, &options, after(0), &gate)?;
     assert_eq!(rt; held.0, after(30));
-    assert!(rt; held.1 == last_shown(&rt, &options, &NoGate)?.1);
+    assert!(rt; held.1 == last_shown(&rt, &INPUTS, &options, after(0), &NoGate)?.1);
     assert_eq!(rt; gate.failed.load(Ordering::SeqCst), 0);
     // Each move is judged once.
     assert_eq!(rt; gate.judged.load(Ordering::SeqCst), 30);
@@ -298,6 +323,8 @@ fn each_reading_is_that_after_single_moves(rt: HostRuntime) -> Result<(), Fail> 
         return Err(Fail::from("no reading"));
     };
     assert_eq!(rt; last.moves, 12_000);
-    assert_eq!(rt; watched(&rt, &SEVEN, &LONG, *first, &each)?.0, *last);
+    let alone = last_shown(&rt, &SEVEN, &LONG, *first, &NoGate)?;
+    assert_eq!(rt; alone.0, *last);
+    assert_eq!(rt; watched(&rt, true, &LONG, &alone.1, &each)?, *last);
     Ok(())
 }
