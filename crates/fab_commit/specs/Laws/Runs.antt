@@ -1,4 +1,4 @@
--- Laws of how many moves are redone when turns are made one after another (our own).
+-- How many moves turns judge again: what is true of one turn, and of several in a row (our own).
 use Rattle.std.specs.Prelude.{ℕ, ◌≡◌, ◌-◌, ◌<◌, ◌≤◌, Bool, true, false, List, [], ◌∷◌, ◌++◌, replicate, take, refl}
 use Rattle.std.specs.List.{count_by, range_with_len}
 use Rattle.fab_commit.specs.declared.model.events.Way.{Way}
