@@ -5,8 +5,8 @@ ghost use Rattle.std.specs.Arc.{arc_value};
 ghost use Rattle.fab_board.specs.Posts.{latest};
 ghost use Rattle.fab_board.specs.Judged.{Placed, AllAnswered, Paired, InOrder, IsGathered};
 
-use crate::judge::vacant;
-use crate::past::{Book, Front, Naming, Opened};
+use crate::book::{Book, Front, Naming, Opened};
+use crate::slots::vacant;
 use std::alloc::{AllocError, Global};
 use std::marker::Model;
 use std::sync::atomic::{AtomicU64, Ordering};
@@ -100,8 +100,8 @@ fn claim_all<E: Task<T>, T: Drop>(
         if from >= count {
             break;
         }
-        let past = from + chunk.min(count - from);
-        for number in from..past {
+        let end = from + chunk.min(count - from);
+        for number in from..end {
             answers.push(job.judge(number)?)?;
             numbers.push(number)?;
         }
@@ -546,7 +546,7 @@ impl<E: Task<T>, T: Drop, J: Naming> Drop for Lead<E, T, J> {
 }
 
 /// Creates a crew that no worker has joined yet, and its owner's end, with no job out. An error means that memory ran out.
-pub fn found<E: Task<T>, T: Drop, J: Naming>(
+pub fn new_crew<E: Task<T>, T: Drop, J: Naming>(
     alloc: Global,
     opened: Opened<E>,
     workers: u64,

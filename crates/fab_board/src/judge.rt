@@ -1,33 +1,34 @@
 // A batch of numbers that threads judge with one borrowed closure.
-ghost use Rattle.std.specs.Prelude.{◌≡◌, ℕ, ◌+◌, ◌^◌, ◌<◌, ◌≤◌, List, [], true, length, map, Ok, Some, IfOk, slice_index_or, replicate, None, All, IsSome};
-ghost use Rattle.fab_board.specs.Judged.{numbers, Answered, IsWorked, filled};
+ghost use Rattle.std.specs.Prelude.{◌≡◌, ℕ, ◌+◌, ◌^◌, ◌<◌, ◌≤◌, [], true, length, Ok, IfOk, slice_index_or, All};
+ghost use Rattle.fab_board.specs.Judged.{numbers, Answered, IsWorked};
 
 use crate::board::{Board, ClaimSeat};
+use crate::gate::Gate;
+use crate::slots::{fill, unwrap_all, vacant};
 use std::alloc::{AllocError, Global};
 use std::sync::Wait;
 use std::thread;
 use std::thread::Threads;
 
-/// What a caller does before and after each judgement and before each commit. For example, a test holds one back until another is
-/// made. `k` is the number that is judged or committed. Each call must return.
-pub trait Gate: Sync {
-    fn before_judge(&self, k: u64);
-
-    fn after_judge(&self, k: u64);
-
-    fn before_commit(&self, k: u64);
+// What judges a number, and the gate around it.
+#[derive(Clone, Copy)]
+struct Gated<'r, G, F> {
+    gate: &'r G,
+    judge: &'r F,
 }
 
-/// The gate that does nothing.
-#[derive(Clone, Copy, Debug)]
-pub struct NoGate;
-
-impl Gate for NoGate {
-    fn before_judge(&self, _k: u64) {}
-
-    fn after_judge(&self, _k: u64) {}
-
-    fn before_commit(&self, _k: u64) {}
+// Judges a number between the gate's two calls.
+fn judged<T: Drop, G: Gate, F: Fn(u64) -> Result<T, AllocError>>(
+    by: &Gated<'_, G, F>,
+    number: u64,
+) -> Result<T, AllocError>
+    requires { F.pre by.now.judge.now number }
+    ensures { F.post by.now.judge.now number result }
+{
+    by.gate.before_judge(number);
+    let judged = (by.judge)(number);
+    by.gate.after_judge(number);
+    judged
 }
 
 // A worker's seat, and its answers by number.
@@ -61,10 +62,10 @@ pub fn judge_batch<
 {
     let threads = workers.min(count);
     if threads < 2 {
-        return judge_in_turn(alloc, first, count, gate, judge);
+        return judge_in_turn(alloc, first, count, &Gated { gate, judge });
     }
     let (board, seats) = Board::new(alloc, count, threads)?;
-    let mut worked = spread(rt, alloc, &board, seats, first, gate, judge)?;
+    let mut worked = spread(rt, alloc, &board, seats, first, &Gated { gate, judge })?;
     let mut slots = vacant(alloc, count)?;
     let mut told = Vec::with_capacity(alloc, worked.len())?;
     while let Some((seat, judged)) = worked.pop() {
@@ -82,20 +83,16 @@ fn judge_in_turn<T: Drop, G: Gate, F: Fn(u64) -> Result<T, AllocError>>(
     alloc: Global,
     first: u64,
     count: u64,
-    gate: &G,
-    judge: &F,
+    by: &Gated<'_, G, F>,
 ) -> Result<Vec<T>, AllocError>
     requires room { first + count < 2 ^ 64 }
-    requires calls { (k : ℕ) → k < count → F.pre judge.now (first + k) }
+    requires calls { (k : ℕ) → k < count → F.pre by.now.judge.now (first + k) }
     ensures len { IfOk result (λ v. length v.items ≡ count) }
-    ensures each { IfOk result (λ v. (j : ℕ) (d : T) → j < count → F.post judge.now (first + j) (Ok (slice_index_or v.items j d))) }
+    ensures each { IfOk result (λ v. (j : ℕ) (d : T) → j < count → F.post by.now.judge.now (first + j) (Ok (slice_index_or v.items j d))) }
 {
     let mut answers = Vec::with_capacity(alloc, count as usize)?;
     for place in 0..count {
-        gate.before_judge(first + place);
-        let judged = judge(first + place);
-        gate.after_judge(first + place);
-        answers.push(judged?)?;
+        answers.push(judged(by, first + place)?)?;
     }
     Ok(answers)
 }
@@ -112,19 +109,21 @@ fn spread<
     board: &Board,
     seats: Vec<ClaimSeat>,
     first: u64,
-    gate: &G,
-    judge: &F,
+    by: &Gated<'_, G, F>,
 ) -> Result<Vec<Worked<T>>, AllocError>
     requires seats { All (λ s. (s.board ≡ board.now.name) × (s.list ≡ [])) seats.items }
     requires room { first + board.now.name.count < 2 ^ 64 }
-    requires calls { (k : ℕ) → k < board.now.name.count → F.pre judge.now (first + k) }
+    requires calls { (k : ℕ) → k < board.now.name.count → F.pre by.now.judge.now (first + k) }
     ensures len { IfOk result (λ v. length v.items ≡ length seats.items) }
-    ensures each { IfOk result (λ v. All (λ w. IsWorked board.now.name (λ k x. F.post judge.now (first + k) (Ok x)) w.0 w.1) v.items) }
+    ensures each { IfOk result (λ v. All (λ w. IsWorked board.now.name (λ k x. F.post by.now.judge.now (first + k) (Ok x)) w.0 w.1) v.items) }
 {
+    // A thread's closure does not support a struct that borrows, so it captures the fields.
+    let gate = by.gate;
+    let judge = by.judge;
     let worker = |seat: ClaimSeat| -> Worked<T>
         requires { (seat.board ≡ board.now.name) × (seat.list ≡ []) × (first + board.now.name.count < 2 ^ 64) × ((k : ℕ) → k < board.now.name.count → F.pre judge.now (first + k)) }
         ensures { IsWorked board.entry.now.name (λ k x. F.post judge.entry.now (first + k) (Ok x)) result.0 result.1 }
-    { work(rt, alloc, board, seat, first, gate, judge) };
+    { work(rt, alloc, board, seat, first, &Gated { gate, judge }) };
     thread::map_vec(rt, seats, &worker)
 }
 
@@ -135,26 +134,22 @@ fn work<R: Wait, T: Drop, G: Gate, F: Fn(u64) -> Result<T, AllocError>>(
     board: &Board,
     mut seat: ClaimSeat,
     first: u64,
-    gate: &G,
-    judge: &F,
+    by: &Gated<'_, G, F>,
 ) -> Worked<T>
     requires seat { (seat.board ≡ board.now.name) × (seat.list ≡ []) }
     requires room { first + board.now.name.count < 2 ^ 64 }
-    requires calls { (k : ℕ) → k < board.now.name.count → F.pre judge.now (first + k) }
+    requires calls { (k : ℕ) → k < board.now.name.count → F.pre by.now.judge.now (first + k) }
     ensures board { result.0.board ≡ board.now.name }
     ensures numbers { IfOk result.1 (λ v. numbers v.items ≡ result.0.list) }
     ensures told { IfOk result.1 (λ v. result.0.told ≡ true) }
-    ensures answers { IfOk result.1 (λ v. Answered (λ k x. (k < board.now.name.count) × F.post judge.now (first + k) (Ok x)) v.items) }
+    ensures answers { IfOk result.1 (λ v. Answered (λ k x. (k < board.now.name.count) × F.post by.now.judge.now (first + k) (Ok x)) v.items) }
 {
     let mut answers = Vec::new(alloc);
     for _turn in rt.forever() {
         let Some(number) = board.claim(&mut seat) else {
             break;
         };
-        gate.before_judge(first + number);
-        let judged = judge(first + number);
-        gate.after_judge(first + number);
-        let Ok(answer) = judged else {
+        let Ok(answer) = judged(by, first + number) else {
             return (seat, Err(AllocError));
         };
         if answers.push((number, answer)).is_err() {
@@ -162,38 +157,4 @@ fn work<R: Wait, T: Drop, G: Gate, F: Fn(u64) -> Result<T, AllocError>>(
         }
     }
     (seat, Ok(answers))
-}
-
-// An empty slot for each number.
-pub fn vacant<T: Drop>(alloc: Global, count: u64) -> Result<Vec<Option<T>>, AllocError>
-    ensures { IfOk result (λ v. v.items ≡ replicate count None) }
-{
-    let mut slots = Vec::with_capacity(alloc, count as usize)?;
-    for _place in 0..count {
-        slots.push(None)?;
-    }
-    Ok(slots)
-}
-
-// Puts each answer into the slot of its number.
-fn fill<T: Drop>(slots: &mut Vec<Option<T>>, mut answers: Vec<(u64, T)>)
-    requires { All (λ p. p.0 < length slots.old.items) answers.items }
-    ensures { slots.new.items ≡ filled slots.old.items answers.items }
-{
-    while let Some((number, answer)) = answers.pop() {
-        slots[number as usize] = Some(answer);
-    }
-}
-
-// Takes the answers out of their slots, which are all full.
-fn unwrap_all<T: Drop>(alloc: Global, slots: Vec<Option<T>>) -> Result<Vec<T>, AllocError>
-    requires { All (λ slot. IsSome slot) slots.items }
-    ensures { IfOk result (λ v. map (λ answer. Some answer) v.items ≡ slots.items) }
-{
-    let mut all = Vec::with_capacity(alloc, slots.len())?;
-    for slot in slots {
-        let Some(answer) = slot else { unreachable!() };
-        all.push(answer)?;
-    }
-    Ok(all)
 }

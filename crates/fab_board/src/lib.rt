@@ -3,12 +3,15 @@
 #![tactic(auto)]
 
 mod board;
+mod book;
 mod crew;
+mod gate;
 mod judge;
-mod past;
 mod rule;
+mod slots;
 
 pub use board::{Board, ClaimSeat, Claims};
-pub use crew::{Lead, Shared, Task, found, work_all};
-pub use judge::{Gate, NoGate, judge_batch};
-pub use past::{Naming, Opened};
+pub use book::{Naming, Opened};
+pub use crew::{Lead, Shared, Task, new_crew, work_all};
+pub use gate::{Gate, NoGate};
+pub use judge::judge_batch;

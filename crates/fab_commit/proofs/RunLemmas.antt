@@ -1,6 +1,7 @@
 -- Lemmas about the annealer that a run executes.
 pub mod Advancing
 pub mod Annealing
+pub mod Turned
 pub mod Beginning
 pub mod ByTurns
 pub mod CatchingUp

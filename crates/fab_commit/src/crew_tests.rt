@@ -1,6 +1,6 @@
 ghost use Rattle.std.specs.Prelude.{◌≡◌, ◌+◌, ◌%◌, ◌^◌};
 
-use fab_board::{Lead, Naming, Opened, Task, found, work_all};
+use fab_board::{Lead, Naming, Opened, Task, new_crew, work_all};
 use std::alloc::{AllocError, Global};
 use std::marker::Brand;
 use std::sync::Wait;
@@ -57,7 +57,7 @@ fn owned_as<'a, J: Naming + Send + Sync, O: Owner, R: Threads + Wait + Sync>(
 ) -> Result<Vec<Vec<u64>>, AllocError>
     requires { opened ≡ J.book }
 {
-    let (crew, lead) = found::<Sums<'a>, u64, J>(alloc, opened, workers)?;
+    let (crew, lead) = new_crew::<Sums<'a>, u64, J>(alloc, opened, workers)?;
     thread::scope(thread::scope_env(), rt, move |scope| {
         let _ = scope.spawn(move || work_all(rt, &crew, workers));
         owner.turns(rt, alloc, judged, lead)

@@ -51,7 +51,7 @@ fn begun<'a, W: Words + Drop>(
 }
 
 /// Makes turns at this pace. Fails if the pace is not one that turns accept.
-fn turned_often<W: Words + Sync + Drop, R: Threads + Wait + Sync>(
+fn turned_often<W: Words + Send + Sync + Drop, R: Threads + Wait + Sync>(
     rt: &R,
     anneal: &mut Anneal<'_, W>,
     pace: Pace,
@@ -153,7 +153,7 @@ struct Part {
 }
 
 /// The first part, the point after it, the point of the annealer that goes on from it, and the second part.
-fn in_two_parts<'a, W: Words + Sync + Drop, R: Threads + Wait + Sync>(
+fn in_two_parts<'a, W: Words + Send + Sync + Drop, R: Threads + Wait + Sync>(
     rt: &R,
     alloc: Global,
     of: &'a Setting,

@@ -1,10 +1,12 @@
 //! What a run executes: an annealer, whose owner commits moves while workers judge the next ones.
 
 pub mod annealer;
+pub mod crew;
 pub mod job;
 mod owner;
 mod pipeline;
 pub mod point;
+mod single_turn;
 mod stamps;
 pub(crate) mod state;
 pub(crate) mod swaps;

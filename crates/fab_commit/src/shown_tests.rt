@@ -25,7 +25,7 @@ fn put_reading(alloc: Global, text: &mut String, reading: Reading) -> Result<(),
 }
 
 /// Makes a shown turn at this pace. Fails if the pace is not one that turns accept.
-fn shown_turn<W: Words + Sync + Drop, R: Threads + Wait + Sync>(
+fn shown_turn<W: Words + Send + Sync + Drop, R: Threads + Wait + Sync>(
     rt: &R,
     anneal: &mut Anneal<'_, W>,
     pace: Pace,
@@ -41,34 +41,34 @@ fn shown_turn<W: Words + Sync + Drop, R: Threads + Wait + Sync>(
     Ok(anneal.turn_shown(rt, pace.batch, pace.workers, &NoGate, dial, shower)?)
 }
 
-/// Makes the turns of a run, and adds to the text what a watcher reads before each.
-fn put_readings<W: Words + Sync + Drop, R: Threads + Wait + Sync>(
+/// Makes the turns of a run. Returns the shower, and what the watcher reads before each turn.
+fn put_readings<W: Words + Send + Sync + Drop, R: Threads + Wait + Sync>(
     rt: &R,
     alloc: Global,
     anneal: &mut Anneal<'_, W>,
     pace: Pace,
     dial: &Dial,
-    mut shower: Shower,
-    mut watcher: Watcher,
-    text: &mut String,
-) -> Result<Shower, Fail>
-    requires shower { shower.dial ≡ dial.now }
-    requires watcher { watcher.dial ≡ dial.now }
-    ensures { IfOk result (λ s. s.dial ≡ dial.now) }
+    ends: (Shower, Watcher),
+) -> Result<(Shower, String), Fail>
+    requires shower { ends.0.dial ≡ dial.now }
+    requires watcher { ends.1.dial ≡ dial.now }
+    ensures { IfOk result (λ r. r.0.dial ≡ dial.now) }
 {
+    let (mut shower, mut watcher) = ends;
+    let mut text = String::new(alloc);
     for _turn in 0..1000u64 {
         let reading = dial.read(rt, &mut watcher);
-        put_reading(alloc, text, reading)?;
+        put_reading(alloc, &mut text, reading)?;
         let turn = shown_turn(rt, anneal, pace, dial, &mut shower)?;
         if turn == Turn::Finished {
             break;
         }
     }
-    Ok(shower)
+    Ok((shower, text))
 }
 
 /// What a watcher reads before each turn of a run, and what is gathered at its end.
-fn readings<W: Words + Sync + Drop, R: Threads + Wait + Sync>(
+fn readings<W: Words + Send + Sync + Drop, R: Threads + Wait + Sync>(
     rt: &R,
     alloc: Global,
     anneal: &mut Anneal<'_, W>,
@@ -83,8 +83,7 @@ fn readings<W: Words + Sync + Drop, R: Threads + Wait + Sync>(
     let Some(watcher) = watchers.pop() else {
         return Err(Fail::from("no watcher"));
     };
-    let mut text = String::new(alloc);
-    let shower = put_readings(rt, alloc, anneal, pace, &dial, shower, watcher, &mut text)?;
+    let (shower, mut text) = put_readings(rt, alloc, anneal, pace, &dial, (shower, watcher))?;
     put_reading(alloc, &mut text, dial.gather(rt, shower, watchers))?;
     Ok(text)
 }

@@ -154,7 +154,7 @@ pub(crate) struct Pace {
 }
 
 /// Makes a turn at this pace. Fails if the pace is not one that turns accept.
-pub(crate) fn turned<W: Words + Sync + Drop, G: Gate, R: Threads + Wait + Sync>(
+pub(crate) fn turned<W: Words + Send + Sync + Drop, G: Gate, R: Threads + Wait + Sync>(
     rt: &R,
     anneal: &mut Anneal<'_, W>,
     pace: Pace,
@@ -167,7 +167,7 @@ pub(crate) fn turned<W: Words + Sync + Drop, G: Gate, R: Threads + Wait + Sync>(
 }
 
 /// Makes turns at this pace. Returns the cost before, a line for each stage that ends, and the state after the turns.
-pub(crate) fn told<W: Words + Sync + Drop, R: Threads + Wait + Sync>(
+pub(crate) fn told<W: Words + Send + Sync + Drop, R: Threads + Wait + Sync>(
     rt: &R,
     alloc: Global,
     anneal: &mut Anneal<'_, W>,

@@ -31,7 +31,7 @@ fn told_end<W: Words + Drop>(alloc: Global, anneal: &Anneal<'_, W>) -> Result<St
 }
 
 /// Makes turns with these batches, again and again, until no move is left.
-fn finish<W: Words + Sync + Drop, G: Gate, R: Threads + Wait + Sync>(
+fn finish<W: Words + Send + Sync + Drop, G: Gate, R: Threads + Wait + Sync>(
     rt: &R,
     alloc: Global,
     anneal: &mut Anneal<'_, W>,
@@ -54,7 +54,7 @@ fn finish<W: Words + Sync + Drop, G: Gate, R: Threads + Wait + Sync>(
 }
 
 /// The whole run: how many moves were judged again, and where it ends.
-fn ended<W: Words + Sync + Drop, G: Gate, R: Threads + Wait + Sync>(
+fn ended<W: Words + Send + Sync + Drop, G: Gate, R: Threads + Wait + Sync>(
     rt: &R,
     alloc: Global,
     anneal: &mut Anneal<'_, W>,
@@ -167,7 +167,7 @@ fn told_ahead<W: Words + Drop>(
 }
 
 /// What is judged ahead after one more turn of one move.
-fn told_ahead_of_a_move<W: Words + Sync + Drop, R: Threads + Wait + Sync>(
+fn told_ahead_of_a_move<W: Words + Send + Sync + Drop, R: Threads + Wait + Sync>(
     rt: &R,
     alloc: Global,
     anneal: &mut Anneal<'_, W>,
@@ -230,7 +230,7 @@ pub(crate) fn eight<'a, W: Words + Drop>(
 }
 
 /// Where a run ends that makes turns of 4, 1, 3 and 2 moves again and again, and then `beyond` turns after its end.
-fn ended_in_a_circle<W: Words + Sync + Drop, R: Threads + Wait + Sync>(
+fn ended_in_a_circle<W: Words + Send + Sync + Drop, R: Threads + Wait + Sync>(
     rt: &R,
     alloc: Global,
     anneal: &mut Anneal<'_, W>,
@@ -271,9 +271,9 @@ fn a_batch_less_than_what_was_judged_ahead_changes_nothing(rt: HostRuntime) -> R
 struct Seen {
     /// How often the words of each move were asked for.
     asked: Vec<AtomicU64>,
-    /// With one worker: the move that is being judged, counted from 1; 0 between judgements.
-    inside: AtomicU64,
-    /// With one worker: for how many moves the words were first asked for outside of the move's judgement.
+    /// For each move, 1 while it is being judged, and else 0.
+    inside: Vec<AtomicU64>,
+    /// For how many moves the words were first asked for outside of the move's judgement.
     outside: AtomicU64,
     /// How many commits were begun, and how many of them were not of the next move.
     commits: AtomicU64,
@@ -284,12 +284,14 @@ impl Seen {
     /// Nothing is seen yet of `moves` moves.
     fn of(alloc: Global, moves: u64) -> Result<Seen, AllocError> {
         let mut asked = Vec::new(alloc);
+        let mut inside = Vec::new(alloc);
         for _move in 0..moves {
             asked.push(AtomicU64::new(0))?;
+            inside.push(AtomicU64::new(0))?;
         }
         Ok(Seen {
             asked,
-            inside: AtomicU64::new(0),
+            inside,
             outside: AtomicU64::new(0),
             commits: AtomicU64::new(0),
             disordered: AtomicU64::new(0),
@@ -302,19 +304,34 @@ impl Seen {
             return;
         };
         let before = asked.fetch_add(1, Ordering::SeqCst);
-        if before == 0 && self.inside.load(Ordering::SeqCst) != k.saturating_add(1) {
+        if before == 0 && !self.is_inside(k) {
             self.outside.fetch_add(1, Ordering::SeqCst);
+        }
+    }
+
+    /// Whether this move is being judged.
+    fn is_inside(&self, k: u64) -> bool {
+        match self.inside.get(k as usize) {
+            Some(inside) => inside.load(Ordering::SeqCst) == 1,
+            None => false,
+        }
+    }
+
+    /// Notes whether this move is being judged.
+    fn put_inside(&self, k: u64, inside: u64) {
+        if let Some(place) = self.inside.get(k as usize) {
+            place.store(inside, Ordering::SeqCst);
         }
     }
 }
 
 impl Gate for Seen {
     fn before_judge(&self, k: u64) {
-        self.inside.store(k.saturating_add(1), Ordering::SeqCst);
+        self.put_inside(k, 1);
     }
 
-    fn after_judge(&self, _k: u64) {
-        self.inside.store(0, Ordering::SeqCst);
+    fn after_judge(&self, k: u64) {
+        self.put_inside(k, 0);
     }
 
     fn before_commit(&self, k: u64) {
@@ -369,7 +386,7 @@ fn told_asked(alloc: Global, seen: &Seen, redone: u64) -> Result<String, AllocEr
 }
 
 /// What is asked for in the whole run.
-fn asked<W: Words + Sync + Drop, R: Threads + Wait + Sync>(
+fn asked<W: Words + Send + Sync + Drop, R: Threads + Wait + Sync>(
     rt: &R,
     alloc: Global,
     anneal: &mut Anneal<'_, W>,
@@ -441,11 +458,12 @@ fn words_of_redone_moves_are_asked_for_twice_and_others_once(rt: HostRuntime) ->
 
 #[test]
 fn words_are_first_asked_for_in_their_judgement(rt: HostRuntime) -> Result<(), Fail> {
-    // With more than one worker this cannot tell which judgement asks.
     for batch in [1, 16] {
-        let seen = Seen::of(rt.alloc(), 500)?;
-        let _asked = eight_asked(&rt, rt.alloc(), Pace { batch, workers: 1 }, &seen)?;
-        assert_eq!(rt; seen.outside.load(Ordering::SeqCst), 0);
+        for workers in [1, 4] {
+            let seen = Seen::of(rt.alloc(), 500)?;
+            let _asked = eight_asked(&rt, rt.alloc(), Pace { batch, workers }, &seen)?;
+            assert_eq!(rt; seen.outside.load(Ordering::SeqCst), 0);
+        }
     }
     Ok(())
 }

@@ -8,8 +8,8 @@ use crate::run_tests::{INPUTS, OPTIONS, SEVEN, SHORT, writer_with};
 use crate::setting::read_setting;
 use crate::stages::Pace;
 use crate::{Inputs, Options, RunFault};
-use fab_board::{Naming, NoGate, Opened, found};
-use fab_commit::{Anneal, Work, Workers};
+use fab_board::{Naming, NoGate, Opened};
+use fab_commit::{Anneal, Work, Workers, found_crew};
 use fab_dial::{Dial, Shower};
 use fab_move::{StreamWords, Verdict};
 use fab_site::{Words, start};
@@ -64,14 +64,14 @@ fn made_beside<
     requires limits { (1 ≤ pace.now.batch) × (pace.now.batch ≤ 4096) × (1 ≤ pace.now.workers) × (pace.now.workers ≤ 64) }
 {
     let mut report = writer_with(alloc, 10_000);
-    let (crew, lead) = found::<Work<'a, 'static, V, NoGate>, Verdict, J>(
+    let (crew, lead) = found_crew::<Work<'a, 'static, V, NoGate>, Verdict, J>(
         alloc,
         opened,
         pace.workers,
     )?;
     let mut course = Course {
         anneal,
-        workers: Workers::standing(lead, pace.workers, &NoGate),
+        workers: Workers::crew(lead, &NoGate),
         costs: Vec::new(alloc),
     };
     anneal_beside(

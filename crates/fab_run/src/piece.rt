@@ -22,8 +22,8 @@ use crate::inputs::{Ending, Inputs, Outcome};
 use crate::report::final_line;
 use crate::stages::Pace;
 use fab_arch::Grid;
-use fab_board::{Gate, Naming, Opened, Shared, Task, found};
-use fab_commit::{Anneal, Work, Workers};
+use fab_board::{Gate, Naming, Opened, Task};
+use fab_commit::{Anneal, Crew, Work, Workers, found_crew};
 use fab_dial::{Dial, Reading, Shower};
 use fab_file::{PlaceFault, write_place};
 use fab_move::{StreamWords, Verdict};
@@ -31,7 +31,7 @@ use fab_net::Design;
 use fab_text::{Sink, write_whole};
 use std::alloc::{AllocError, Global};
 use std::marker::Brand;
-use std::sync::{Arc, Wait};
+use std::sync::Wait;
 use std::thread::Threads;
 
 /// A requested piece, without the annealer that is to make it.
@@ -126,12 +126,12 @@ fn tell_start<W: Sink, P: Sink>(
 /// Does the same while a crew waits, and returns the crew too. On a fault, the crew is dropped here.
 fn start_beside<E: Task<T>, T: Drop, J: Naming, W: Sink, P: Sink>(
     alloc: Global,
-    crew: Arc<Shared<E, T, J>>,
+    crew: Crew<E, T, J>,
     cost: u64,
     head: &[u8],
     report: &mut W,
     place: &mut P,
-) -> Result<(Arc<Shared<E, T, J>>, Vec<u64>), RunFault>
+) -> Result<(Crew<E, T, J>, Vec<u64>), RunFault>
     ensures costs { IfOk result (λ r. r.1.items ≡ cost ∷ []) }
     ensures told { OnOk result (Appends (W.contents report.old) (W.contents report.new) head.now) }
     ensures cut { OnErr result (IsBegun (W.contents report.old) (W.contents report.new) head.now) }
@@ -230,12 +230,12 @@ fn anneal_told<
     ensures shown_cut { OnErr result (AreShownInPart (piece_of stream_moves anneal.entry piece.now.head.items piece.now.pace.stop) piece.now.pace.batch shower.old.shown shower.new.shown) }
 {
     let pace = piece.pace;
-    let (crew, lead) = found::<Work<'a, 'g, StreamWords, G>, Verdict, J>(
+    let (crew, lead) = found_crew::<Work<'a, 'g, StreamWords, G>, Verdict, J>(
         alloc,
         opened,
         pace.workers,
     )?;
-    let workers = Workers::standing(lead, pace.workers, gate);
+    let workers = Workers::crew(lead, gate);
     let (crew, costs) = start_beside(alloc, crew, anneal.cost(), &piece.head, report, place)?;
     let mut course = Course {
         anneal,

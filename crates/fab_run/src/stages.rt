@@ -36,37 +36,6 @@ pub(crate) struct Pace {
     pub(crate) stop: Option<u64>,
 }
 
-/// Makes the moves that are left in the running stage, in turns of one batch.
-fn make_stage<'a, V: Words + Sync + Drop, G: Gate, J: Naming, R: Threads + Wait + Sync>(
-    rt: &R,
-    anneal: &mut Anneal<'a, V>,
-    left: u64,
-    batch: u64,
-    workers: &mut Workers<'a, '_, V, G, J>,
-    dial: &Dial,
-    shower: &mut Shower,
-) -> Result<(), AllocError>
-    requires left { left ≡ moves_left (run_of V.moves anneal.old) anneal.old.standing }
-    requires own { shower.old.dial ≡ dial.now }
-    requires limits { (1 ≤ batch) × (batch ≤ 4096) }
-    ensures same { IsSameRun anneal.old anneal.new }
-    ensures ok { OnOk result (anneal.new.standing.done ≡ anneal.old.standing.done + left) }
-    ensures stands { OnOk result (anneal.new.standing ≡ from (run_of V.moves anneal.old) anneal.old.standing left) }
-    ensures accepted { OnOk result (anneal.new.accepted ≡ anneal.old.accepted ++ accepted_among (run_of V.moves anneal.old) anneal.old.standing left) }
-    ensures turns { OnOk result (LeadsByTurns (run_of V.moves anneal.old) batch anneal.old anneal.new) }
-    ensures dial { shower.new.dial ≡ shower.old.dial }
-    ensures shown { OnOk result (LeadsShown (run_of V.moves anneal.old) batch anneal.old.standing anneal.new.standing shower.old.shown shower.new.shown) }
-    ensures shown_cut { OnErr result (LeadsShownWithin (run_of V.moves anneal.old) batch anneal.old.standing left shower.old.shown shower.new.shown) }
-{
-    let mut made = 0;
-    while made < left {
-        let before = anneal.done();
-        anneal.turn_shown_by(rt, batch, workers, dial, shower)?;
-        made += anneal.done() - before;
-    }
-    Ok(())
-}
-
 /// How many moves the running stage makes before the stop; `None` if the run does not stop before the stage ends. The run has made `done`
 /// moves, and `left` moves of the stage are left.
 fn moves_before(stop: Option<u64>, done: u64, left: u64) -> Option<u64>
@@ -120,7 +89,8 @@ fn make_part<'a, V: Words + Sync + Drop, G: Gate, J: Naming, R: Threads + Wait +
     Ok(())
 }
 
-/// Makes the moves that are left in the running stage, and appends its cost to `costs`. Returns the report's line of the stage.
+/// Makes the moves that are left in the running stage, in turns of one batch, and appends its cost to `costs`. Returns the report's line
+/// of the stage.
 fn end_stage<'a, V: Words + Sync + Drop, G: Gate, J: Naming, R: Threads + Wait + Sync>(
     rt: &R,
     alloc: Global,
@@ -151,7 +121,13 @@ fn end_stage<'a, V: Words + Sync + Drop, G: Gate, J: Naming, R: Threads + Wait +
 {
     let before = anneal.total();
     let _begun = anneal.done();
-    make_stage(rt, anneal, moves - stage.done, batch, workers, dial, shower)?;
+    let left = moves - stage.done;
+    let mut made = 0;
+    while made < left {
+        let done = anneal.done();
+        anneal.turn_shown_by(rt, batch, workers, dial, shower)?;
+        made += anneal.done() - done;
+    }
     let _made = anneal.done();
     let cost = anneal.cost();
     let accepted = stage.accepted + (anneal.total() - before);

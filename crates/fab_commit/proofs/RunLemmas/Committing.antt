@@ -5,7 +5,9 @@ use Rattle.std.proofs.lemmas.Nat.{mod-mul-add}
 use Rattle.fab_cost.specs.Swapping.{CountedStandsFor}
 use Rattle.fab_arch.specs.declared.array.Site.{Site}
 use Rattle.fab_arch.specs.Grid.{GridShape}
+use Rattle.fab_cost.specs.declared.edge_boxes.EdgeBoxes.{EdgeBoxes}
 use Rattle.fab_site.specs.declared.pieces.Swap.{Swap}
+use Rattle.fab_site.specs.declared.places.Placement.{Placement}
 use Rattle.fab_site.specs.Placement.{IsLegal, IsSwapOf, swapped}
 use Rattle.fab_move.specs.declared.verdicts.Decision.{Decision}
 use Rattle.fab_move.specs.Judge.{IsDecision, Judged, moved}
@@ -56,6 +58,53 @@ committed r s t d j k is placed done total side_is next cost = record {
   advanced = subst (λ b. IsAdvanced r.plan (side r) s.stage b t.stage t.ended) is.accepted (subst (λ n. IsAdvanced r.plan n s.stage d.accepted t.stage t.ended) side_is next);
   cost = cost;
 }
+
+-- what the swap of a move, if it is accepted, made of the state
+pub record IsSwapped (r : Run) (s : State) (j : Judged) (m : State) : Type 0 where
+  pub placement : m.placement ≡ record s.placement { sites = moved s.placement.sites j }
+  pub cost : CountedStandsFor m.cost r.problem.design r.problem.grid (moved s.placement.sites j)
+  pub stage : m.stage ≡ s.stage
+  pub ended : m.ended ≡ s.ended
+  pub done : m.done ≡ s.done
+  pub total : m.total ≡ s.total
+  pub accepted : m.accepted ≡ s.accepted
+
+-- the swap was made
+pub with_swap : (r : Run) (s : State) (d : Decision) (j : Judged) (x : Swap) (p : Placement) (k : EdgeBoxes) (m : State) → IsDecision d j → d.accepted ≡ true → d.swap ≡ Some x
+    → m ≡ record s { placement = p; cost = k } → p ≡ record s.placement { sites = swapped s.placement.sites x }
+    → CountedStandsFor k r.problem.design r.problem.grid (swapped s.placement.sites x) → IsSwapped r s j m
+with_swap r s d j x p k m is took there rest placed cost =
+    let made : swapped s.placement.sites x ≡ moved s.placement.sites j = made_by s.placement.sites j (sym is.accepted ∙ took) x (sym is.swap ∙ there) in
+    subst (IsSwapped r s j) (sym rest) (record {
+      placement = placed ∙ ap (λ sites. record s.placement { sites = sites }) made;
+      cost = subst (CountedStandsFor k r.problem.design r.problem.grid) made cost;
+      stage = refl;
+      ended = refl;
+      done = refl;
+      total = refl;
+      accepted = refl;
+    })
+  where
+    made_by : (sites : List Site) (j : Judged) → j.accepted ≡ true → (x : Swap) → j.swap ≡ Some x → swapped sites x ≡ moved sites j
+    made_by sites j took x there = rw (took, there) refl
+
+-- no swap was made, since the move is rejected, or void
+pub with_none : (r : Run) (s m : State) (j : Judged) → CountedStandsFor s.cost r.problem.design r.problem.grid s.placement.sites → moved s.placement.sites j ≡ s.placement.sites → m ≡ s → IsSwapped r s j m
+with_none r s m j cost same is = subst (IsSwapped r s j) (sym is) (record {
+  placement = ap (λ sites. record s.placement { sites = sites }) (sym same);
+  cost = subst (CountedStandsFor s.cost r.problem.design r.problem.grid) (sym same) cost;
+  stage = refl;
+  ended = refl;
+  done = refl;
+  total = refl;
+  accepted = refl;
+})
+
+pub rejected_stays : (sites : List Site) (d : Decision) (j : Judged) → IsDecision d j → d.accepted ≡ false → moved sites j ≡ sites
+rejected_stays sites d j is e = (let no : j.accepted ≡ false = sym is.accepted ∙ e in rw no refl)
+
+pub void_stays : (sites : List Site) (d : Decision) (j : Judged) → IsDecision d j → d.accepted ≡ true → d.swap ≡ None → moved sites j ≡ sites
+void_stays sites d j is took e = (let yes : j.accepted ≡ true = sym is.accepted ∙ took in let none : j.swap ≡ None = sym is.swap ∙ e in rw (yes, none) refl)
 
 pub stands_after : (r : Run) (s t : State) (j : Judged) → IsSound r s → s.ended ≡ false → IsCommitted r s j t → standing_of t ≡ after_move r (standing_of s) j
 stands_after r s t j sound e c =

@@ -1,5 +1,5 @@
 -- Turns on two placements: what is judged, committed and caught up leads from the end of one turn to the end of the next.
-use Rattle.std.proofs.Common.{◌≡◌, ℕ, zero, suc, ◌+◌, ◌-◌, ◌<◌, ◌≤◌, min, Bool, true, false, cond, take, inl, inr, List, [], ◌∷◌, ◌++◌, length, map, get_or, refl, sym, ap, subst, ◌∙◌, arith}
+use Rattle.std.proofs.Common.{◌≡◌, ℕ, zero, suc, ◌+◌, ◌-◌, ◌<◌, ◌≤◌, min, Bool, true, false, cond, take, inl, inr, Result, Ok, Err, IfOk, List, [], ◌∷◌, ◌++◌, length, map, get_or, refl, sym, ap, subst, ◌∙◌, arith}
 use Rattle.std.specs.Arc.{arc_value}
 use Rattle.std.specs.List.{count_by, filter, range_with_len}
 use Rattle.std.proofs.lemmas.List.{ext_get_or, get_or-map, get_or-take, length-map, length-take}
@@ -21,6 +21,11 @@ use Rattle.fab_commit.specs.Model.TurnEvents.{LastTurn, is_redone_behind, stands
 use Rattle.fab_commit.proofs.RunLemmas.Owning.{answer_at, before_on, count_more, get_range, length_range, made_more, none_made, recent_after}
 use Rattle.fab_commit.proofs.ModelLemmas.RunLaws.{redone_from}
 use Rattle.fab_commit.proofs.ModelLemmas.TurnSteps.{range-append}
+
+-- what an answer has, it still has
+pub if_ok : {A E : Type 0} (r : Result A E) (P Q : A → Type 0) → IfOk r P → ((v : A) → P v → Q v) → IfOk r Q
+if_ok (Ok v) P Q p then = then v p
+if_ok (Err e) P Q p then = tt
 
 -- answers one by one are answers together
 pub answers_from : (r : Run) (x : Standing) (k n : ℕ) (answers : List Answer) → length answers ≡ n → ((j : ℕ) (d : Answer) → j < n → IsAnswer r x (k + j) (get_or answers j d)) → AreAnswers r x k answers
@@ -289,3 +294,34 @@ turned r t s now o moves n ahead kept b m low list counted =
   where
     counting : (old mid new a b : ℕ) → mid ≡ old → new ≡ mid + a → a ≡ b → new ≡ old + b
     counting old mid new a b e f g = omega (arith, e, f, g)
+
+-- both parts of a turn's commits: the moves judged ahead, and then those judged at the turn's start
+
+-- what they made together
+pub record AreBoth (r : Run) (o : Owner) (base : ℕ) (ahead : List Answer) (now : Owner) : Type 0 where
+  pub made : HasMade r o (now.state.done - o.state.done) now
+  pub redone : HasCounted r o base ahead now
+
+-- the second part is due where the first was committed
+pub due_second : (r : Run) (o mid : Owner) (base : ℕ) (ahead missing : List Answer) → AreAnswers r (standing_of o.state) (o.state.done + length ahead) missing
+    → length ahead + length missing ≤ moves_left r (standing_of o.state) → HasMade r o (mid.state.done - o.state.done) mid → mid.state.done ≡ o.state.done + length ahead
+    → AreDue r o base ahead → IsDueNext r o mid missing
+due_second r o mid base ahead missing answers left first ok due =
+    let n : mid.state.done - o.state.done ≡ length ahead = omega (arith, ok) in
+    due_next r o mid base ahead missing due (subst (λ k. HasMade r o k mid) n first) answers left
+
+pub both_made : (r : Run) (o found mid now : Owner) (base : ℕ) (ahead missing : List Answer) → HasMade r o 0 found → found.stamps ≡ o.stamps → found.redone ≡ o.redone
+    → (AreDue r found base ahead → IsDueNext r found mid missing)
+    → HasMade r found (mid.state.done - found.state.done) mid → mid.state.done ≡ found.state.done + length ahead
+    → ((due : AreDue r found base ahead) → mid.redone ≡ found.redone + count_by (is_redone r due.start base) (range_with_len found.state.done (mid.state.done - found.state.done)))
+    → HasMade r mid (now.state.done - mid.state.done) now → now.state.done ≡ mid.state.done + length missing
+    → ((due : AreDue r mid found.state.done missing) → now.redone ≡ mid.redone + count_by (is_redone r due.start found.state.done) (range_with_len mid.state.done (now.state.done - mid.state.done)))
+    → AreBoth r o base ahead now
+both_made r o found mid now base ahead missing room stamps same second first ok counted last more then = record {
+  made = made_after r o found now room (made_both r found mid now first last);
+  redone = counted_after r o found now base ahead room stamps same (record {
+    redone = λ due.
+        let next = second due in
+        redone_then r found mid now base (length ahead) due.start next.due.start next.is due.base_is ok (omega (arith, more)) (counted due) (then next.due);
+  });
+}

@@ -1,5 +1,5 @@
 -- How many moves turns judge again: what is true of one turn, and of several in a row (our own).
-use Rattle.std.specs.Prelude.{ℕ, ◌≡◌, ◌-◌, ◌<◌, ◌≤◌, Bool, true, false, List, [], ◌∷◌, ◌++◌, replicate, take, refl}
+use Rattle.std.specs.Prelude.{ℕ, ◌≡◌, ◌-◌, ◌<◌, ◌≤◌, List, [], ◌∷◌, ◌++◌, replicate, take, refl}
 use Rattle.std.specs.List.{count_by, range_with_len}
 use Rattle.fab_commit.specs.declared.model.events.Way.{Way}
 use Rattle.fab_commit.specs.declared.model.events.Way.TheVariants.{Taken, Redone, Late}

@@ -1,19 +1,20 @@
 -- What an annealer that judges ahead keeps, as contracts see it (our own).
-use Rattle.std.specs.Prelude.{ℕ, ◌≡◌, ◌+◌, List, [], ◌++◌, length, map}
+use Rattle.std.specs.Prelude.{ℕ, ◌≡◌, ◌+◌, ◌-◌, ◌<◌, ◌≤◌, min, List, [], ◌++◌, length, map, Result, OnOk, OnErr}
+use Rattle.std.specs.declared.alloc.AllocError.{AllocError}
 use Rattle.std.specs.Arc.{arc_value}
 use Rattle.std.specs.List.{count_by, filter, range_with_len}
 use Rattle.fab_sched.specs.Annealing.{IsLawful}
 use Rattle.fab_move.specs.declared.verdicts.Verdict.{Verdict as Answer}
 use Rattle.fab_commit.specs.declared.run.pipeline.Pipeline.{Pipeline}
 use Rattle.fab_commit.specs.declared.run.swaps.Accepted.{Accepted}
-use Rattle.fab_commit.specs.Serial.{Run, Standing, accepted_among}
+use Rattle.fab_commit.specs.Serial.{Run, Standing, accepted_among, moves_left}
 use Rattle.fab_commit.specs.Run.Commits.{IsSound, standing_of}
 use Rattle.fab_commit.specs.Model.History.{accepted_from}
 use Rattle.fab_commit.specs.Run.Owners.{AreAnswers, IsOwned, KeepsKind, since, verdict_of}
 use Rattle.fab_commit.specs.Run.StampTables.{AreStamps}
 use Rattle.fab_commit.specs.Model.Stamps.{AreBefore}
 use Rattle.fab_commit.specs.Model.World.{World}
-use Rattle.fab_commit.specs.Model.TurnEvents.{LastTurn, IsOfAStage, is_redone_behind, stands, verdict_on}
+use Rattle.fab_commit.specs.Model.TurnEvents.{LastTurn, IsOfAStage, is_redone_behind, next_turn, stands, verdict_on}
 
 -- an answer for move k on a placement
 pub record IsAnswer (r : Run) (x : Standing) (k : ℕ) (a : Answer) : Type 0 where
@@ -44,6 +45,14 @@ pub record HasTurned (r : Run) (t : LastTurn) (s : Pipeline) (made ahead : ℕ) 
   pub behind : IsBehind r (record { start = stands r t; made = made; ahead = ahead }) now
   pub accepted : now.owner.state.accepted.items ≡ s.owner.state.accepted.items ++ accepted_among r (stands r t) made
   pub redone : now.owner.redone ≡ s.owner.redone + count_by (is_redone_behind r t) (range_with_len (stands r t).done made)
+
+-- a turn of at most `batch` moves, whatever turn led to it: it made its moves and judged the next batch; or it was cut short, because memory
+-- ran out, and nothing is judged ahead
+pub record TurnsOn {A : Type 0} (r : Run) (batch : ℕ) (s now : Pipeline) (answer : Result A AllocError) : Type 0 where
+  pub within : (s.owner.state.done ≤ now.owner.state.done) × (now.owner.state.done ≤ s.owner.state.done + min batch (moves_left r (standing_of s.owner.state)))
+  pub ok : OnOk answer ((t : LastTurn) → IsBehind r t s → HasTurned r t s (next_turn r batch t).made (next_turn r batch t).ahead now)
+  pub err : OnErr answer ((t : LastTurn) → IsBehind r t s → HasTurned r t s (now.owner.state.done - s.owner.state.done) 0 now)
+  pub some : OnErr answer (0 < moves_left r (standing_of s.owner.state))
 
 -- some turn led here
 abbrev pub HasTurn : Run → Pipeline → Type 0

@@ -1,5 +1,5 @@
 -- The job of a crew, as contracts see it (our own).
-use Rattle.std.specs.Prelude.{ℕ, ◌≡◌, ◌+◌, ◌<◌, ◌^◌, List, false}
+use Rattle.std.specs.Prelude.{ℕ, ◌≡◌, ◌<◌, ◌≤◌, ◌^◌, List, false}
 use Rattle.fab_commit.specs.declared.run.state.Given.{Given}
 use Rattle.fab_commit.specs.declared.run.state.State.{State}
 use Rattle.fab_commit.specs.Run.Commits.{IsSound, run_for}
@@ -15,4 +15,4 @@ pub record WorkOf (W : Type 0) : Type 0 where
 pub record MayBeJudged {W : Type 0} (words : W → ℕ → List ℕ) (w : WorkOf W) : Type 0 where
   pub sound : IsSound (run_for words w.given) w.older
   pub going : 0 < w.moves → w.older.ended ≡ false
-  pub fits : w.first + w.moves < 2 ^ 64
+  pub fits : (w.first ≤ 2 ^ 62) × (w.moves ≤ 4096)

@@ -20,7 +20,6 @@ use std::marker::Model;
 /// Anneals a placement with moves judged ahead, but without workers: the caller decides which event happens next. Whatever the events
 /// are, the placement is that of moves made one at a time.
 pub struct World<'a, W: Words + Drop> {
-    alloc: Global,
     given: Given<'a, W>,
     state: WorldState,
 }
@@ -47,11 +46,7 @@ impl<'a, W: Words + Drop> Model for World<'a, W> {
 impl<'a, W: Words + Drop> Drop for World<'a, W> {
     // This is one call wherever a world goes out of scope. A derived `drop` would be proved again at each place.
     fn drop(self) {
-        let World {
-            alloc: _,
-            given: _,
-            state: _,
-        } = self;
+        let World { given: _, state: _ } = self;
     }
 }
 
@@ -71,19 +66,17 @@ impl<'a, W: Words + Drop> World<'a, W> {
         ensures { IfOk result (λ w. w ≡ record { design = design.now; grid = grid.now; fixed = fixed; plan = schedule; words = words; world = world (at_start (run design.now grid.now fixed (W.moves words) schedule) placement.sites); ways = [] }) }
     {
         let _moves = schedule.moves();
-        let live = first_state(alloc, design, grid, &fixed, &schedule, placement)?;
-        let state = first_world(alloc, live)?;
-        Ok(World {
+        let given = Given {
             alloc,
-            given: Given {
-                design,
-                grid,
-                fixed,
-                schedule,
-                words,
-            },
-            state,
-        })
+            design,
+            grid,
+            fixed,
+            schedule,
+            words,
+        };
+        let live = first_state(&given, placement)?;
+        let state = first_world(alloc, live)?;
+        Ok(World { given, state })
     }
 
     /// Applies an event. An event that does not apply changes nothing. An error means that memory ran out; then everything stays as it was.
@@ -93,7 +86,7 @@ impl<'a, W: Words + Drop> World<'a, W> {
         ensures ways { OnOk result (self.new.ways ≡ self.old.ways ++ ways_now (run_in W.moves self.old) self.old.world event) }
         ensures unchanged { OnErr result (self.new ≡ self.old) }
     {
-        step(self.alloc, &self.given, &mut self.state, event)
+        step(self.given.alloc, &self.given, &mut self.state, event)
     }
 
     /// How many moves are made.

@@ -102,7 +102,7 @@ fn judge<W: Words>(
         drop_claim(&mut state.claims, worker);
         return Ok(());
     }
-    let answer = judge_on(alloc, given, &state.older, number)?;
+    let answer = judge_on(given, &state.older, number)?;
     state.verdicts.push(JudgedMove {
         worker,
         number,
@@ -184,7 +184,7 @@ fn judge_and_make<W: Words>(
     ensures accepted { OnOk result (accepted.new.items ≡ accepted.old.items ++ accepted_now live.old.done (judged_here (run_for W.moves given.now) (standing_of live.old) live.old.done)) }
     ensures err { OnErr result ((standing_of live.new ≡ standing_of live.old) × (accepted.new.items ≡ accepted.old.items)) }
 {
-    let answer = judge_on(alloc, given, live, live.done)?;
+    let answer = judge_on(given, live, live.done)?;
     make(given, live, accepted, &decision_of(&answer));
     Ok(())
 }

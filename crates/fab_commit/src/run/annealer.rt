@@ -1,6 +1,6 @@
 //! An annealer: moves are judged ahead by workers, and committed in order of number.
 
-ghost use Rattle.std.specs.Prelude.{◌≡◌, ◌↔◌, ◌+◌, ◌-◌, ◌<◌, ◌≤◌, [], map, min, None, Ok, IfOk, IfSome};
+ghost use Rattle.std.specs.Prelude.{◌≡◌, ◌↔◌, ◌+◌, ◌-◌, ◌<◌, ◌≤◌, [], ◌∷◌, ◌++◌, map, min, None, Ok, IfOk, IfSome};
 ghost use Rattle.std.specs.Arc.{arc_value};
 ghost use Rattle.fab_cost.specs.Cost.{cost_of};
 ghost use Rattle.fab_sched.specs.Annealing.{IsLawful};
@@ -8,12 +8,12 @@ ghost use Rattle.fab_site.specs.Placement.{IsLegal};
 ghost use Rattle.fab_move.specs.Judge.{says};
 ghost use Rattle.fab_commit.specs.declared.model.judged.JudgedMove.{JudgedMove};
 ghost use Rattle.fab_commit.specs.Serial.{IsStanding, at_start, from, stage_of};
-ghost use Rattle.fab_commit.specs.Run.Commits.{IsSound, run, run_for, run_of, standing_of};
+ghost use Rattle.fab_commit.specs.Run.Commits.{IsSound, run, run_for, run_of, standing_of, turn_of};
 ghost use Rattle.fab_commit.specs.Run.Points.{IsPoint, TellsPoint, going_on, standing_at};
 ghost use Rattle.fab_commit.specs.Run.Readings.{IsShown, reading_at};
 ghost use Rattle.fab_commit.specs.Run.Turned.{IsTurned};
 
-use crate::run::pipeline::{Pipeline, first_pipeline, turn};
+use crate::run::pipeline::{Pipeline, first_pipeline, make_turn};
 use crate::run::point::{Point, point_of};
 use crate::run::state::{Given, State, first_state, running, state_at};
 use crate::run::turn::Turn;
@@ -27,15 +27,14 @@ use fab_net::Design;
 use fab_sched::{Schedule, Stage};
 use fab_site::{Fixed, Placement, Words};
 use std::alloc::{AllocError, Global};
-use std::marker::{Brand, Model};
+use std::marker::Model;
 use std::sync::{Arc, Wait};
 use std::thread::Threads;
 
 /// Anneals a placement of a design on an array.
 pub struct Anneal<'a, W: Words + Drop> {
-    alloc: Global,
-    given: Arc<Given<'a, W>>,
-    pipeline: Pipeline,
+    pub(crate) given: Arc<Given<'a, W>>,
+    pub(crate) pipeline: Pipeline,
 }
 
 impl<'a, W: Words + Drop> Model for Anneal<'a, W> {
@@ -67,7 +66,6 @@ impl<'a, W: Words + Drop> Drop for Anneal<'a, W> {
     // This is one call wherever an annealer goes out of scope. A derived `drop` would be proved again at each place.
     fn drop(self) {
         let Anneal {
-            alloc: _,
             given: _,
             pipeline: _,
         } = self;
@@ -90,15 +88,16 @@ impl<'a, W: Words + Drop> Anneal<'a, W> {
         ensures { IfOk result (λ a. a ≡ record { design = design.now; grid = grid.now; fixed = fixed; plan = schedule; words = words; standing = at_start (run design.now grid.now fixed (W.moves words) schedule) placement.sites; ahead = []; swaps = []; accepted = []; redone = 0 }) }
     {
         let _moves = schedule.moves();
-        let live = first_state(alloc, design, grid, &fixed, &schedule, placement)?;
         let given = Given {
+            alloc,
             design,
             grid,
             fixed,
             schedule,
             words,
         };
-        Anneal::at(alloc, given, live)
+        let live = first_state(&given, placement)?;
+        Anneal::at(given, live)
     }
 
     /// Creates an annealer that goes on from a snapshot of a run. By contract the snapshot is a lawful one of this design and array. The
@@ -121,33 +120,29 @@ impl<'a, W: Words + Drop> Anneal<'a, W> {
             placement,
         } = point;
         let _moves = schedule.moves();
-        let live = state_at(
-            alloc, design, grid, &fixed, &schedule, placement, stage, total,
-        )?;
         let given = Given {
+            alloc,
             design,
             grid,
             fixed,
             schedule,
             words,
         };
-        Anneal::at(alloc, given, live)
+        let live = state_at(&given, placement, stage, total)?;
+        Anneal::at(given, live)
     }
 
     /// Creates an annealer in this state, with nothing judged.
-    fn at(alloc: Global, given: Given<'a, W>, live: State) -> Result<Anneal<'a, W>, AllocError>
+    fn at(given: Given<'a, W>, live: State) -> Result<Anneal<'a, W>, AllocError>
         requires plan { IsLawful given.schedule }
         requires sound { IsSound (run_for W.moves given) live }
         requires none { live.accepted.items ≡ [] }
         ensures { IfOk result (λ a. a ≡ record { design = given.entry.design.now; grid = given.entry.grid.now; fixed = given.entry.fixed; plan = given.entry.schedule; words = given.entry.words; standing = standing_of live; ahead = []; swaps = []; accepted = []; redone = 0 }) }
     {
-        let pipeline = first_pipeline(alloc, &given, live)?;
+        let alloc = given.alloc;
+        let pipeline = first_pipeline(&given, live)?;
         match Arc::new(alloc, given) {
-            Ok(given) => Ok(Anneal {
-                alloc,
-                given,
-                pipeline,
-            }),
+            Ok(given) => Ok(Anneal { given, pipeline }),
             Err(_) => Err(AllocError),
         }
     }
@@ -163,7 +158,7 @@ impl<'a, W: Words + Drop> Anneal<'a, W> {
         if self.pipeline.owner.state.ended {
             return Ok(None);
         }
-        let point = point_of(self.alloc, &self.given, &self.pipeline.owner.state)?;
+        let point = point_of(&self.given, &self.pipeline.owner.state)?;
         Ok(Some(point))
     }
 
@@ -229,6 +224,17 @@ impl<'a, W: Words + Drop> Anneal<'a, W> {
         self.pipeline.owner.redone
     }
 
+    /// Whether moves are left.
+    pub(crate) fn left(&self) -> Turn
+        ensures { result ≡ turn_of self.now.standing.heat }
+    {
+        if self.pipeline.owner.state.ended {
+            Turn::Finished
+        } else {
+            Turn::More
+        }
+    }
+
     /// How far the run has come.
     fn reading(&self) -> Reading
         ensures { result ≡ reading_at (run_of W.moves self.now) self.now.standing }
@@ -239,65 +245,22 @@ impl<'a, W: Words + Drop> Anneal<'a, W> {
             cost: self.cost(),
         }
     }
+
+    /// Shows on the dial how far the run has come, if more than `before` moves are made.
+    pub(crate) fn show_since<R: Wait>(&self, rt: &R, before: u64, dial: &Dial, shower: &mut Shower)
+        requires own { shower.old.dial ≡ dial.now }
+        ensures dial { shower.new.dial ≡ shower.old.dial }
+        ensures some { before < self.now.standing.done → shower.new.shown ≡ shower.old.shown ++ reading_at (run_of W.moves self.now) self.now.standing ∷ [] }
+        ensures none { self.now.standing.done ≤ before → shower.new.shown ≡ shower.old.shown }
+    {
+        if before < self.done() {
+            dial.show(rt, shower, self.reading());
+        }
+    }
 }
 
 impl<'a, W: Words + Sync + Drop> Anneal<'a, W> {
-    /// Makes the next moves of the running stage, at most `batch` of them, from 1 to 4,096. Returns `Finished` if no move is left after
-    /// them.
-    ///
-    /// While these moves are committed in order of number, workers judge the next batch of the stage on the placement at the turn's
-    /// start, which does not change meanwhile. Verdicts beyond this batch are discarded, and moves of this batch that have no verdict
-    /// are judged first. A move is judged again if a move accepted since has touched what its verdict rests on. The workers' gate is
-    /// called before and after each of their judgements, and before each commit.
-    ///
-    /// An error means that memory ran out. Then the moves that were committed stay, as `done` tells, no worker is judging, nothing is
-    /// judged ahead, and another turn can go on.
-    pub fn turn_by<'g, G: Gate, J: Naming, R: Threads + Wait + Sync>(
-        &mut self,
-        rt: &R,
-        batch: u64,
-        workers: &mut Workers<'a, 'g, W, G, J>,
-    ) -> Result<Turn, AllocError>
-        requires batch { (1 ≤ batch) × (batch ≤ 4096) }
-        ensures turned { IsTurned W.moves batch self.old self.new result }
-    {
-        let alloc = self.alloc;
-        turn(rt, alloc, &self.given, &mut self.pipeline, batch, workers)?;
-        Ok(if self.pipeline.owner.state.ended {
-            Turn::Finished
-        } else {
-            Turn::More
-        })
-    }
-
-    /// Makes the next moves of the running stage, at most `batch` of them, from 1 to 4,096. Returns `Finished` if no move is left after
-    /// them.
-    ///
-    /// While these moves are committed in order of number, `workers` workers, from 1 to 64, judge the next batch of the stage on the
-    /// placement at the turn's start, which does not change meanwhile. Verdicts beyond this batch are discarded, and moves of this batch
-    /// that have no verdict are judged first. A move is judged again if a move accepted since has touched what its verdict rests on. The
-    /// gate is called before and after each judgement of a worker, and before each commit.
-    ///
-    /// An error means that memory ran out. Then the moves that were committed stay, as `done` tells, all workers have ended, nothing is
-    /// judged ahead, and another turn can go on.
-    pub fn turn<G: Gate, R: Threads + Wait + Sync>(
-        &mut self,
-        rt: &R,
-        batch: u64,
-        workers: u64,
-        gate: &G,
-    ) -> Result<Turn, AllocError>
-        requires batch { (1 ≤ batch) × (batch ≤ 4096) }
-        requires workers { (1 ≤ workers) × (workers ≤ 64) }
-        ensures turned { IsTurned W.moves batch self.old self.new result }
-    {
-        let mut workers = Workers::<'_, '_, W, G, Brand>::started(workers, gate);
-        self.turn_by(rt, batch, &mut workers)
-    }
-
-    /// Makes a turn as `turn_by` does, and then shows on the dial how far the run has come: how many moves were made, how many of them
-    /// were accepted, and the cost in ten-thousandths. By contract the shower is one of this dial. Nothing is shown if memory ran out,
-    /// even if the turn made moves, or if no move was left.
+    /// Makes a turn as [`Anneal::turn_shown`] does, with workers that stay for the next turn.
     pub fn turn_shown_by<'g, G: Gate, J: Naming, R: Threads + Wait + Sync>(
         &mut self,
         rt: &R,
@@ -313,32 +276,8 @@ impl<'a, W: Words + Sync + Drop> Anneal<'a, W> {
         ensures shown { IsShown W.moves self.old self.new result shower.old.shown shower.new.shown }
     {
         let before = self.done();
-        let turn = self.turn_by(rt, batch, workers)?;
-        if before < self.done() {
-            dial.show(rt, shower, self.reading());
-        }
-        Ok(turn)
-    }
-
-    /// Makes a turn as `turn` does, and then shows on the dial how far the run has come, as `turn_shown_by` does. By contract the shower
-    /// is one of this dial.
-    pub fn turn_shown<G: Gate, R: Threads + Wait + Sync>(
-        &mut self,
-        rt: &R,
-        batch: u64,
-        workers: u64,
-        gate: &G,
-        dial: &Dial,
-        shower: &mut Shower,
-    ) -> Result<Turn, AllocError>
-        requires batch { (1 ≤ batch) × (batch ≤ 4096) }
-        requires workers { (1 ≤ workers) × (workers ≤ 64) }
-        requires own { shower.old.dial ≡ dial.now }
-        ensures turned { IsTurned W.moves batch self.old self.new result }
-        ensures dial { shower.new.dial ≡ shower.old.dial }
-        ensures shown { IsShown W.moves self.old self.new result shower.old.shown shower.new.shown }
-    {
-        let mut workers = Workers::<'_, '_, W, G, Brand>::started(workers, gate);
-        self.turn_shown_by(rt, batch, &mut workers, dial, shower)
+        make_turn(rt, &self.given, &mut self.pipeline, batch, workers)?;
+        self.show_since(rt, before, dial, shower);
+        Ok(self.left())
     }
 }

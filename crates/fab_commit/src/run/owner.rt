@@ -42,24 +42,6 @@ impl Drop for Owner {
     }
 }
 
-/// Makes the next move as it was decided.
-fn make<W: Words>(given: &Given<'_, W>, owner: &mut Owner, decision: &Decision)
-    requires plan { IsLawful given.now.schedule }
-    requires owned { IsOwned (run_for W.moves given.now) owner.old }
-    requires going { owner.old.state.ended ≡ false }
-    requires room { HasRoom owner.old 1 }
-    requires lawful { (s : Swap) → decision.now.swap ≡ Some s → IsSwapOf given.now.grid.now owner.old.state.placement.sites s }
-    requires decides { IsDecision decision.now (judged_here (run_for W.moves given.now) (standing_of owner.old.state) owner.old.state.done) }
-    ensures made { HasMade (run_for W.moves given.now) owner.old 1 owner.new }
-    ensures redone { owner.new.redone ≡ owner.old.redone }
-    ensures room { (n : ℕ) → HasRoom owner.old (1 + n) → HasRoom owner.new n }
-{
-    let number = owner.state.done;
-    enter(&mut owner.swaps, number, decision);
-    stamp(given, &mut owner.stamps, number, decision);
-    commit(given, &mut owner.state, decision);
-}
-
 /// Stamps what a move touches, if it is accepted.
 fn stamp<W: Words>(given: &Given<'_, W>, stamps: &mut Stamps, number: u64, decision: &Decision)
     requires table { IsTable given.now.design.now given.now.grid.now stamps.old }
@@ -76,26 +58,27 @@ fn stamp<W: Words>(given: &Given<'_, W>, stamps: &mut Stamps, number: u64, decis
     }
 }
 
-/// Commits the next move, which was judged on the placement after `base` moves. If a move accepted since has touched what the verdict
-/// rests on, the move is decided again on the live placement. Otherwise it is made as it was judged. Allocates nothing.
-fn commit_next<W: Words>(given: &Given<'_, W>, owner: &mut Owner, verdict: &Verdict, base: u64)
-    requires plan { IsLawful given.now.schedule }
-    requires owned { IsOwned (run_for W.moves given.now) owner.old }
-    requires going { owner.old.state.ended ≡ false }
-    requires room { HasRoom owner.old 1 }
+/// How the next move is made, which was judged on the placement after `base` moves; and whether it was judged again for that. If a
+/// move accepted since has touched what the verdict rests on, the move is decided on the live placement. Otherwise it is made as it was
+/// judged. Allocates nothing.
+fn decided<W: Words>(
+    given: &Given<'_, W>,
+    owner: &Owner,
+    verdict: &Verdict,
+    base: u64,
+) -> (Decision, bool)
+    requires owned { IsOwned (run_for W.moves given.now) owner.now }
+    requires going { owner.now.state.ended ≡ false }
     requires kinds { KeepsKind given.now.grid.now verdict.now }
-    requires fresh { is_touched (run_for W.moves given.now) owner.old base verdict.now ≡ false → says verdict.now ≡ judged_here (run_for W.moves given.now) (standing_of owner.old.state) owner.old.state.done }
-    ensures made { HasMade (run_for W.moves given.now) owner.old 1 owner.new }
-    ensures redone { owner.new.redone ≡ owner.old.redone + one_if (is_touched (run_for W.moves given.now) owner.old base verdict.now) }
-    ensures room { (n : ℕ) → HasRoom owner.old (1 + n) → HasRoom owner.new n }
+    requires fresh { is_touched (run_for W.moves given.now) owner.now base verdict.now ≡ false → says verdict.now ≡ judged_here (run_for W.moves given.now) (standing_of owner.now.state) owner.now.state.done }
+    ensures again { result.1 ≡ is_touched (run_for W.moves given.now) owner.now base verdict.now }
+    ensures lawful { (s : Swap) → result.0.swap ≡ Some s → IsSwapOf given.now.grid.now owner.now.state.placement.sites s }
+    ensures decides { IsDecision result.0 (judged_here (run_for W.moves given.now) (standing_of owner.now.state) owner.now.state.done) }
 {
     if owner.stamps.any_above(given.grid, base, &verdict.footprint) {
-        let again = decide_on(given, &owner.state, owner.state.done);
-        make(given, owner, &again);
-        owner.redone += 1;
+        (decide_on(given, &owner.state, owner.state.done), true)
     } else {
-        let decision = decision_of(verdict);
-        make(given, owner, &decision);
+        (decision_of(verdict), false)
     }
 }
 
@@ -117,31 +100,12 @@ pub(crate) fn commit_each<W: Words, G: Gate>(
     ensures room { (n : ℕ) → HasRoom owner.old (length verdicts.now + n) → HasRoom owner.new n }
 {
     for verdict in verdicts {
-        gate.before_commit(owner.state.done);
-        commit_next(given, owner, verdict, base);
+        let number = owner.state.done;
+        gate.before_commit(number);
+        let (decision, again) = decided(given, owner, verdict, base);
+        enter(&mut owner.swaps, number, &decision);
+        stamp(given, &mut owner.stamps, number, &decision);
+        commit(given, &mut owner.state, &decision);
+        owner.redone += u64::from(again);
     }
-}
-
-/// Commits the moves judged ahead, and then those judged at the turn's start. Allocates nothing.
-pub(crate) fn commit_all<W: Words, G: Gate>(
-    given: &Given<'_, W>,
-    owner: &mut Owner,
-    ahead: &[Verdict],
-    base: u64,
-    missing: &[Verdict],
-    gate: &G,
-)
-    requires plan { IsLawful given.now.schedule }
-    requires owned { IsOwned (run_for W.moves given.now) owner.old }
-    requires room { HasRoom owner.old (length ahead.now + length missing.now) }
-    requires due { AreDue (run_for W.moves given.now) owner.old base ahead.now }
-    requires answers { AreAnswers (run_for W.moves given.now) (standing_of owner.old.state) (owner.old.state.done + length ahead.now) missing.now }
-    requires left { length ahead.now + length missing.now ≤ moves_left (run_for W.moves given.now) (standing_of owner.old.state) }
-    ensures made { HasMade (run_for W.moves given.now) owner.old (owner.new.state.done - owner.old.state.done) owner.new }
-    ensures done { owner.new.state.done ≡ owner.old.state.done + (length ahead.now + length missing.now) }
-    ensures redone { HasCounted (run_for W.moves given.now) owner.old base ahead.now owner.new }
-{
-    let start = owner.state.done;
-    commit_each(given, owner, ahead, base, gate);
-    commit_each(given, owner, missing, start, gate);
 }

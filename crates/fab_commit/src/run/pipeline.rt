@@ -1,21 +1,21 @@
 //! Turns: the owner commits a batch on the live placement, while workers judge the next one on the older placement.
 
-ghost use Rattle.std.specs.Prelude.{◌≡◌, ◌+◌, ◌-◌, ◌<◌, ◌≤◌, ◌++◌, [], length, map, min, take, IfOk, OnOk, OnErr};
+ghost use Rattle.std.specs.Prelude.{◌≡◌, ◌+◌, ◌-◌, ◌^◌, ◌<◌, ◌≤◌, ◌++◌, [], false, length, map, min, take, IfOk, OnOk, OnErr};
 ghost use Rattle.std.specs.Arc.{arc_value};
 ghost use Rattle.std.specs.List.{count_by, range_with_len};
 ghost use Rattle.fab_sched.specs.Annealing.{IsLawful};
 ghost use Rattle.fab_commit.specs.Serial.{Run, accepted_among, from, moves_left};
 ghost use Rattle.fab_commit.specs.Run.Commits.{IsSound, run_for, standing_of};
 ghost use Rattle.fab_commit.specs.Run.Owners.{AreAnswers, AreDue, HasCounted, HasMade, HasRoom, IsOwned, Leads, verdict_of};
-ghost use Rattle.fab_commit.specs.Run.Pipelines.{HasTurn, HasTurned, IsBehind, world_in};
+ghost use Rattle.fab_commit.specs.Run.Pipelines.{IsBehind, TurnsOn};
 ghost use Rattle.fab_commit.specs.Model.TurnEvents.{LastTurn, next_turn, no_turn, turn, turn_events, turn_making, verdict_on};
 ghost use Rattle.fab_commit.specs.Model.World.{is_redone_way, ways};
 
-use crate::run::owner::Owner;
+use crate::run::owner::{Owner, commit_each};
 use crate::run::stamps::Stamps;
 use crate::run::state::{Given, State, copy_of, moves_left};
 use crate::run::swaps::Accepted;
-use crate::run::workers::{Workers, commit_and_judge, judge_missing};
+use crate::run::workers::{Share, Workers};
 use fab_board::{Gate, Naming};
 use fab_move::Verdict;
 use fab_site::Words;
@@ -60,7 +60,6 @@ fn shared_copy(alloc: Global, live: &State) -> Result<Arc<State>, AllocError>
 
 /// The pipeline where a run begins or goes on: nothing is judged ahead.
 pub(crate) fn first_pipeline<W: Words>(
-    alloc: Global,
     given: &Given<'_, W>,
     live: State,
 ) -> Result<Pipeline, AllocError>
@@ -70,6 +69,7 @@ pub(crate) fn first_pipeline<W: Words>(
     ensures behind { IfOk result (λ s. IsBehind (run_for W.moves given.now) (no_turn (standing_of live)) s) }
     ensures told { IfOk result (λ s. (s.ahead.items ≡ []) × (s.owner.swaps.items ≡ []) × (s.owner.state.accepted.items ≡ []) × (s.owner.redone ≡ 0)) }
 {
+    let alloc = given.alloc;
     let base = live.done;
     let older = shared_copy(alloc, &live)?;
     let stamps = Stamps::new(alloc, given.design, given.grid)?;
@@ -102,81 +102,87 @@ fn reserve(owner: &mut Owner, moves: u64) -> Result<(), AllocError>
     Ok(())
 }
 
-/// Judges those of the next `moves` moves that were not judged ahead. Then commits all of them, while workers judge the `next` moves
-/// after them. Returns the verdicts on these.
-fn judge_and_commit<'a, 'g, W: Words + Sync + Drop, G: Gate, J: Naming, R: Threads + Wait + Sync>(
+/// Judges moves of the running stage on the older placement. None need no worker and no memory.
+fn judge_missing<'a, 'g, W: Words + Sync + Drop, G: Gate, J: Naming, R: Threads + Wait + Sync>(
     rt: &R,
-    alloc: Global,
     given: &Arc<Given<'a, W>>,
-    owner: &mut Owner,
     older: &Arc<State>,
-    ahead: &[Verdict],
-    base: u64,
-    moves: u64,
-    next: u64,
+    share: Share,
     workers: &mut Workers<'a, 'g, W, G, J>,
 ) -> Result<Vec<Verdict>, AllocError>
-    requires plan { IsLawful (arc_value given.now).schedule }
-    requires owned { IsOwned (run_for W.moves (arc_value given.now)) owner.old }
-    requires older { IsSound (run_for W.moves (arc_value given.now)) (arc_value older.now) }
-    requires same { standing_of (arc_value older.now) ≡ standing_of owner.old.state }
-    requires due { AreDue (run_for W.moves (arc_value given.now)) owner.old base ahead.now }
-    requires fits { length ahead.now ≤ moves }
-    requires left { moves + next ≤ moves_left (run_for W.moves (arc_value given.now)) (standing_of owner.old.state) }
-    requires limits { (moves ≤ 4096) × (next ≤ 4096) }
-    requires room { HasRoom owner.old moves }
-    ensures made { HasMade (run_for W.moves (arc_value given.now)) owner.old (owner.new.state.done - owner.old.state.done) owner.new }
-    ensures ok { OnOk result (owner.new.state.done ≡ owner.old.state.done + moves) }
-    ensures within { (owner.old.state.done ≤ owner.new.state.done) × (owner.new.state.done ≤ owner.old.state.done + moves) }
-    ensures redone { HasCounted (run_for W.moves (arc_value given.now)) owner.old base ahead.now owner.new }
-    ensures many { IfOk result (λ v. length v.items ≡ next) }
-    ensures answers { IfOk result (λ v. AreAnswers (run_for W.moves (arc_value given.now)) (standing_of (arc_value older.now)) (owner.old.state.done + moves) v.items) }
+    requires sound { IsSound (run_for W.moves (arc_value given.now)) (arc_value older.now) }
+    requires going { 0 < share.moves → (arc_value older.now).ended ≡ false }
+    requires limits { (share.first ≤ 2 ^ 62) × (share.moves ≤ 4096) }
+    ensures many { IfOk result (λ v. length v.items ≡ share.moves) }
+    ensures answers { IfOk result (λ v. AreAnswers (run_for W.moves (arc_value given.now)) (standing_of (arc_value older.now)) share.first v.items) }
 {
-    let kept = ahead.len() as u64;
-    let first = owner.state.done + kept;
-    let missing = judge_missing(rt, alloc, workers, given, older, first, moves - kept)?;
-    commit_and_judge(
-        rt, alloc, workers, given, owner, older, ahead, base, &missing, next,
-    )
+    if share.moves == 0 {
+        return Ok(Vec::new(given.alloc));
+    }
+    workers.post(rt, given, older, share)?;
+    workers.collect(rt, given.alloc)
 }
 
-/// Makes the next `moves` moves of the running stage, while workers judge the `next` moves after them. Returns the verdicts on these.
-fn make_moves<'a, 'g, W: Words + Sync + Drop, G: Gate, J: Naming, R: Threads + Wait + Sync>(
-    rt: &R,
-    alloc: Global,
-    given: &Arc<Given<'a, W>>,
-    owner: &mut Owner,
-    older: &Arc<State>,
-    ahead: &[Verdict],
-    base: u64,
+/// How many moves a turn makes, and how many after them are judged ahead meanwhile.
+#[derive(Clone, Copy)]
+struct Plan {
     moves: u64,
     next: u64,
+}
+
+/// Makes the next moves of the running stage, while the moves after them are judged. Those that were not judged ahead are judged first.
+/// Returns the verdicts on the moves after them.
+fn make_moves<'a, 'g, W: Words + Sync + Drop, G: Gate, J: Naming, R: Threads + Wait + Sync>(
+    rt: &R,
+    given: &Arc<Given<'a, W>>,
+    state: &mut Pipeline,
+    plan: Plan,
     workers: &mut Workers<'a, 'g, W, G, J>,
 ) -> Result<Vec<Verdict>, AllocError>
     requires plan { IsLawful (arc_value given.now).schedule }
-    requires owned { IsOwned (run_for W.moves (arc_value given.now)) owner.old }
-    requires older { IsSound (run_for W.moves (arc_value given.now)) (arc_value older.now) }
-    requires same { standing_of (arc_value older.now) ≡ standing_of owner.old.state }
-    requires due { AreDue (run_for W.moves (arc_value given.now)) owner.old base ahead.now }
-    requires fits { length ahead.now ≤ moves }
-    requires left { moves + next ≤ moves_left (run_for W.moves (arc_value given.now)) (standing_of owner.old.state) }
-    requires limits { (moves ≤ 4096) × (next ≤ 4096) }
-    ensures made { HasMade (run_for W.moves (arc_value given.now)) owner.old (owner.new.state.done - owner.old.state.done) owner.new }
-    ensures ok { OnOk result (owner.new.state.done ≡ owner.old.state.done + moves) }
-    ensures within { (owner.old.state.done ≤ owner.new.state.done) × (owner.new.state.done ≤ owner.old.state.done + moves) }
-    ensures redone { HasCounted (run_for W.moves (arc_value given.now)) owner.old base ahead.now owner.new }
-    ensures many { IfOk result (λ v. length v.items ≡ next) }
-    ensures answers { IfOk result (λ v. AreAnswers (run_for W.moves (arc_value given.now)) (standing_of (arc_value older.now)) (owner.old.state.done + moves) v.items) }
-    ensures some { OnErr result (0 < moves + next) }
+    requires owned { IsOwned (run_for W.moves (arc_value given.now)) state.old.owner }
+    requires older { IsSound (run_for W.moves (arc_value given.now)) (arc_value state.old.older) }
+    requires same { standing_of (arc_value state.old.older) ≡ standing_of state.old.owner.state }
+    requires due { AreDue (run_for W.moves (arc_value given.now)) state.old.owner state.old.base state.old.ahead.items }
+    requires fits { length state.old.ahead.items ≤ plan.moves }
+    requires left { plan.moves + plan.next ≤ moves_left (run_for W.moves (arc_value given.now)) (standing_of state.old.owner.state) }
+    requires limits { (plan.moves ≤ 4096) × (plan.next ≤ 4096) }
+    ensures kept { (state.new.older ≡ state.old.older) × (state.new.base ≡ state.old.base) }
+    ensures made { HasMade (run_for W.moves (arc_value given.now)) state.old.owner (state.new.owner.state.done - state.old.owner.state.done) state.new.owner }
+    ensures ok { OnOk result (state.new.owner.state.done ≡ state.old.owner.state.done + plan.moves) }
+    ensures within { (state.old.owner.state.done ≤ state.new.owner.state.done) × (state.new.owner.state.done ≤ state.old.owner.state.done + plan.moves) }
+    ensures redone { HasCounted (run_for W.moves (arc_value given.now)) state.old.owner state.old.base state.old.ahead.items state.new.owner }
+    ensures many { IfOk result (λ v. length v.items ≡ plan.next) }
+    ensures answers { IfOk result (λ v. AreAnswers (run_for W.moves (arc_value given.now)) (standing_of (arc_value state.old.older)) (state.old.owner.state.done + plan.moves) v.items) }
+    ensures some { OnErr result (0 < plan.moves + plan.next) }
 {
     // If no move is left, no memory and no worker is needed.
-    if moves == 0 && next == 0 {
-        return Ok(Vec::new(alloc));
+    if plan.moves == 0 && plan.next == 0 {
+        return Ok(Vec::new(given.alloc));
     }
-    reserve(owner, moves)?;
-    judge_and_commit(
-        rt, alloc, given, owner, older, ahead, base, moves, next, workers,
-    )
+    reserve(&mut state.owner, plan.moves)?;
+    let start = state.owner.state.done;
+    let kept = state.ahead.len() as u64;
+    let due = Share {
+        first: start + kept,
+        moves: plan.moves - kept,
+    };
+    let missing = judge_missing(rt, given, &state.older, due, workers)?;
+    let next = Share {
+        first: start + plan.moves,
+        moves: plan.next,
+    };
+    let posted = workers.post(rt, given, &state.older, next);
+    commit_each(
+        given,
+        &mut state.owner,
+        &state.ahead,
+        state.base,
+        workers.gate,
+    );
+    commit_each(given, &mut state.owner, &missing, start, workers.gate);
+    posted?;
+    workers.collect(rt, given.alloc)
 }
 
 /// Makes the older placement the same as the live one, by the swaps that were accepted since. No bounding box is computed again: the
@@ -234,7 +240,6 @@ pub(crate) fn make_turn<
     R: Threads + Wait + Sync,
 >(
     rt: &R,
-    alloc: Global,
     given: &Arc<Given<'a, W>>,
     state: &mut Pipeline,
     batch: u64,
@@ -242,10 +247,7 @@ pub(crate) fn make_turn<
 ) -> Result<(), AllocError>
     requires behind { (t : LastTurn) × IsBehind (run_for W.moves (arc_value given.now)) t state.old }
     requires limits { batch ≤ 4096 }
-    ensures within { (state.old.owner.state.done ≤ state.new.owner.state.done) × (state.new.owner.state.done ≤ state.old.owner.state.done + min batch (moves_left (run_for W.moves (arc_value given.now)) (standing_of state.old.owner.state))) }
-    ensures ok { OnOk result ((t : LastTurn) → IsBehind (run_for W.moves (arc_value given.now)) t state.old → HasTurned (run_for W.moves (arc_value given.now)) t state.old (next_turn (run_for W.moves (arc_value given.now)) batch t).made (next_turn (run_for W.moves (arc_value given.now)) batch t).ahead state.new) }
-    ensures err { OnErr result ((t : LastTurn) → IsBehind (run_for W.moves (arc_value given.now)) t state.old → HasTurned (run_for W.moves (arc_value given.now)) t state.old (state.new.owner.state.done - state.old.owner.state.done) 0 state.new) }
-    ensures some { OnErr result (0 < moves_left (run_for W.moves (arc_value given.now)) (standing_of state.old.owner.state)) }
+    ensures turned { TurnsOn (run_for W.moves (arc_value given.now)) batch state.old state.new result }
 {
     let lent: &Given<'_, W> = given;
     let start = state.owner.state.done;
@@ -253,18 +255,11 @@ pub(crate) fn make_turn<
     let moves = batch.min(left);
     state.owner.swaps.clear();
     state.ahead.truncate(moves as usize);
-    let judged = make_moves(
-        rt,
-        alloc,
-        given,
-        &mut state.owner,
-        &state.older,
-        &state.ahead,
-        state.base,
+    let plan = Plan {
         moves,
-        batch.min(left - moves),
-        workers,
-    );
+        next: batch.min(left - moves),
+    };
+    let judged = make_moves(rt, given, state, plan, workers);
     catch_up_alone(
         rt,
         lent,
@@ -274,33 +269,11 @@ pub(crate) fn make_turn<
     );
     state.base = start;
     state.ahead.clear();
-    state.ahead = judged?;
-    Ok(())
-}
-
-/// Makes a turn. The contract states it as a turn of a world.
-pub(crate) fn turn<'a, 'g, W: Words + Sync + Drop, G: Gate, J: Naming, R: Threads + Wait + Sync>(
-    rt: &R,
-    alloc: Global,
-    given: &Arc<Given<'a, W>>,
-    state: &mut Pipeline,
-    batch: u64,
-    workers: &mut Workers<'a, 'g, W, G, J>,
-) -> Result<(), AllocError>
-    requires turn { HasTurn (run_for W.moves (arc_value given.now)) state.old }
-    requires limits { batch ≤ 4096 }
-    ensures turn { HasTurn (run_for W.moves (arc_value given.now)) state.new }
-    ensures stands { standing_of state.new.owner.state ≡ from (run_for W.moves (arc_value given.now)) (standing_of state.old.owner.state) (state.new.owner.state.done - state.old.owner.state.done) }
-    ensures accepted { state.new.owner.state.accepted.items ≡ state.old.owner.state.accepted.items ++ accepted_among (run_for W.moves (arc_value given.now)) (standing_of state.old.owner.state) (state.new.owner.state.done - state.old.owner.state.done) }
-    ensures redone { state.new.owner.redone ≡ state.old.owner.redone + count_by is_redone_way (take (state.new.owner.state.done - state.old.owner.state.done) (ways (run_for W.moves (arc_value given.now)) (world_in state.old) (turn_events (run_for W.moves (arc_value given.now)) batch (world_in state.old)))) }
-    ensures ok { OnOk result (state.new.owner.state.done ≡ state.old.owner.state.done + min batch (moves_left (run_for W.moves (arc_value given.now)) (standing_of state.old.owner.state))) }
-    ensures within { (state.old.owner.state.done ≤ state.new.owner.state.done) × (state.new.owner.state.done ≤ state.old.owner.state.done + min batch (moves_left (run_for W.moves (arc_value given.now)) (standing_of state.old.owner.state))) }
-    ensures world { OnOk result (world_in state.new ≡ turn (run_for W.moves (arc_value given.now)) batch (world_in state.old)) }
-    ensures ahead { OnOk result (map (verdict_of state.new.base) state.new.ahead.items ≡ map (verdict_on (run_for W.moves (arc_value given.now)) (standing_of state.old.owner.state)) (range_with_len state.new.owner.state.done (min batch (moves_left (run_for W.moves (arc_value given.now)) (standing_of state.old.owner.state) - min batch (moves_left (run_for W.moves (arc_value given.now)) (standing_of state.old.owner.state)))))) }
-    ensures lost { OnErr result (map (verdict_of state.new.base) state.new.ahead.items ≡ []) }
-    ensures cut { OnErr result (world_in state.new ≡ turn_making (run_for W.moves (arc_value given.now)) (state.new.owner.state.done - state.old.owner.state.done) 0 (world_in state.old)) }
-    ensures some { OnErr result (0 < moves_left (run_for W.moves (arc_value given.now)) (standing_of state.old.owner.state)) }
-{
-    make_turn(rt, alloc, given, state, batch, workers)?;
-    Ok(())
+    match judged {
+        Ok(ahead) => {
+            state.ahead = ahead;
+            Ok(())
+        }
+        Err(error) => Err(error),
+    }
 }

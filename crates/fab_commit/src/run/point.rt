@@ -54,11 +54,7 @@ fn copy_of_fixed(alloc: Global, fixed: &Fixed, blocks: usize) -> Result<Fixed, A
 }
 
 /// A snapshot of a run that is not over.
-pub(crate) fn point_of<W: Words>(
-    alloc: Global,
-    given: &Given<'_, W>,
-    state: &State,
-) -> Result<Point, AllocError>
+pub(crate) fn point_of<W: Words>(given: &Given<'_, W>, state: &State) -> Result<Point, AllocError>
     requires sound { IsSound (run_for W.moves given.now) state.now }
     requires going { state.now.ended ≡ false }
     ensures schedule { IfOk result (λ p. p.schedule ≡ given.now.schedule) }
@@ -68,7 +64,7 @@ pub(crate) fn point_of<W: Words>(
     ensures lawful { IfOk result (IsPoint given.now.design.now given.now.grid.now) }
 {
     let blocks = given.design.blocks();
-    let fixed = copy_of_fixed(alloc, &given.fixed, blocks)?;
+    let fixed = copy_of_fixed(given.alloc, &given.fixed, blocks)?;
     let placement = state.placement.copy()?;
     Ok(Point {
         schedule: given.schedule,

@@ -18,6 +18,7 @@ use std::alloc::{AllocError, Global};
 
 /// What a run is given.
 pub(crate) struct Given<'a, W> {
+    pub(crate) alloc: Global,
     pub(crate) design: &'a Design,
     pub(crate) grid: &'a Grid,
     pub(crate) fixed: Fixed,
@@ -29,6 +30,7 @@ impl<'a, W: Drop> Drop for Given<'a, W> {
     // This is one call wherever a value goes out of scope. A derived `drop` would be proved again at each place.
     fn drop(self) {
         let Given {
+            alloc: _,
             design: _,
             grid: _,
             fixed: _,
@@ -113,30 +115,6 @@ fn behind_the_last(schedule: &Schedule, side: u16, frozen: &Stage) -> Stage
     }
 }
 
-/// Makes the swap of a decision, if it is accepted.
-fn swap_if_accepted(
-    design: &Design,
-    grid: &Grid,
-    placement: &mut Placement,
-    cost: &mut EdgeBoxes,
-    decision: &Decision,
-)
-    requires whole { length design.now.kinds ≡ length placement.old.sites }
-    requires cost { CountedStandsFor cost.old design.now grid.now placement.old.sites }
-    requires array { placement.old.grid ≡ grid.now }
-    requires lawful { (s : Swap) → decision.now.swap ≡ Some s → IsSwapOf grid.now placement.old.sites s }
-    ensures placement { (j : Judged) → IsDecision decision.now j → placement.new ≡ record placement.old { sites = moved placement.old.sites j } }
-    ensures cost { (j : Judged) → IsDecision decision.now j → CountedStandsFor cost.new design.now grid.now (moved placement.old.sites j) }
-{
-    if !decision.accepted {
-        return;
-    }
-    if let Some(swap) = decision.swap {
-        cost.apply(design, grid, placement, &swap);
-        placement.apply(&swap);
-    }
-}
-
 /// Counts a move, if it is accepted.
 fn count(accepted: &mut Vec<u64>, total: &mut u64, number: u64, took: bool)
     requires room { vec_len accepted.old < vec_capacity accepted.old }
@@ -165,13 +143,14 @@ pub(crate) fn commit<W: Words>(given: &Given<'_, W>, state: &mut State, decision
 {
     let side = side_of(given.grid);
     let _moves = given.schedule.moves();
-    swap_if_accepted(
-        given.design,
-        given.grid,
-        &mut state.placement,
-        &mut state.cost,
-        decision,
-    );
+    if decision.accepted {
+        if let Some(swap) = decision.swap {
+            state
+                .cost
+                .apply(given.design, given.grid, &state.placement, &swap);
+            state.placement.apply(&swap);
+        }
+    }
     count(
         &mut state.accepted,
         &mut state.total,
@@ -221,7 +200,6 @@ fn view_of<'a, W: Words>(given: &'a Given<'_, W>, state: &'a State) -> View<'a, 
 
 /// Judges a move of the running stage on the current placement.
 pub(crate) fn judge_on<W: Words>(
-    alloc: Global,
     given: &Given<'_, W>,
     state: &State,
     number: u64,
@@ -232,7 +210,7 @@ pub(crate) fn judge_on<W: Words>(
     ensures lawful { IfOk result (λ v. (s : Swap) → v.swap ≡ Some s → IsSwapOf given.now.grid.now state.now.placement.sites s) }
     ensures says { IfOk result (λ v. says v ≡ judged_here (run_for W.moves given.now) (standing_of state.now) number) }
 {
-    judge(alloc, &view_of(given, state), number)
+    judge(given.alloc, &view_of(given, state), number)
 }
 
 /// Decides a move of the running stage on the current placement: the result of [`judge_on`] without the footprint. Allocates nothing.
@@ -268,27 +246,23 @@ pub(crate) fn moves_left(schedule: &Schedule, state: &State) -> u64
 }
 
 /// The state of a run within a stage, with `total` moves accepted in all. The placement is put on the array first.
-pub(crate) fn state_at(
-    alloc: Global,
-    design: &Design,
-    grid: &Grid,
-    fixed: &Fixed,
-    schedule: &Schedule,
+pub(crate) fn state_at<W: Words>(
+    given: &Given<'_, W>,
     placement: Placement,
     stage: Stage,
     total: u64,
 ) -> Result<State, AllocError>
-    requires legal { IsLegal design.now grid.now fixed.now placement.sites }
-    requires stage { IsStage schedule.now (max grid.now.nx grid.now.ny) stage }
-    requires left { stage.done < schedule.now.moves }
-    requires counted { (stage.accepted ≤ total) × (total ≤ stage.index * schedule.now.moves + stage.done) }
-    ensures sound { IfOk result (λ s. (words : ℕ → List ℕ) → IsSound (run design.now grid.now fixed.now words schedule.now) s) }
-    ensures stands { IfOk result (λ s. standing_of s ≡ standing_in schedule.now stage placement.sites total) }
+    requires legal { IsLegal given.now.design.now given.now.grid.now given.now.fixed placement.sites }
+    requires stage { IsStage given.now.schedule (max given.now.grid.now.nx given.now.grid.now.ny) stage }
+    requires left { stage.done < given.now.schedule.moves }
+    requires counted { (stage.accepted ≤ total) × (total ≤ stage.index * given.now.schedule.moves + stage.done) }
+    ensures sound { IfOk result (IsSound (run_for W.moves given.now)) }
+    ensures stands { IfOk result (λ s. standing_of s ≡ standing_in given.now.schedule stage placement.sites total) }
     ensures accepted { IfOk result (λ s. s.accepted.items ≡ []) }
 {
-    let moves = schedule.moves();
-    let live = placement.on_array(design, grid)?;
-    let cost = EdgeBoxes::new(alloc, design, grid, &live)?;
+    let moves = given.schedule.moves();
+    let live = placement.on_array(given.design, given.grid)?;
+    let cost = EdgeBoxes::new(given.alloc, given.design, given.grid, &live)?;
     Ok(State {
         placement: live,
         cost,
@@ -296,27 +270,23 @@ pub(crate) fn state_at(
         ended: false,
         done: stage.index * moves + stage.done,
         total,
-        accepted: Vec::new(alloc),
+        accepted: Vec::new(given.alloc),
     })
 }
 
 /// The state before the first move.
-pub(crate) fn first_state(
-    alloc: Global,
-    design: &Design,
-    grid: &Grid,
-    fixed: &Fixed,
-    schedule: &Schedule,
+pub(crate) fn first_state<W: Words>(
+    given: &Given<'_, W>,
     placement: Placement,
 ) -> Result<State, AllocError>
-    requires legal { IsLegal design.now grid.now fixed.now placement.sites }
-    ensures sound { IfOk result (λ s. (words : ℕ → List ℕ) → IsSound (run design.now grid.now fixed.now words schedule.now) s) }
-    ensures stands { IfOk result (λ s. (words : ℕ → List ℕ) → standing_of s ≡ at_start (run design.now grid.now fixed.now words schedule.now) placement.sites) }
+    requires legal { IsLegal given.now.design.now given.now.grid.now given.now.fixed placement.sites }
+    ensures sound { IfOk result (IsSound (run_for W.moves given.now)) }
+    ensures stands { IfOk result (λ s. standing_of s ≡ at_start (run_for W.moves given.now) placement.sites) }
     ensures accepted { IfOk result (λ s. s.accepted.items ≡ []) }
 {
-    let _moves = schedule.moves();
-    let first = schedule.first(side_of(grid));
-    state_at(alloc, design, grid, fixed, schedule, placement, first, 0)
+    let _moves = given.schedule.moves();
+    let first = given.schedule.first(side_of(given.grid));
+    state_at(given, placement, first, 0)
 }
 
 /// A copy with the same standing. Its list of accepted moves is empty.

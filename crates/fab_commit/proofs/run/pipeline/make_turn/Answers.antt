@@ -1,4 +1,4 @@
-use Rattle.std.proofs.Common.{◌≡◌, ◌+◌, ◌-◌, ◌≤◌, length, Result, Ok, Err, OnErr, refl, sym, ap, subst, ◌∙◌, arith}
+use Rattle.std.proofs.Common.{◌≡◌, ◌+◌, ◌-◌, ◌≤◌, length, refl, sym, ap, subst, ◌∙◌, arith}
 use Rattle.std.specs.Arc.{arc_value}
 use Rattle.fab_commit.specs.Serial.{left_at, moves_left}
 use Rattle.fab_commit.specs.Run.Commits.{IsSound, heat_of, run_for, standing_of}
@@ -13,24 +13,22 @@ use Rattle.fab_commit.proofs.run.pipeline.make_turn.Goals as goal
 pub make_moves-judged-requires-clause-due : goal.make_moves-judged-requires-clause-due
 make_moves-judged-requires-clause-due g c _ _ =
     let r = run_for g.W.Words.moves (arc_value c.args.given.now) in
-    due_kept r c.requires.behind.0 c.args.state.now _ c.min-moves.result c.deref.result.now c.requires.behind.1 refl refl (c.deref.ensures.value ∙ c.truncate.ensures.items)
+    due_kept r c.requires.behind.0 c.args.state.now _ c.min-moves.result _ c.requires.behind.1 refl refl c.truncate.ensures.items
 
-on_err : {A E : Type 0} (r : Result A E) (P : Type 0) → P → OnErr r P
-on_err (Ok a) P p = tt
-on_err (Err e) P p = p
-
-pub returns-in_err-state-clause-err : goal.returns-in_err-state-clause-err
-returns-in_err-state-clause-err g c =
+pub returns-in-Err : goal.returns-in-Err
+returns-in-Err g c =
     let r = run_for g.W.Words.moves (arc_value c.args.given.now) in
     let s = c.args.state.now in
     let within = c.make_moves-judged.ensures.within in
-    let n = c.make_moves-judged.new.owner.state.done - s.owner.state.done in
+    let n = c.make_moves-judged.new.state.owner.state.done - s.owner.state.done in
     let moves = c.min-moves.ensures in
     let left = c.moves_left-left.ensures ∙ ap (λ (v : Given g.row.W.Denot). left_at v.schedule.moves s.owner.state.done (heat_of s.owner.state.ended s.owner.state.stage.t)) c.deref-lent.ensures in
     let low : n ≤ c.min-moves.result = omega (arith, within) in
-    let now : Pipeline = record { owner = c.make_moves-judged.new.owner; older = c.catch_up_alone.new.older; ahead = c.clear-2.new.self; base = s.owner.state.done } in
+    let now : Pipeline = record { owner = c.make_moves-judged.new.state.owner; older = c.catch_up_alone.new.older; ahead = c.clear-2.new.self; base = s.owner.state.done } in
+    let some = c.in-Err.ensures.some in
+    let ahead = c.min.ensures in
     let all : (t : LastTurn) → IsBehind r t s → HasTurned r t s n 0 now = λ t b.
-    turned r t s now _ c.min-moves.result n 0 c.deref.result.now b (record {
+    turned r t s now _ c.min-moves.result n 0 c.truncate.new.self.items b (record {
       state = refl;
       cleared = c.clear.ensures.items;
       stamps = refl;
@@ -40,27 +38,29 @@ returns-in_err-state-clause-err g c =
       same = c.catch_up_alone.ensures.stands;
       base_is = refl;
       many = ap length c.clear-2.ensures.items;
-      answers_are = no_answers r (standing_of s.owner.state) c.make_moves-judged.new.owner.state.done _ c.clear-2.ensures.items;
+      answers_are = no_answers r (standing_of s.owner.state) c.make_moves-judged.new.state.owner.state.done _ c.clear-2.ensures.items;
       left = omega (arith, low, moves, left);
-    }) low (c.deref.ensures.value ∙ c.truncate.ensures.items) c.make_moves-judged.ensures.redone in
-    on_err _ _ all
+    }) low c.truncate.ensures.items c.make_moves-judged.ensures.redone in
+    record { turned = record { within = (within.0, omega (arith, within, moves, left)); ok = tt; err = all; some = omega (arith, some, moves, left, ahead) } }
 
-pub returns-clause-ok : goal.returns-clause-ok
-returns-clause-ok g c t b =
+pub returns-in-Ok : goal.returns-in-Ok
+returns-in-Ok g c =
     let r = run_for g.W.Words.moves (arc_value c.args.given.now) in
     let s = c.args.state.now in
-    let next = next_turn r c.args.batch t in
-    let now = c.make_moves-judged.new.owner in
-    let ok = c.in_ok-state.ensures.ok in
+    let now = c.make_moves-judged.new.state.owner in
+    let ok = c.in-Ok.ensures.ok in
+    let within = c.make_moves-judged.ensures.within in
     let moves = c.min-moves.ensures in
     let ahead = c.min.ensures in
     let left = c.moves_left-left.ensures ∙ ap (λ (v : Given g.row.W.Denot). left_at v.schedule.moves s.owner.state.done (heat_of s.owner.state.ended s.owner.state.stage.t)) c.deref-lent.ensures in
+    let number : s.owner.state.done + c.min-moves.result ≡ now.state.done = sym ok in
+    let all = λ (t : LastTurn) (b : IsBehind r t s).
+    let next = next_turn r c.args.batch t in
     let same : moves_left r (standing_of s.owner.state) ≡ moves_left r (stands r t) = ap (moves_left r) b.here in
     let made_is : c.min-moves.result ≡ next.made = omega (arith, moves, left, same) in
     let ahead_is : c.min.result ≡ next.ahead = omega (arith, ahead, moves, left, same) in
     let n : now.state.done - s.owner.state.done ≡ next.made = omega (arith, ok, made_is) in
-    let number : s.owner.state.done + c.min-moves.result ≡ now.state.done = sym ok in
-    turned r t s _ _ c.min-moves.result next.made next.ahead c.deref.result.now b (record {
+    turned r t s _ _ c.min-moves.result next.made next.ahead c.truncate.new.self.items b (record {
       state = refl;
       cleared = c.clear.ensures.items;
       stamps = refl;
@@ -69,7 +69,8 @@ returns-clause-ok g c t b =
       older = subst (λ (v : Given g.row.W.Denot). IsSound (run_for g.W.Words.moves v) (arc_value c.catch_up_alone.new.older)) c.deref-lent.ensures c.catch_up_alone.ensures.sound;
       same = c.catch_up_alone.ensures.stands;
       base_is = refl;
-      many = c.in_ok-state.ensures.many ∙ ahead_is;
-      answers_are = subst (λ k. AreAnswers r (standing_of s.owner.state) k c.in_ok-state.field-0.items) number (subst (λ x. AreAnswers r x (s.owner.state.done + c.min-moves.result) c.in_ok-state.field-0.items) b.same c.in_ok-state.ensures.answers);
+      many = c.in-Ok.ensures.many ∙ ahead_is;
+      answers_are = subst (λ k. AreAnswers r (standing_of s.owner.state) k c.in-Ok.ahead.items) number (subst (λ x. AreAnswers r x (s.owner.state.done + c.min-moves.result) c.in-Ok.ahead.items) b.same c.in-Ok.ensures.answers);
       left = omega (arith, made_is, moves, left, same);
-    }) (omega (arith, made_is)) (c.deref.ensures.value ∙ c.truncate.ensures.items) c.make_moves-judged.ensures.redone
+    }) (omega (arith, made_is)) c.truncate.ensures.items c.make_moves-judged.ensures.redone in
+    record { turned = record { within = (within.0, omega (arith, within, moves, left)); ok = all; err = tt; some = tt } }

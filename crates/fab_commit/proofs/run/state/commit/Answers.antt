@@ -1,45 +1,84 @@
-use Rattle.std.proofs.Common.{◌+◌, ◌++◌, refl, ap, ◌∙◌, arith}
+use Rattle.std.proofs.Common.{◌+◌, ◌++◌, refl, sym, ap, subst, ◌∙◌, arith}
+use Rattle.fab_site.specs.Placement.{IsSwapOf}
 use Rattle.fab_commit.specs.declared.run.state.State.{State}
-use Rattle.fab_commit.specs.Serial.{judged_here, numbers_if}
-use Rattle.fab_commit.specs.Run.Commits.{run_for, standing_of}
-use Rattle.fab_commit.proofs.RunLemmas.Committing.{committed, decided_lawful, stands_after, sound_after, judged_legal, numbers_fit}
+use Rattle.fab_commit.specs.Serial.{judged_here, numbers_if, one_if}
+use Rattle.fab_commit.specs.Run.Commits.{IsAdvanced, run_for, standing_of}
+use Rattle.fab_commit.proofs.RunLemmas.Committing.{IsCommitted, IsSwapped, committed, decided_lawful, stands_after, sound_after, judged_legal, numbers_fit, rejected_stays, void_stays, with_none, with_swap}
+use Rattle.fab_commit.proofs.run.state.commit.Given as given
 use Rattle.fab_commit.proofs.run.state.commit.Goals as goal
+use Rattle.fab_commit.proofs.run.state.commit.Goals.{then-decision+in-Some, then-decision+in_default, else-decision}
+
+pub apply-requires-clause-lawful : goal.apply-requires-clause-lawful
+apply-requires-clause-lawful g c = c.requires.lawful c.in-Some.swap c.in-Some.is
+
+pub apply-requires-in-Some : goal.apply-requires-in-Some
+apply-requires-in-Some g c =
+    subst (λ k. IsSwapOf k c.args.state.now.placement.sites c.in-Some.swap) (sym c.requires.sound.array) (c.requires.lawful c.in-Some.swap c.in-Some.is)
+
+swapped : (g : given.Over) (c : goal.After-state-2-1 g) → IsSwapped (run_for g.W.Words.moves c.args.given.now) c.args.state.now (judged_here (run_for g.W.Words.moves c.args.given.now) (standing_of c.args.state.now) c.args.state.now.done) c.if-decision.state
+swapped g c =
+    let r = run_for g.W.Words.moves c.args.given.now in
+    let s = c.args.state.now in
+    let j = judged_here r (standing_of s) s.done in
+    let is = c.requires.decides in
+    let m = c.if-decision.state in
+    elim c.if-decision.branch [
+      | then-decision+in-Some w ↦ with_swap r s c.args.decision.now j w.in-Some.swap w.apply-in-Some.new.self w.apply.new.self m is w.if-decision.true w.in-Some.is w.state-is w.apply-in-Some.ensures w.apply.ensures
+      | then-decision+in_default w ↦ with_none r s m j c.requires.sound.cost (void_stays s.placement.sites c.args.decision.now j is w.if-decision.true w.in_default.is) w.state-is
+      | else-decision w ↦ with_none r s m j c.requires.sound.cost (rejected_stays s.placement.sites c.args.decision.now j is w.if-decision.false) w.state-is
+    ]
+
+abbrev after : (g : given.Over) (c : goal.After-state-2-1 g) → State
+after g c = record { placement = c.if-decision.state.placement; cost = c.if-decision.state.cost; stage = c.advanced-ended.result.0; ended = c.advanced-ended.result.1; done = c.if-decision.state.done + 1; total = c.count.new.total; accepted = c.count.new.accepted }
+
+-- what the parts of the state are after the move
+parts : (g : given.Over) (c : goal.After-state-2-1 g) → IsCommitted (run_for g.W.Words.moves c.args.given.now) c.args.state.now (judged_here (run_for g.W.Words.moves c.args.given.now) (standing_of c.args.state.now) c.args.state.now.done) (after g c)
+parts g c =
+    let r = run_for g.W.Words.moves c.args.given.now in
+    let s = c.args.state.now in
+    let j = judged_here r (standing_of s) s.done in
+    let own = swapped g c in
+    committed r s (after g c) c.args.decision.now j c.side_of-side.result c.requires.decides own.placement (ap (λ n. n + 1) own.done) (c.count.ensures.total ∙ ap (λ n. n + one_if c.args.decision.now.accepted) own.total) c.side_of-side.ensures.value
+    (subst (λ y. IsAdvanced r.plan c.side_of-side.result y c.args.decision.now.accepted c.advanced-ended.result.0 c.advanced-ended.result.1) own.stage c.advanced-ended.ensures)
+    own.cost
 
 pub count-requires-clause-few : goal.count-requires-clause-few
 count-requires-clause-few g c =
     let r = run_for g.W.Words.moves c.args.given.now in
     let few = numbers_fit r c.args.state.now c.moves-moves.ensures.lawful c.requires.sound c.requires.going in
     let counted = c.requires.sound.counted in
-    grind (arith, few, counted)
+    elim c.if-decision.branch [
+      | then-decision+in-Some w ↦ (let same = ap (λ (v : State). v.total) w.state-is in grind (arith, few, counted, same))
+      | then-decision+in_default w ↦ (let same = ap (λ (v : State). v.total) w.state-is in grind (arith, few, counted, same))
+      | else-decision w ↦ (let same = ap (λ (v : State). v.total) w.state-is in grind (arith, few, counted, same))
+    ]
 
 pub overflow_add-state : goal.overflow_add-state
 overflow_add-state g c =
     let r = run_for g.W.Words.moves c.args.given.now in
     let few = numbers_fit r c.args.state.now c.moves-moves.ensures.lawful c.requires.sound c.requires.going in
-    grind (arith, few)
+    elim c.if-decision.branch [
+      | then-decision+in-Some w ↦ (let same = ap (λ (v : State). v.done) w.state-is in grind (arith, few, same))
+      | then-decision+in_default w ↦ (let same = ap (λ (v : State). v.done) w.state-is in grind (arith, few, same))
+      | else-decision w ↦ (let same = ap (λ (v : State). v.done) w.state-is in grind (arith, few, same))
+    ]
 
 pub returns-clause-stands : goal.returns-clause-stands
 returns-clause-stands g c =
     let r = run_for g.W.Words.moves c.args.given.now in
     let s = c.args.state.now in
-    let j = judged_here r (standing_of s) s.done in
-    let is = c.requires.decides in
-    let t : State = record { placement = c.swap_if_accepted.new.placement; cost = c.swap_if_accepted.new.cost; stage = c.advanced-ended.result.0; ended = c.advanced-ended.result.1; done = s.done + 1; total = c.count.new.total; accepted = c.count.new.accepted } in
-    stands_after r s t j c.requires.sound c.requires.going
-    (committed r s t c.args.decision.now j c.side_of-side.result is (c.swap_if_accepted.ensures.placement j is) refl c.count.ensures.total c.side_of-side.ensures.value c.advanced-ended.ensures (c.swap_if_accepted.ensures.cost j is))
+    stands_after r s (after g c) (judged_here r (standing_of s) s.done) c.requires.sound c.requires.going (parts g c)
 
 pub returns-clause-accepted : goal.returns-clause-accepted
 returns-clause-accepted g c =
     let s = c.args.state.now in
-    c.count.ensures.accepted ∙ ap (λ b. s.accepted.items ++ numbers_if s.done b) c.requires.decides.accepted
+    let own = swapped g c in
+    c.count.ensures.accepted ∙ ap (λ v. v.items ++ numbers_if c.if-decision.state.done c.args.decision.now.accepted) own.accepted ∙ ap (λ n. s.accepted.items ++ numbers_if n c.args.decision.now.accepted) own.done ∙ ap (λ b. s.accepted.items ++ numbers_if s.done b) c.requires.decides.accepted
 
 pub returns-clause-sound : goal.returns-clause-sound
 returns-clause-sound g c =
     let r = run_for g.W.Words.moves c.args.given.now in
     let s = c.args.state.now in
     let j = judged_here r (standing_of s) s.done in
-    let is = c.requires.decides in
-    let t : State = record { placement = c.swap_if_accepted.new.placement; cost = c.swap_if_accepted.new.cost; stage = c.advanced-ended.result.0; ended = c.advanced-ended.result.1; done = s.done + 1; total = c.count.new.total; accepted = c.count.new.accepted } in
-    sound_after r s t j c.requires.sound c.requires.going
-    (committed r s t c.args.decision.now j c.side_of-side.result is (c.swap_if_accepted.ensures.placement j is) refl c.count.ensures.total c.side_of-side.ensures.value c.advanced-ended.ensures (c.swap_if_accepted.ensures.cost j is))
-    (judged_legal r s j s.done c.requires.sound refl (decided_lawful c.args.given.now.grid.now s.placement.sites c.args.decision.now j is c.requires.lawful))
+    sound_after r s (after g c) j c.requires.sound c.requires.going (parts g c)
+    (judged_legal r s j s.done c.requires.sound refl (decided_lawful c.args.given.now.grid.now s.placement.sites c.args.decision.now j c.requires.decides c.requires.lawful))

@@ -1,0 +1,23 @@
+//! What a caller does around judgements and commits.
+
+/// What a caller does before and after each judgement and before each commit. For example, a test holds one back until another is
+/// made. `k` is the number that is judged or committed. Each call must return.
+pub trait Gate: Sync {
+    fn before_judge(&self, k: u64);
+
+    fn after_judge(&self, k: u64);
+
+    fn before_commit(&self, k: u64);
+}
+
+/// The gate that does nothing.
+#[derive(Clone, Copy, Debug)]
+pub struct NoGate;
+
+impl Gate for NoGate {
+    fn before_judge(&self, _k: u64) {}
+
+    fn after_judge(&self, _k: u64) {}
+
+    fn before_commit(&self, _k: u64) {}
+}
