@@ -247,7 +247,7 @@ changed d g before after but n r gained lost e f eg el =
     record { balance = omega (arith, p, q, eg, el); gained_within = omega (arith, q, eg); lost_within = omega (arith, p, el) }
 
 -- a net of one terminal covers one column and one row wherever it is
-half_of_one : (g : GridShape) (f h : ℕ → Site) (bs : List ℕ) → length bs ≤ 1 → half_perimeter (box_on g (map f bs)) ≡ half_perimeter (box_on g (map h bs))
+pub half_of_one : (g : GridShape) (f h : ℕ → Site) (bs : List ℕ) → length bs ≤ 1 → half_perimeter (box_on g (map f bs)) ≡ half_perimeter (box_on g (map h bs))
 unfolding half_perimeter box_on
 half_of_one g f h [] few = refl
 half_of_one g f h (b ∷ []) few = omega arith

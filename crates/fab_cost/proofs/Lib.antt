@@ -15,3 +15,10 @@ pub mod PlainRenewals
 pub mod Bounds
 pub mod Making
 pub mod CountedMaking
+pub mod Mins
+pub mod Hulls
+pub mod Steps
+pub mod Packs
+pub mod Listings
+pub mod Large
+pub mod Over
