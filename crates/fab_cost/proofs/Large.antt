@@ -1,7 +1,7 @@
 -- The design of the nets with many terminals alone: what holds of a design holds of it.
 use Rattle.std.proofs.Common.{◌≡◌, ◌≢◌, ℕ, zero, suc, ◌+◌, ◌-◌, ◌<◌, ◌≤◌, cond, eqb, ltb, leb, not, ◌&&◌, ◌||◌, Bool, true, false, List, [], ◌∷◌, ◌++◌, map, take, length, get_or, Option, refl, sym, ap, ◌∙◌, subst, arith, inl, inr}
 use Rattle.std.specs.List.{sum_by, filter, range_with_len}
-use Rattle.std.proofs.lemmas.Bool.{cases_lt, false≢true, or_right}
+use Rattle.std.proofs.lemmas.Bool.{cases_lt, false≢true, ltb-true, or_right}
 use Rattle.std.proofs.lemmas.Bool.Decides.{nat_tests}
 use Rattle.std.proofs.lemmas.List.{length-map, get_or-map, get_or_past}
 use Rattle.std.proofs.lemmas.List.Elements.{filter_agree}
@@ -141,3 +141,9 @@ row_counts d b row k i z n are h e en = (entry_counts (large_of d) b k n (subst 
 -- the kept box of a net
 pub kept_is : (boxes : List CountedBox) (d : Netlist) (g : GridShape) (sites : List Site) (n : ℕ) (b : CountedBox) → HaveBoxes boxes (large_of d) g sites → Counts (large_of d) n → b ≡ counted_at boxes n → b ≡ counted_box d g sites n
 kept_is boxes d g sites n b have c e = e ∙ have.each n c ∙ box_large d g sites n
+
+pub not_large : (d : Netlist) (n : ℕ) (ts : List Terminal) → ts ≡ get_or d.terminals n [] → length ts ≤ 16 → Counts (large_of d) n → ⊥
+not_large d n ts e h c =
+    let l : length ts ≡ length (blocks_of d n) = ap length e ∙ sym (length-map (get_or d.terminals n []) block_on) in
+    let t : 16 < length (blocks_of d n) = ltb-true 16 (length (blocks_of d n)) (large_counts d n c).1 in
+    omega (arith, l, t, h)

@@ -22,3 +22,5 @@ pub mod Packs
 pub mod Listings
 pub mod Large
 pub mod Over
+pub mod Kept
+pub mod Alike

@@ -23,7 +23,7 @@ listed_none d entries e = record {
 }
 
 -- the row of a net
-listed_row : (d : Netlist) (n : ℕ) → n < length d.terminals → get_or (counted_blocks d) n [] ≡ cond (net_at d n).global [] (blocks_of d n)
+pub listed_row : (d : Netlist) (n : ℕ) → n < length d.terminals → get_or (counted_blocks d) n [] ≡ cond (net_at d n).global [] (blocks_of d n)
 listed_row d n h =
     let e = length-range_with_len 0 (length d.terminals) in
     get_or-map (λ n. cond (net_at d n).global [] (blocks_of d n)) (range_with_len 0 (length d.terminals)) n 0 [] (omega (arith, h, e))

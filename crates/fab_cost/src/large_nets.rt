@@ -74,7 +74,7 @@ fn renewed(
 /// What a net with this box costs, in ten-thousandths.
 pub(crate) fn cost_of_counted(design: &Design, net: NetId, kept: CountedBox) -> u64
     requires { Counts design.now net.0 }
-    ensures { (g : GridShape) (sites : List Site) → kept ≡ box_counted design.now g sites net.0 → result ≡ net_cost design.now g sites net.0 }
+    ensures { (g : GridShape) (sites : List ArraySite) → kept ≡ box_counted design.now g sites net.0 → result ≡ net_cost design.now g sites net.0 }
 {
     let _nets = design.nets();
     let terminals = design.terminals(net);
@@ -93,12 +93,26 @@ pub(crate) fn kept_box(boxes: &Vec<CountedBox>, net: NetId) -> CountedBox
 /// What the net costs with the box after the swap, and with the box before it.
 fn tally_between(design: &Design, net: NetId, old: CountedBox, new: CountedBox) -> Tally
     requires { Counts design.now net.0 }
-    ensures gained { (g : GridShape) (sites : List Site) → new ≡ box_counted design.now g sites net.0 → result.gained ≡ net_cost design.now g sites net.0 }
-    ensures lost { (g : GridShape) (sites : List Site) → old ≡ box_counted design.now g sites net.0 → result.lost ≡ net_cost design.now g sites net.0 }
+    ensures gained { (g : GridShape) (sites : List ArraySite) → new ≡ box_counted design.now g sites net.0 → result.gained ≡ net_cost design.now g sites net.0 }
+    ensures lost { (g : GridShape) (sites : List ArraySite) → old ≡ box_counted design.now g sites net.0 → result.lost ≡ net_cost design.now g sites net.0 }
 {
     Tally {
         gained: cost_of_counted(design, net, new),
         lost: cost_of_counted(design, net, old),
+    }
+}
+
+#[tactic(auto, using(crate::proofs::Large::not_large))]
+/// The box, if the net is a large one.
+fn if_large(design: &Design, net: NetId, made: CountedBox) -> CountedBox
+    requires { Counts design.now net.0 }
+    ensures { Counts (large_of design.now) net.0 → result ≡ made }
+{
+    let _nets = design.nets();
+    if WIDE < design.terminals(net).len() {
+        made
+    } else {
+        NOTHING
     }
 }
 
@@ -126,11 +140,7 @@ pub(crate) fn boxes_for(
         } else {
             let made = first_box(design, grid, placement, net);
             let cost = cost_of_counted(design, net, made);
-            if WIDE < design.terminals(net).len() {
-                boxes.push(made)?;
-            } else {
-                boxes.push(NOTHING)?;
-            }
+            boxes.push(if_large(design, net, made))?;
             total += cost;
         }
     }
