@@ -16,13 +16,13 @@ use Rattle.fab_cost.specs.Runs.{AreLarge, AreRecords, HasLarge, HasRecords, HasR
 use Rattle.fab_cost.proofs.Large.{filter_both}
 use Rattle.fab_cost.proofs.Listings.{listed_row}
 
-abbrev row : Netlist → ℕ → List ℕ
+abbrev pub row : Netlist → ℕ → List ℕ
 row d n = get_or (counted_blocks d) n []
 
 blocks_long : (d : Netlist) → length (counted_blocks d) ≡ length d.terminals
 blocks_long d = length-map-range_with_len (λ n. cond (net_at d n).global [] (blocks_of d n)) 0 (length d.terminals)
 
-row_is : (d : Netlist) (n : ℕ) → row d n ≡ cond (net_at d n).global [] (blocks_of d n)
+pub row_is : (d : Netlist) (n : ℕ) → row d n ≡ cond (net_at d n).global [] (blocks_of d n)
 row_is d n = elim (cases_lt n (length d.terminals)) [
   | inl l ↦ listed_row d n l
   | inr h ↦

@@ -1,5 +1,5 @@
 -- What a value keeps, and what it shows: positions by vectors, and boxes by positions or as they are kept.
-use Rattle.std.proofs.Common.{◌≡◌, ℕ, zero, suc, ◌+◌, ◌-◌, ◌<◌, ◌≤◌, ◌^◌, cond, ltb, not, ◌&&◌, Bool, true, false, List, [], ◌∷◌, ◌++◌, map, take, length, get_or, refl, sym, ap, ◌∙◌, subst, arith, inl, inr, length-append}
+use Rattle.std.proofs.Common.{◌≡◌, ℕ, zero, suc, ◌+◌, ◌-◌, ◌<◌, ◌≤◌, ◌^◌, cond, ltb, not, ◌&&◌, Bool, true, false, List, [], ◌∷◌, ◌++◌, map, take, length, get_or, refl, sym, ap, ◌∙◌, set, subst, arith, inl, inr, Option, Some, None, length-append, length-set}
 use Rattle.std.specs.List.{filter, range_with_len}
 use Rattle.std.proofs.lemmas.Bool.{cases_lt, ltb-true}
 use Rattle.std.proofs.lemmas.Bool.Decides.{nat_tests}
@@ -10,6 +10,8 @@ use Rattle.std.proofs.lemmas.Simd.{map-map}
 use Rattle.fab_arch.specs.declared.array.Site.{Site}
 use Rattle.fab_arch.specs.Grid.{GridShape}
 use Rattle.fab_net.specs.Netlist.{Netlist, net_at, nets_of, counted, has_number, IsLawful}
+use Rattle.fab_net.specs.declared.pieces.BlockId.{BlockId}
+use Rattle.fab_site.specs.declared.pieces.Swap.{Swap}
 use Rattle.fab_site.specs.Placement.{nowhere, site_of}
 use Rattle.fab_cost.specs.declared.edge_counts.CountedBox.{CountedBox}
 use Rattle.fab_cost.specs.declared.runs.Runs.{Runs}
@@ -17,7 +19,8 @@ use Rattle.fab_cost.specs.Cost.{clip, cost_of, xs_of, ys_of}
 use Rattle.fab_cost.specs.Boxes.{Counts}
 use Rattle.fab_cost.specs.Edges.{counted_box, counted_on, counts_of, edge_counts, edges_of}
 use Rattle.fab_cost.specs.Swapping.{CountedBoxesOf, CountedStandsFor, HaveBoxes, Position, position_at, blocks_of, counted_at, counted_blocks, nothing_counted}
-use Rattle.fab_cost.specs.Runs.{HasRecords, IsKept, box_seen, boxes_seen, counted_over, is_large, large_of, lanes_at, lanes_for, no_position, nowhere4, positions_in, table_from, table_of}
+use Rattle.fab_cost.specs.Runs.{HasRecords, IsKept, box_seen, boxes_seen, counted_over, is_large, large_of, lanes_at, lanes_for, no_position, nowhere4, positions_after, positions_in, positions_with, table_from, table_of}
+use Rattle.fab_cost.proofs.Alike.{alike, row_is}
 use Rattle.fab_cost.proofs.Large.{box_large, counts_large, large_counts}
 use Rattle.fab_cost.proofs.Listings.{listed_row}
 
@@ -39,6 +42,42 @@ table_by_positions g sites table e = e ∙ ap (λ v. v ++ nowhere4 ∷ []) (sym 
 
 pub table_is : (g : GridShape) (sites : List Site) (table : List (List ℕ)) → table ≡ table_from (positions_in table) → positions_in table ≡ map (position_at g) sites → table ≡ table_of g sites
 table_is g sites table e at = e ∙ ap table_from at ∙ ap (λ v. v ++ nowhere4 ∷ []) (map-map lanes_for (position_at g) sites)
+
+-- a table with another vector
+
+set_map : (f : Position → List ℕ) (ps : List Position) (k : ℕ) (p : Position) (more : List (List ℕ)) → k < length ps → set (map f ps ++ more) k (f p) ≡ map f (set ps k p) ++ more
+set_map f [] k p more h = absurd (omega arith)
+set_map f (q ∷ ps) zero p more h = refl
+set_map f (q ∷ ps) (suc k) p more h = ap (λ v. f q ∷ v) (set_map f ps k p more (omega (arith, h)))
+
+pub set_table : (table new : List (List ℕ)) (ps : List Position) (k : ℕ) (p : Position) (v : List ℕ) → k + 1 < length table → table ≡ table_from ps → v ≡ lanes_for p → new ≡ set table k v → new ≡ table_from (set ps k p)
+set_table table new ps k p v h e ev en =
+    let low : k < length ps = (let l = ap length e in let m = length-append (map lanes_for ps) (nowhere4 ∷ []) in let n = length-map ps lanes_for in omega (arith, h, l, m, n)) in
+    en ∙ (λ i. set (e i) k (ev i)) ∙ set_map lanes_for ps k p (nowhere4 ∷ []) low
+
+pub after_none : (g : GridShape) (s : Swap) (table new : List (List ℕ)) (ps : List Position) (v : List ℕ) → s.block.0 + 1 < length table → s.other ≡ None → table ≡ table_from ps → v ≡ lanes_at g s.to → new ≡ set table s.block.0 v → new ≡ table_from (positions_after g ps s)
+after_none g s table new ps v h o e ev en = set_table table new ps s.block.0 (position_at g s.to) v h e ev en ∙ ap (λ w. table_from (positions_with g (set ps s.block.0 (position_at g s.to)) w s.from)) (sym o)
+
+pub after_some : (g : GridShape) (s : Swap) (c : BlockId) (table mid new : List (List ℕ)) (ps : List Position) (v w : List ℕ) → s.block.0 + 1 < length table → c.0 + 1 < length table → s.other ≡ Some c → table ≡ table_from ps → v ≡ lanes_at g s.to → w ≡ lanes_at g s.from
+    → mid ≡ set table s.block.0 v → new ≡ set mid c.0 w → new ≡ table_from (positions_after g ps s)
+after_some g s c table mid new ps v w h k o e ev ew em en =
+    let l : c.0 + 1 < length mid = (let m = ap length em in let n = length-set table s.block.0 v in omega (arith, k, m, n)) in
+    set_table mid new (set ps s.block.0 (position_at g s.to)) c.0 (position_at g s.from) w l (set_table table mid ps s.block.0 (position_at g s.to) v h e ev em) ew en
+    ∙ ap (λ u. table_from (positions_with g (set ps s.block.0 (position_at g s.to)) u s.from)) (sym o)
+
+pub positions_of_from : (ps : List Position) (table : List (List ℕ)) → table ≡ table_from ps → positions_in table ≡ ps
+positions_of_from ps table e = ap positions_in e ∙ ap (map position_from) (last_left (map lanes_for ps) nowhere4) ∙ map-map position_from lanes_for ps ∙ map-id ps
+  where
+    map-id : (ps : List Position) → map (λ p. position_from (lanes_for p)) ps ≡ ps
+    map-id [] = refl
+    map-id (p ∷ ps) = ap (λ v. p ∷ v) (map-id ps)
+
+length_with : (g : GridShape) (ps : List Position) (o : Option BlockId) (s : Site) → length (positions_with g ps o s) ≡ length ps
+length_with g ps None s = refl
+length_with g ps (Some b) s = length-set ps b.0 (position_at g s)
+
+pub length_after : (g : GridShape) (ps : List Position) (s : Swap) → length (positions_after g ps s) ≡ length ps
+length_after g ps s = length_with g (set ps s.block.0 (position_at g s.to)) s.other s.from ∙ length-set ps s.block.0 (position_at g s.to)
 
 -- boxes
 
@@ -114,3 +153,49 @@ have_seen d g sites nets ps kept is w e ep have = record {
 pub counts_shown : (b : CountedBoxesOf) (d : Netlist) (g : GridShape) (sites : List Site) (n : ℕ) (kept : CountedBox) → CountedStandsFor b d g sites → Counts d n → kept ≡ counted_at b.boxes n → counts_of kept ≡ edge_counts d g sites n
 unfolding edge_counts
 counts_shown b d g sites n kept is c e = ap counts_of (e ∙ is.have.each n c)
+
+-- the whole value
+
+low_row : (d : Netlist) (n i : ℕ) → IsLawful d → i < length (get_or (counted_blocks d) n []) → get_or (get_or (counted_blocks d) n []) i 0 < length d.kinds
+low_row d n i is h = go (net_at d n).global (row_is d n)
+  where
+    go : (g : Bool) → get_or (counted_blocks d) n [] ≡ cond g [] (blocks_of d n) → get_or (get_or (counted_blocks d) n []) i 0 < length d.kinds
+    go true e = absurd (let l = ap length e in omega (arith, h, l))
+    go false e = (let l = ap length e in let a = ap (λ v. get_or v i 0) e in let w = is.within n i (omega (arith, h, l)) in omega (arith, a, w))
+
+pub kept_new : (d : Netlist) (g : GridShape) (sites : List Site) (table : List (List ℕ)) (r : Runs) (kept : List CountedBox) (total : ℕ) → IsLawful d → length d.kinds ≡ length sites → table ≡ table_of g sites → HasRecords r d → r.terminals ≡ counted_blocks d
+    → HaveBoxes kept (large_of d) g sites → total < 2 ^ 43 → IsKept table r kept total
+kept_new d g sites table r kept total is w et records terminals have low =
+    let long : length (positions_in table) ≡ length d.kinds = ap length (positions_of_table g sites table et) ∙ length-map sites (position_at g) ∙ sym w in
+    record {
+      below = low;
+      vectors = table_by_positions g sites table et;
+      long = have.long ∙ sym (nets_long d r.terminals terminals);
+      within = λ n i h.
+          let e = ap (λ v. get_or v n []) terminals in
+          let a = ap (λ v. get_or v i 0) e in
+          let v = low_row d n i is (let l = ap length e in omega (arith, h, l)) in
+          omega (arith, a, v, long);
+      runs = λ e same kinds. alike d e r (sym terminals ∙ same) (sym long ∙ kinds) records;
+    }
+
+pub kept_after : (old new : List (List ℕ)) (r : Runs) (boxes kept : List CountedBox) (was total : ℕ) → IsKept old r boxes was → length (positions_in new) ≡ length (positions_in old) → new ≡ table_from (positions_in new) → length kept ≡ length boxes → total < 2 ^ 43 → IsKept new r kept total
+kept_after old new r boxes kept was total is long vectors kept_long low = record {
+  below = low;
+  vectors = vectors;
+  long = kept_long ∙ is.long;
+  within = λ n i h. let w = is.within n i h in omega (arith, w, long);
+  runs = λ e same kinds. is.runs e same (sym long ∙ kinds);
+}
+
+pub stands_by : (d : Netlist) (g : GridShape) (sites : List Site) (table : List (List ℕ)) (r : Runs) (kept : List CountedBox) (total : ℕ) → IsLawful d → length d.kinds ≡ length sites → table ≡ table_of g sites → r.terminals ≡ counted_blocks d → HaveBoxes kept (large_of d) g sites → total ≡ cost_of d g sites
+    → CountedStandsFor (record { nets = r.terminals; positions = positions_in table; boxes = boxes_seen r.terminals (positions_in table) kept; total = total }) d g sites
+stands_by d g sites table r kept total is w et terminals have sum =
+    let at = positions_of_table g sites table et in
+    record {
+      made = record { nets = terminals; blocks = ap length at ∙ length-map sites (position_at g) ∙ sym w };
+      at = at;
+      have = have_seen d g sites r.terminals (positions_in table) kept is w terminals at have;
+      sum = sum;
+      whole = w;
+    }

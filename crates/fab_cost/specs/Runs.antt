@@ -1,5 +1,5 @@
 -- Positions as vectors of lanes, the nets of a block as records of the other blocks on them, and what is kept so (our own).
-use Rattle.std.specs.Prelude.{ℕ, ◌≡◌, ◌+◌, ◌*◌, ◌^◌, Option, ◌-◌, ◌<◌, ◌≤◌, ◌==◌, ◌&&◌, ◌||◌, not, nat_lt, nat_le, min, if◌then◌else◌, Bool, true, false, List, [], ◌∷◌, ◌++◌, map, take, filter, length, slice_index, slice_index_or}
+use Rattle.std.specs.Prelude.{ℕ, ◌≡◌, ◌+◌, ◌*◌, ◌^◌, Option, ◌-◌, ◌<◌, ◌≤◌, ◌==◌, ◌&&◌, ◌||◌, not, nat_lt, nat_le, min, if◌then◌else◌, Bool, true, false, List, [], ◌∷◌, ◌++◌, map, take, filter, length, slice_index, slice_index_or, slice_set, Some, None}
 use Rattle.std.specs.List.{sum_by, range_with_len}
 use lib.Lanes.{zip2, fold_l, sum_l}
 use Rattle.fab_arch.specs.declared.array.Site.{Site}
@@ -7,6 +7,7 @@ use Rattle.fab_arch.specs.Grid.{GridShape}
 use Rattle.fab_net.specs.Rows.{row_of}
 use Rattle.fab_net.specs.Netlist.{Netlist, net_at, nets_of, counted, has_number}
 use Rattle.fab_net.specs.declared.pieces.BlockId.{BlockId}
+use Rattle.fab_site.specs.declared.pieces.Swap.{Swap}
 use Rattle.fab_cost.specs.declared.records.Record.{Record}
 use Rattle.fab_cost.specs.declared.runs.Runs.{Runs}
 use Rattle.fab_cost.specs.declared.edge_counts.CountedBox.{CountedBox}
@@ -46,6 +47,14 @@ positions_in table = map (λ v. record { x = slice_index v 0; y = slice_index v 
 
 abbrev pub table_from : List Position → List (List ℕ)
 table_from positions = map lanes_for positions ++ nowhere4 ∷ []
+
+-- the positions with those of a swap's blocks after it
+abbrev pub positions_with : GridShape → List Position → Option BlockId → Site → List Position
+positions_with g positions None s = positions
+positions_with g positions (Some b) s = slice_set positions b.0 (position_at g s)
+
+abbrev pub positions_after : GridShape → List Position → Swap → List Position
+positions_after g positions s = positions_with g (slice_set positions s.block.0 (position_at g s.to)) s.other s.from
 
 -- the vector of a block, where one block is seen at another place
 abbrev pub seen_in : List (List ℕ) → ℕ → List ℕ → ℕ → List ℕ

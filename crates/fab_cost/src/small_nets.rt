@@ -7,7 +7,8 @@ ghost use Rattle.std.specs.List.{All};
 ghost use Rattle.fab_arch.specs.declared.array.Site.{Site as ArraySite};
 ghost use Rattle.fab_net.specs.Netlist.{nets_of};
 ghost use Rattle.fab_site.specs.Placement.{swapped, IsSwapOf};
-ghost use Rattle.fab_cost.specs.Runs.{HasRecords, IsStep, counted_over, few_all, few_cost, positions_in, table_from, table_of};
+ghost use Rattle.fab_cost.specs.Runs.{HasRecords, IsStep, counted_over, few_all, few_cost, positions_after, positions_in, table_from, table_of};
+ghost use Rattle.fab_cost.specs.Swapping.{Position};
 
 use crate::edge_boxes::{Tally, plus};
 use crate::edge_counts::{CountedBox, Edges, NOTHING};
@@ -106,12 +107,12 @@ pub(crate) fn change_of_small(
     }
 }
 
-#[tactic(auto, using(crate::proofs::Steps::table_none))]
 /// Gives the swap's blocks their new positions.
 pub(crate) fn renew_lanes(lanes: &mut Vec<u16x4>, grid: &Grid, swap: &Swap)
-    requires block { swap.now.block.0 < length lanes.old.items }
-    requires other { (b : Block) → swap.now.other ≡ Some b → b.0 < length lanes.old.items }
-    ensures { (sites : List ArraySite) → IsSwapOf grid.now sites swap.now → lanes.old.items ≡ table_of grid.now sites → lanes.new.items ≡ table_of grid.now (swapped sites swap.now) }
+    requires block { swap.now.block.0 + 1 < length lanes.old.items }
+    requires other { (b : Block) → swap.now.other ≡ Some b → b.0 + 1 < length lanes.old.items }
+    ensures swapped { (sites : List ArraySite) → IsSwapOf grid.now sites swap.now → lanes.old.items ≡ table_of grid.now sites → lanes.new.items ≡ table_of grid.now (swapped sites swap.now) }
+    ensures table { (positions : List Position) → lanes.old.items ≡ table_from positions → lanes.new.items ≡ table_from (positions_after grid.now positions swap.now) }
 {
     lanes[swap.block.0 as usize] = lanes_of(grid, swap.to);
     if let Some(other) = swap.other {
