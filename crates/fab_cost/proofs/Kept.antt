@@ -102,7 +102,7 @@ seen_small nets ps kept n h l =
 pub nets_long : (d : Netlist) (nets : List (List ℕ)) → nets ≡ counted_blocks d → length nets ≡ length d.terminals
 nets_long d nets e = ap length e ∙ length-map-range_with_len (λ n. cond (net_at d n).global [] (blocks_of d n)) 0 (length d.terminals)
 
-row_counted : (d : Netlist) (nets : List (List ℕ)) (n : ℕ) → nets ≡ counted_blocks d → Counts d n → get_or nets n [] ≡ blocks_of d n
+pub row_counted : (d : Netlist) (nets : List (List ℕ)) (n : ℕ) → nets ≡ counted_blocks d → Counts d n → get_or nets n [] ≡ blocks_of d n
 row_counted d nets n e c = ap (λ v. get_or v n []) e ∙ listed_row d n c.within ∙ (λ i. cond (c.counted i) [] (blocks_of d n))
 
 -- the kept boxes are those of the large nets
