@@ -147,3 +147,7 @@ not_large d n ts e h c =
     let l : length ts ≡ length (blocks_of d n) = ap length e ∙ sym (length-map (get_or d.terminals n []) block_on) in
     let t : 16 < length (blocks_of d n) = ltb-true 16 (length (blocks_of d n)) (large_counts d n c).1 in
     omega (arith, l, t, h)
+
+-- the whole change, by size
+pub change_both : (d : Netlist) (g : GridShape) (before after : List Site) (gained lost more less : ℕ) → few_all d g after + lost ≡ few_all d g before + gained → cost_of (large_of d) g after + less ≡ cost_of (large_of d) g before + more → cost_of d g after + (lost + less) ≡ cost_of d g before + (gained + more)
+change_both d g before after gained lost more less few many = omega (arith, few, many, both_large d g before, both_large d g after)
