@@ -1,8 +1,8 @@
 -- Two designs whose counting nets have the same blocks have the same runs.
-use Rattle.std.proofs.Common.{◌≡◌, ℕ, ◌+◌, ◌<◌, ◌≤◌, cond, ltb, leb, eqb, not, ◌&&◌, Bool, true, false, List, [], ◌∷◌, map, length, get_or, refl, sym, ap, ◌∙◌, subst, arith, inl, inr}
+use Rattle.std.proofs.Common.{◌≡◌, ℕ, cond, ltb, leb, eqb, not, ◌&&◌, Bool, true, false, List, [], map, length, get_or, refl, sym, ap, ◌∙◌, subst, arith, inl, inr}
 use Rattle.std.specs.List.{filter, range_with_len}
-use Rattle.std.proofs.lemmas.Bool.{cases_lt, cases_Bool, false≢true}
-use Rattle.std.proofs.lemmas.List.{length-map, get_or_past}
+use Rattle.std.proofs.lemmas.Bool.{cases_lt, false≢true}
+use Rattle.std.proofs.lemmas.List.{get_or_past}
 use Rattle.std.proofs.lemmas.List.Elements.{filter_agree}
 use Rattle.std.proofs.lemmas.List.FromFn.{length-map-range_with_len}
 use Rattle.fab_net.specs.declared.pieces.Terminal.{Terminal}
@@ -12,7 +12,7 @@ use Rattle.fab_cost.specs.declared.runs.Runs.{Runs}
 use Rattle.fab_cost.specs.Boxes.{Counts}
 use Rattle.fab_cost.specs.Cost.{cross_of}
 use Rattle.fab_cost.specs.Swapping.{blocks_of, counted_blocks}
-use Rattle.fab_cost.specs.Runs.{AreLarge, AreRecords, HasLarge, HasRecords, HasRows, IsRecord, is_large, is_sized, nets_between}
+use Rattle.fab_cost.specs.Runs.{AreLarge, AreRecords, HasRecords, HasRows, IsRecord, nets_between}
 use Rattle.fab_cost.proofs.Large.{filter_both}
 use Rattle.fab_cost.proofs.Listings.{listed_row}
 

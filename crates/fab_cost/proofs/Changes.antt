@@ -8,8 +8,7 @@ use Rattle.std.proofs.lemmas.List.Sums.{sum_by_more, sum_by_more_le}
 use Rattle.fab_arch.specs.declared.array.Site.{Site}
 use Rattle.fab_arch.specs.Grid.{GridShape}
 use Rattle.fab_net.specs.declared.pieces.BlockId.{BlockId}
-use Rattle.fab_net.specs.declared.pieces.Terminal.{Terminal}
-use Rattle.fab_net.specs.Netlist.{Netlist, block_on, nets_of, IsLawful}
+use Rattle.fab_net.specs.Netlist.{Netlist, nets_of, IsLawful}
 use Rattle.fab_site.specs.declared.pieces.Swap.{Swap}
 use Rattle.fab_site.specs.Placement.{site_of, swapped, IsSwapOf}
 use Rattle.fab_site.proofs.Swapping.{ready}
@@ -21,7 +20,7 @@ use Rattle.fab_cost.specs.Boxes.{Counts}
 use Rattle.fab_cost.specs.Changes.{reach_between, Surrounds, IsLeastEnd, IsGreatestEnd, AreEndsAfter, IsPlainAfter, IsPlainSwapped, IsChange}
 use Rattle.fab_cost.specs.Cost.{Box, clip, least, greatest, xs_of, ys_of, box_on, net_box, net_cost, cost_of, cross_of, half_perimeter}
 use Rattle.fab_cost.specs.Edges.{times, edges_of, counted_on, counted_box, plain, Moved, AreEdgesAfter}
-use Rattle.fab_cost.specs.Swapping.{blocks_of, has_block, cost_unless, counted_at, times_other, IsBoxAfter, IsBoxSwapped, HaveBoxes}
+use Rattle.fab_cost.specs.Swapping.{blocks_of, has_block, cost_unless, times_other, IsBoxAfter, IsBoxSwapped}
 use Rattle.fab_cost.proofs.BoxMoves.{coordinates, sites_on as moved_on, sites_back as moved_back, length_xs, length_ys, swapped_still}
 use Rattle.fab_cost.proofs.Moves.{least_is, greatest_is, least_only, greatest_only, some_entry, least_given, greatest_given, least_kept, greatest_kept, edges_after, edges_same}
 use Rattle.fab_cost.proofs.Nets.{plain_is, sum_below}
@@ -253,12 +252,6 @@ half_of_one g f h [] few = refl
 half_of_one g f h (b ∷ []) few = omega arith
 half_of_one g f h (b ∷ c ∷ bs) few = absurd (omega arith)
 
-pub alone : (d : Netlist) (g : GridShape) (before after : List Site) (but : Option BlockId) (n : ℕ) (ts : List Terminal) → ts ≡ get_or d.terminals n [] → length ts ≤ 1 → IsChange (cost_unless d g before but n) (cost_unless d g after but n) 0 0
-unfolding net_cost net_box
-alone d g before after but n ts e few =
-    let l : length (blocks_of d n) ≤ 1 = omega (arith, ap length e, length-map (get_or d.terminals n []) block_on) in
-    unless_same d g before after but n (ap (λ v. cross_of (length (blocks_of d n)) * v) (half_of_one g (site_of after) (site_of before) (blocks_of d n) l))
-
 -- sums of changes
 
 pub none : (d : Netlist) (g : GridShape) (before after : List Site) (but : Option BlockId) (b : ℕ) → IsChange (sum_by (cost_unless d g before but) (take 0 (nets_of d b))) (sum_by (cost_unless d g after but) (take 0 (nets_of d b))) 0 0
@@ -325,6 +318,3 @@ whole_some d g sites s c gained lost more less o one two =
     let k = one.balance in
     let l = two.balance in
     omega (arith, k, l, balance_some d g sites s c (sum_on d g (swapped sites s) s.block.0 None) (sum_on d g sites s.block.0 None) (sum_on d g (swapped sites s) c.0 (Some s.block)) (sum_on d g sites c.0 (Some s.block)) o refl refl refl refl)
-
-pub old_is : (boxes : List CountedBox) (d : Netlist) (g : GridShape) (sites : List Site) (n : ℕ) (b : CountedBox) → HaveBoxes boxes d g sites → Counts d n → b ≡ counted_at boxes n → b ≡ counted_box d g sites n
-old_is boxes d g sites n b have c e = e ∙ have.each n c

@@ -1,18 +1,16 @@
 -- The least of vectors as the box of a net, and what the nets of a block cost by their records.
-use Rattle.std.proofs.Common.{◌≡◌, ◌≢◌, ℕ, zero, suc, ◌+◌, ◌-◌, ◌*◌, ◌<◌, ◌≤◌, min, max, cond, eqb, not, ◌&&◌, Bool, true, false, List, [], ◌∷◌, ◌++◌, map, take, length, get_or, set, refl, sym, ap, ◌∙◌, arith, inl, inr, get_or-set_other, get_or-set_same, length-set}
+use Rattle.std.proofs.Common.{◌≡◌, ◌≢◌, ℕ, zero, suc, ◌+◌, ◌-◌, ◌*◌, ◌<◌, ◌≤◌, min, cond, eqb, not, ◌&&◌, true, List, [], ◌∷◌, map, length, get_or, set, refl, sym, ap, ◌∙◌, arith, inl, inr, get_or-set_other, get_or-set_same}
 use Rattle.std.specs.List.{sum_by}
-use Rattle.std.proofs.lemmas.Bool.{and_parts, cases_eq, cases_lt, cases_Bool, false≢true, ne_eqb, eq-eqb}
-use Rattle.std.proofs.lemmas.Bool.Decides.{nat_tests}
-use Rattle.std.proofs.lemmas.List.{get_or-map, get_or_past, get_or_append_left, length-map}
+use Rattle.std.proofs.lemmas.Bool.{and_parts, cases_eq, cases_lt, false≢true, ne_eqb, eq-eqb}
+use Rattle.std.proofs.lemmas.List.{get_or-map, get_or_past, length-map}
 use Rattle.std.proofs.lemmas.List.Sums.{sum_by-cons}
 use Rattle.std.proofs.lemmas.Simd.{map-map}
-use lib.Lanes.{zip2, fold_l, sum_l}
+use lib.Lanes.{fold_l, sum_l}
 use Rattle.fab_arch.specs.declared.array.Site.{Site}
 use Rattle.fab_arch.specs.Grid.{GridShape}
 use Rattle.fab_net.specs.Netlist.{Netlist, has_number, IsLawful}
 use Rattle.fab_site.specs.Placement.{nowhere, site_of}
-use Rattle.fab_cost.specs.Boxes.{Counts}
-use Rattle.fab_cost.specs.Cost.{Box, clip, least, greatest, least_with, greatest_with, xs_of, ys_of, box_on, half_perimeter, net_box, net_cost, cross_of}
+use Rattle.fab_cost.specs.Cost.{clip, least, greatest, least_with, greatest_with, box_on, half_perimeter, net_box, net_cost}
 use Rattle.fab_cost.specs.Swapping.{blocks_of}
 use Rattle.fab_cost.specs.Runs.{four, nowhere4, lanes_at, lanes_in, least_of, least_among, table_of, seen_in, weight, IsRecord, AreRecords}
 use Rattle.fab_cost.specs.declared.records.Record.{Record}

@@ -1,8 +1,7 @@
 -- The design of the nets with many terminals alone: what holds of a design holds of it.
-use Rattle.std.proofs.Common.{◌≡◌, ◌≢◌, ℕ, zero, suc, ◌+◌, ◌-◌, ◌<◌, ◌≤◌, cond, eqb, ltb, leb, not, ◌&&◌, ◌||◌, Bool, true, false, List, [], ◌∷◌, ◌++◌, map, take, length, get_or, Option, refl, sym, ap, ◌∙◌, subst, arith, inl, inr}
+use Rattle.std.proofs.Common.{◌≡◌, ℕ, ◌+◌, ◌<◌, ◌≤◌, cond, ltb, not, ◌&&◌, ◌||◌, Bool, true, false, List, [], ◌∷◌, map, length, get_or, Option, refl, sym, ap, ◌∙◌, subst, arith, inl, inr}
 use Rattle.std.specs.List.{sum_by, filter, range_with_len}
 use Rattle.std.proofs.lemmas.Bool.{cases_lt, false≢true, ltb-true, or_right}
-use Rattle.std.proofs.lemmas.Bool.Decides.{nat_tests}
 use Rattle.std.proofs.lemmas.List.{length-map, get_or-map, get_or_past}
 use Rattle.std.proofs.lemmas.List.Elements.{filter_agree}
 use Rattle.std.proofs.lemmas.Grind.{get_or_default_zero}
@@ -61,9 +60,6 @@ large_counts d n c =
 
 pub global_large : (d : Netlist) (n : ℕ) → (net_at d n).global ≡ true → (net_at (large_of d) n).global ≡ true
 global_large d n e = global_at d n ∙ or_right (not (is_large d n)) (net_at d n).global e
-
-pub small_large : (d : Netlist) (n : ℕ) → is_large d n ≡ false → (net_at (large_of d) n).global ≡ true
-small_large d n e = global_at d n ∙ (λ i. not (e i) || (net_at d n).global)
 
 counted_large : (d : Netlist) → counted (large_of d) ≡ filter (is_large d) (counted d)
 counted_large d =

@@ -8,7 +8,6 @@ pub mod Split
 pub mod Nets
 pub mod Changes
 pub mod Shares
-pub mod Seen
 pub mod Renewals
 pub mod TakenOver
 pub mod PlainRenewals

@@ -1,5 +1,5 @@
 -- The lane-wise least of vectors.
-use Rattle.std.proofs.Common.{◌≡◌, ℕ, zero, suc, ◌+◌, ◌-◌, ◌<◌, ◌≤◌, min, cond, ltb, Bool, true, false, List, [], ◌∷◌, ◌++◌, map, take, length, get_or, refl, sym, ap, ◌∙◌, arith, inl, inr}
+use Rattle.std.proofs.Common.{◌≡◌, ℕ, ◌+◌, ◌<◌, ◌≤◌, min, cond, ltb, List, [], ◌∷◌, ◌++◌, map, take, length, get_or, refl, sym, ap, ◌∙◌, arith}
 use Rattle.std.proofs.lemmas.Bool.Decides.{nat_tests}
 use Rattle.std.proofs.lemmas.List.{take_all, take_more}
 use Rattle.std.specs.List.{sum_by}
@@ -7,7 +7,7 @@ use Rattle.std.proofs.lemmas.List.Sums.{sum_by_more}
 use lib.Lanes.{zip2, sel_l, sum_l, fold_l, top}
 use Rattle.std.proofs.lemmas.Simd.{tops_compared}
 use mir.Syntax.{w16}
-use Rattle.fab_cost.specs.Runs.{four, nowhere4, least_of, least_among}
+use Rattle.fab_cost.specs.Runs.{nowhere4, least_of, least_among}
 
 sel_min : (xs ys : List ℕ) → sel_l (zip2 ltb xs ys) xs ys ≡ zip2 (λ x y. min x y) xs ys
 sel_min [] ys = refl

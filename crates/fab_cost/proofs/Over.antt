@@ -1,5 +1,5 @@
 -- Boxes made from positions.
-use Rattle.std.proofs.Common.{◌≡◌, ℕ, zero, suc, ◌+◌, ◌-◌, ◌<◌, ◌≤◌, List, [], ◌∷◌, ◌++◌, map, take, length, get_or, refl, sym, ap, ◌∙◌, arith, length-append}
+use Rattle.std.proofs.Common.{◌≡◌, ℕ, ◌+◌, ◌<◌, ◌≤◌, List, [], ◌∷◌, ◌++◌, map, take, length, get_or, sym, ap, ◌∙◌, arith, length-append}
 use Rattle.std.proofs.lemmas.List.{map-append, length-map, get_or-map, take_all, take_more, get_or_append_left, length-take-le}
 use Rattle.fab_cost.specs.declared.edge_counts.Edges.{Edges}
 use Rattle.fab_cost.specs.declared.edge_counts.CountedBox.{CountedBox}
@@ -27,11 +27,6 @@ lane_y table ps k z v e h ev = ap (λ w. get_or w 2 0) (ev ∙ lanes_at_block ta
 
 pub table_low : (table : List (List ℕ)) (ps : List Position) (k : ℕ) → table ≡ table_from ps → k < length ps → k < length table
 table_low table ps k e h = let l = length-map ps lanes_for in let a = length-append (map lanes_for ps) (nowhere4 ∷ []) in omega (arith, h, l, a, ap length e)
-
--- the edges of the first blocks' coordinates
-pub one_edge : (f : ℕ → ℕ) (ks : List ℕ) (z v : ℕ) (e : Edges) → 0 < length ks → v ≡ f (get_or ks 0 z) → e ≡ edges_of (v ∷ []) → e ≡ edges_of (map f (take 1 ks))
-one_edge f [] z v e h ev is = absurd (omega arith)
-one_edge f (k ∷ ks) z v e h ev is = is ∙ (λ i. edges_of (ev i ∷ []))
 
 length_first : (f : ℕ → ℕ) (ks : List ℕ) (i : ℕ) → i ≤ length ks → length (map f (take i ks)) ≡ i
 length_first f ks i h = length-map (take i ks) f ∙ length-take-le i ks h

@@ -1,24 +1,31 @@
 -- Records while they are made.
-use Rattle.std.proofs.Common.{◌≡◌, ◌≢◌, ℕ, zero, suc, ◌+◌, ◌-◌, ◌*◌, ◌<◌, ◌≤◌, ◌^◌, cond, eqb, ltb, leb, not, ◌&&◌, ◌||◌, Bool, true, false, List, [], ◌∷◌, ◌++◌, map, take, length, get_or, set, refl, sym, ap, ◌∙◌, subst, arith, inl, inr, get_or-set_other, get_or-set_same, length-set, length-append}
+use Rattle.std.proofs.Common.{◌≡◌, ◌≢◌, ℕ, zero, suc, ◌+◌, ◌-◌, ◌<◌, ◌≤◌, ◌^◌, cond, eqb, ltb, leb, not, ◌&&◌, ◌||◌, Bool, true, false, List, [], ◌∷◌, ◌++◌, map, take, length, get_or, set, refl, sym, ap, ◌∙◌, subst, arith, inl, inr, get_or-set_other, get_or-set_same, length-set, length-append}
 use Rattle.std.specs.List.{filter, All, range_with_len}
 use Rattle.std.proofs.lemmas.Bool.{cases_eq, cases_lt, cases_Bool, false≢true, ne_eqb, eq-eqb, ltb-true, leb-true, and_parts}
 use Rattle.std.proofs.lemmas.Bool.Decides.{nat_tests}
-use Rattle.std.proofs.lemmas.List.{map-append, get_or-map, length-map, take_all, get_or_append_left, get_or_push}
+use Rattle.std.proofs.lemmas.List.{map-append, map_more, get_or-map, length-map, take_all, get_or_append_left, get_or_push}
 use Rattle.std.proofs.lemmas.Simd.{length-replicate, get_or-replicate}
 use Rattle.std.specs.Prelude.{replicate}
 use Rattle.std.proofs.lemmas.List.Elements.{filter_more}
 use Rattle.std.proofs.lemmas.List.FromFn.{length-range_with_len, get_or-range_with_len}
 use Rattle.fab_net.specs.declared.pieces.Terminal.{Terminal}
 use Rattle.fab_net.specs.Rows.{row_of, rows_of}
-use Rattle.fab_net.specs.Netlist.{Netlist, net_at, block_on, nets_of, has_number, IsLawful}
+use Rattle.fab_net.specs.Netlist.{Netlist, block_on, nets_of, has_number, IsLawful}
 use Rattle.fab_net.proofs.Stamps.{row_push}
 use Rattle.fab_cost.specs.Boxes.{Counts}
 use Rattle.fab_cost.specs.Cost.{cross_of}
 use Rattle.fab_cost.specs.Swapping.{blocks_of}
 use Rattle.fab_cost.specs.declared.records.Record.{Record}
-use Rattle.fab_cost.specs.Runs.{AreLarger, ArePacked, nets_to, is_sized, is_large, nets_between, IsRecord, AreRecords, AreLarge, HasRows, HasLarge}
+use Rattle.fab_cost.specs.Runs.{AreLarger, ArePacked, nets_to, is_sized, is_large, IsRecord, AreRecords, AreLarge, HasRows, HasLarge}
 use Rattle.fab_cost.proofs.Bounds.{cross_le}
-use Rattle.fab_cost.proofs.Seen.{seen_more}
+use Rattle.fab_cost.proofs.Shares.{has_push, same_way}
+
+-- whether a number is among the first terminals
+seen_more : (v : ℕ) (ts : List Terminal) (d : Terminal) (i m : ℕ) (on : Bool) → i < length ts → m ≡ block_on (get_or ts i d) → on ≡ has_number v (map block_on (take i ts)) → (on || eqb m v) ≡ has_number v (map block_on (take (i + 1) ts))
+seen_more v ts d i m on h em e =
+    let bs : List ℕ = map block_on (take i ts) in
+    (λ j. e j || eqb m v) ∙ ap (λ b. has_number v bs || b) (same_way v m) ∙ sym (has_push v m bs)
+    ∙ (λ j. has_number v (bs ++ em j ∷ [])) ∙ ap (has_number v) (sym (map_more block_on ts i d h))
 
 -- a number is written in the place of one that is no block
 has_set : (k v none : ℕ) (xs : List ℕ) (j : ℕ) → j < length xs → get_or xs j 0 ≡ none → k ≢ none → has_number k (set xs j v) ≡ (eqb k v || has_number k xs)

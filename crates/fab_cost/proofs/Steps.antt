@@ -1,13 +1,11 @@
 -- The nets of a block by size, and what a swap makes of them all.
-use Rattle.std.proofs.Common.{◌≡◌, ◌≢◌, ℕ, zero, suc, ◌+◌, ◌-◌, ◌*◌, ◌<◌, ◌≤◌, ◌^◌, cond, eqb, ltb, leb, not, ◌&&◌, Bool, true, false, List, [], ◌∷◌, ◌++◌, map, take, length, get_or, set, Option, Some, None, refl, sym, ap, ◌∙◌, subst, arith, inl, inr, get_or-set_other, get_or-set_same, length-set, length-append}
+use Rattle.std.proofs.Common.{◌≡◌, ℕ, zero, suc, ◌+◌, ◌*◌, ◌<◌, ◌≤◌, ◌^◌, cond, ltb, leb, not, ◌&&◌, Bool, true, false, List, [], ◌∷◌, ◌++◌, map, take, length, set, Option, Some, None, refl, sym, ap, ◌∙◌, subst, arith, inl, inr, get_or-set_other, length-set, length-append}
 use Rattle.std.specs.List.{sum_by, filter, All, range_with_len}
-use Rattle.std.proofs.lemmas.Bool.{cases_lt, cases_Bool, leb-true}
+use Rattle.std.proofs.lemmas.Bool.{cases_Bool, leb-true}
 use Rattle.std.proofs.lemmas.Bool.Decides.{nat_tests}
-use Rattle.std.proofs.lemmas.List.{length-map, get_or-map, take_all, take_more, map-append}
+use Rattle.std.proofs.lemmas.List.{length-map, take_all, take_more, map-append}
 use Rattle.std.proofs.lemmas.List.Filters.{sum_by-filter_both}
-use Rattle.std.proofs.lemmas.Grind.{get_or_default_zero}
 use lib.Lanes.{sum_l}
-use Rattle.std.proofs.lemmas.List.Sums.{sum_by-cons, sum_by_more, sum_by_more_le}
 use Rattle.std.proofs.lemmas.List.FromFn.{length-range_with_len}
 use Rattle.fab_arch.specs.declared.array.Site.{Site}
 use Rattle.fab_arch.specs.Grid.{GridShape}
@@ -16,12 +14,11 @@ use Rattle.fab_net.specs.Netlist.{Netlist, net_at, nets_of, counted, has_number,
 use Rattle.fab_site.specs.declared.pieces.Swap.{Swap}
 use Rattle.fab_site.specs.Placement.{nowhere, site_of, swapped, with_other, IsSwapOf}
 use Rattle.fab_site.proofs.Swapping.{ready}
-use Rattle.fab_cost.specs.Cost.{half_perimeter, box_on, net_box, net_cost, cost_of, cross_of}
+use Rattle.fab_cost.specs.Cost.{net_box, net_cost, cost_of, cross_of}
 use Rattle.fab_cost.specs.Swapping.{blocks_of}
 use Rattle.fab_cost.specs.declared.records.Record.{Record}
 use Rattle.fab_cost.specs.Runs.{lanes_at, lanes_in, weight, table_of, seen_in, is_sized, is_large, nets_between, few_cost, few_all, nowhere4, AreRecords, AreWithin, IsStep}
-use Rattle.fab_cost.proofs.Bounds.{AreSides, filter_le}
-use Rattle.fab_cost.proofs.Nets.{sum_below}
+use Rattle.fab_cost.proofs.Bounds.{AreSides}
 use Rattle.fab_cost.proofs.Sited.{other_within, other_is_apart}
 use Rattle.fab_cost.proofs.Changes.{half_of_one}
 use Rattle.fab_cost.proofs.Split.{sum_filter, split_one, cost_kept}

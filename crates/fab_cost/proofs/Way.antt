@@ -1,21 +1,20 @@
 -- A value whose placement is on its way to another: one more swap.
-use Rattle.std.proofs.Common.{◌≡◌, ℕ, ◌+◌, ◌<◌, ◌≤◌, Bool, true, false, cond, ltb, List, [], length, get_or, map, refl, sym, ap, subst, ◌∙◌, arith, inl, inr}
+use Rattle.std.proofs.Common.{◌≡◌, ℕ, ◌<◌, ◌≤◌, Bool, true, false, cond, List, [], length, get_or, map, refl, sym, ap, ◌∙◌, arith, inl, inr}
 use Rattle.std.proofs.lemmas.Bool.{cases_lt}
-use Rattle.std.proofs.lemmas.Bool.Decides.{nat_tests}
 use Rattle.std.proofs.lemmas.List.{length-map}
 use Rattle.fab_arch.specs.declared.array.Site.{Site}
 use Rattle.fab_arch.specs.Grid.{GridShape}
 use Rattle.fab_net.specs.Netlist.{Netlist, has_number, IsLawful}
 use Rattle.fab_site.specs.declared.pieces.Swap.{Swap}
-use Rattle.fab_site.specs.Placement.{swapped, IsSwapOf}
+use Rattle.fab_site.specs.Placement.{swapped}
 use Rattle.fab_site.proofs.Swaps.{length-swapped}
 use Rattle.fab_cost.specs.declared.edge_counts.CountedBox.{CountedBox}
 use Rattle.fab_cost.specs.Boxes.{Counts}
 use Rattle.fab_cost.specs.Cost.{cost_of, sites_on}
 use Rattle.fab_cost.specs.Edges.{counted_box, counted_on}
-use Rattle.fab_cost.specs.Swapping.{CountedBoxesOf, CountedStandsFor, HaveBoxes, IsMadeFor, IsOnTheWay, Position, position_at, blocks_of, counted_at, counted_blocks, has_block, is_on_swap}
-use Rattle.fab_cost.specs.Runs.{boxes_seen, counted_over, large_of, positions_in, table_from, table_of}
-use Rattle.fab_cost.proofs.Kept.{nets_long, over_is, positions_of_table, row_counted, seen_large, seen_long, seen_small}
+use Rattle.fab_cost.specs.Swapping.{CountedBoxesOf, CountedStandsFor, HaveBoxes, IsOnTheWay, Position, position_at, blocks_of, counted_at, counted_blocks, has_block, is_on_swap}
+use Rattle.fab_cost.specs.Runs.{boxes_seen, counted_over}
+use Rattle.fab_cost.proofs.Kept.{nets_long, over_is, row_counted, seen_large, seen_long, seen_small}
 use Rattle.fab_cost.proofs.Renewals.{none_left}
 use Rattle.fab_cost.proofs.Split.{same_sites}
 

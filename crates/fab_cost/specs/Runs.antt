@@ -1,5 +1,5 @@
 -- Positions as vectors of lanes, the nets of a block as records of the other blocks on them, and what is kept so (our own).
-use Rattle.std.specs.Prelude.{ℕ, ◌≡◌, ◌+◌, ◌*◌, ◌^◌, Option, ◌-◌, ◌<◌, ◌≤◌, ◌==◌, ◌&&◌, ◌||◌, not, nat_lt, nat_le, min, if◌then◌else◌, Bool, true, false, List, [], ◌∷◌, ◌++◌, map, take, filter, length, slice_index, slice_index_or, slice_set, Some, None}
+use Rattle.std.specs.Prelude.{ℕ, ◌≡◌, ◌+◌, ◌*◌, ◌^◌, Option, ◌-◌, ◌<◌, ◌≤◌, ◌==◌, ◌&&◌, ◌||◌, not, nat_lt, nat_le, min, if◌then◌else◌, Bool, true, List, [], ◌∷◌, ◌++◌, map, take, filter, length, slice_index, slice_index_or, slice_set, Some, None}
 use Rattle.std.specs.List.{sum_by, range_with_len}
 use lib.Lanes.{zip2, fold_l, sum_l}
 use Rattle.fab_arch.specs.declared.array.Site.{Site}
@@ -11,10 +11,10 @@ use Rattle.fab_site.specs.declared.pieces.Swap.{Swap}
 use Rattle.fab_cost.specs.declared.records.Record.{Record}
 use Rattle.fab_cost.specs.declared.runs.Runs.{Runs}
 use Rattle.fab_cost.specs.declared.edge_counts.CountedBox.{CountedBox}
-use Rattle.fab_cost.specs.Cost.{clip, cross_of, net_cost}
+use Rattle.fab_cost.specs.Cost.{cross_of, net_cost}
 use Rattle.fab_cost.specs.Boxes.{Counts}
 use Rattle.fab_cost.specs.Edges.{edges_of}
-use Rattle.fab_cost.specs.Swapping.{Position, position_at, counted_blocks, counted_at, blocks_of, cost_unless}
+use Rattle.fab_cost.specs.Swapping.{Position, position_at, counted_blocks, counted_at, blocks_of}
 
 abbrev pub four : ℕ → ℕ → ℕ → ℕ → List ℕ
 four a b c d = a ∷ b ∷ c ∷ d ∷ []

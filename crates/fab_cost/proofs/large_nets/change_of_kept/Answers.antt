@@ -1,4 +1,4 @@
-use Rattle.std.proofs.Common.{◌≡◌, [], get_or, refl, ap, ◌∙◌}
+use Rattle.std.proofs.Common.{get_or, refl, ap, ◌∙◌}
 use Rattle.fab_net.specs.Netlist.{nets_of}
 use Rattle.fab_site.specs.Placement.{swapped}
 use Rattle.fab_cost.specs.Edges.{counted_box}

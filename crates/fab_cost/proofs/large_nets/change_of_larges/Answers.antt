@@ -1,4 +1,4 @@
-use Rattle.std.proofs.Common.{◌<◌, length, [], sym, subst, arith}
+use Rattle.std.proofs.Common.{◌<◌, length, sym, subst, arith}
 use Rattle.fab_net.specs.Netlist.{nets_of}
 use Rattle.fab_site.specs.Placement.{swapped}
 use Rattle.fab_cost.specs.Runs.{AreLarge, large_of}

@@ -1,4 +1,4 @@
-use Rattle.std.proofs.Common.{◌<◌, arith, get_or}
+use Rattle.std.proofs.Common.{arith}
 use Rattle.fab_cost.proofs.Listings.{block_fits, listed_pushed}
 use Rattle.fab_cost.proofs.runs.push_blocks.Goals as goal
 

@@ -1,4 +1,4 @@
-use Rattle.std.proofs.Common.{◌≡◌, [], sym, ap, ◌∙◌, arith, map, length}
+use Rattle.std.proofs.Common.{ap, ◌∙◌, arith, map}
 use Rattle.fab_net.specs.Netlist.{block_on, has_number}
 use Rattle.fab_cost.proofs.Making.{terminals_some}
 use Rattle.fab_cost.proofs.Nets.{entry_counts}

@@ -1,4 +1,4 @@
-use Rattle.std.proofs.Common.{arith, sym, ap, ◌∙◌}
+use Rattle.std.proofs.Common.{arith}
 use Rattle.fab_cost.proofs.Packs.{packed_next}
 use Rattle.fab_cost.proofs.Steps.{nets_few}
 use Rattle.fab_cost.proofs.runs.push_records.Goals as goal

@@ -1,4 +1,4 @@
-use Rattle.std.proofs.Common.{◌≡◌, ◌-◌, length, length-set, refl, sym, ap, ◌∙◌, arith, rules}
+use Rattle.std.proofs.Common.{◌-◌, length-set, refl, ◌∙◌, arith}
 use Rattle.std.proofs.lemmas.Simd.{length-replicate}
 use Rattle.fab_cost.proofs.Packs.{filled_none, filled_own, filled_other, place_within}
 use Rattle.fab_cost.proofs.runs.record_of.Goals as goal

@@ -1,4 +1,4 @@
-use Rattle.std.proofs.Common.{◌≡◌, ◌<◌, length, get_or, refl, sym, arith}
+use Rattle.std.proofs.Common.{◌<◌, length, get_or, refl, sym, arith}
 use Rattle.std.proofs.lemmas.Bool.{eqb-true}
 use Rattle.fab_cost.specs.Runs.{positions_in}
 use Rattle.fab_cost.proofs.Over.{box_none, lane_x, lane_y, more_edges, x_at, y_at}

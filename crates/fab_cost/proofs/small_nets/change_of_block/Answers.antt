@@ -1,6 +1,6 @@
-use Rattle.std.proofs.Common.{◌≡◌, ◌+◌, ◌<◌, List, [], get_or, ap, sym, ◌∙◌, arith}
+use Rattle.std.proofs.Common.{◌∙◌, arith}
 use Rattle.std.specs.List.{sum_by}
-use Rattle.fab_cost.specs.Runs.{lanes_at, seen_in, weight}
+use Rattle.fab_cost.specs.Runs.{seen_in, weight}
 use Rattle.fab_cost.proofs.Steps.{few_step}
 use Rattle.fab_cost.proofs.small_nets.change_of_block.Goals as goal
 

@@ -1,5 +1,5 @@
 use Rattle.std.proofs.Common.{arith}
-use Rattle.fab_cost.proofs.Sited.{block_below, other_below}
+use Rattle.fab_cost.proofs.Sited.{other_below}
 use Rattle.fab_cost.proofs.Steps.{few_none, few_some, table_long}
 use Rattle.fab_cost.proofs.small_nets.change_of_small.Goals as goal
 

@@ -1,4 +1,4 @@
-use Rattle.std.proofs.Common.{refl, arith}
+use Rattle.std.proofs.Common.{refl}
 use Rattle.fab_cost.proofs.Kept.{after_none, after_some}
 use Rattle.fab_cost.proofs.Steps.{table_none, table_some}
 use Rattle.fab_cost.proofs.small_nets.renew_lanes.Goals as goal

@@ -1,7 +1,6 @@
-use Rattle.std.proofs.Common.{◌≡◌, ◌<◌, ◌+◌, length, sym, ap, ◌∙◌, subst, arith}
+use Rattle.std.proofs.Common.{◌≡◌, length, sym, ap, ◌∙◌, subst, arith}
 use Rattle.fab_site.specs.Placement.{swapped}
 use Rattle.fab_site.proofs.Swaps.{length-swapped}
-use Rattle.fab_cost.specs.Cost.{cost_of}
 use Rattle.fab_cost.specs.Swapping.{CountedBoxesOf, HaveBoxes}
 use Rattle.fab_cost.specs.Runs.{positions_after, positions_in, table_from}
 use Rattle.fab_cost.proofs.Bounds.{cost_below}
