@@ -24,3 +24,4 @@ pub mod Over
 pub mod Kept
 pub mod Alike
 pub mod Way
+pub mod EdgeLanes

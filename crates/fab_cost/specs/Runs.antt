@@ -29,6 +29,14 @@ lanes_at g s = lanes_for (position_at g s)
 abbrev pub least_of : List ℕ → List ℕ → List ℕ
 least_of a b = zip2 (λ x y. min x y) a b
 
+-- the edges of a box as lanes: the least column and row, and how far the greatest is from the far end
+abbrev pub edge_lanes : CountedBox → List ℕ
+edge_lanes b = four b.x.least.at (1001 - b.x.greatest.at) b.y.least.at (1001 - b.y.greatest.at)
+
+-- the lanes of both sites of a swap
+abbrev pub reach_lanes : GridShape → Swap → List ℕ
+reach_lanes g s = least_of (lanes_at g s.from) (lanes_at g s.to)
+
 -- where no block is
 abbrev pub nowhere4 : List ℕ
 nowhere4 = four 65535 65535 65535 65535

@@ -1,6 +1,6 @@
 //! The nets with many terminals, whose boxes are kept with edge counts: how a swap changes their cost, and their boxes after it.
 
-ghost use Rattle.std.specs.Prelude.{◌≡◌, ◌≢◌, ℕ, ◌<◌, ◌≤◌, ◌+◌, ◌^◌, ◌||◌, ◌==◌, true, false, if◌then◌else◌, List, length, take, IfOk, Some, slice_index};
+ghost use Rattle.std.specs.Prelude.{◌≡◌, ◌≢◌, ℕ, ◌<◌, ◌≤◌, ◌+◌, ◌^◌, ◌||◌, ◌==◌, true, false, if◌then◌else◌, List, length, map, take, IfOk, Some, slice_index, slice_set};
 ghost use Rattle.std.specs.List.{All, list_any, sum_by};
 ghost use Rattle.fab_arch.specs.declared.array.Site.{Site as ArraySite};
 ghost use Rattle.fab_arch.specs.Grid.{GridShape};
@@ -9,10 +9,10 @@ ghost use Rattle.fab_net.specs.declared.pieces.NetId.{NetId as Net};
 ghost use Rattle.fab_net.specs.Netlist.{nets_of, has_number};
 ghost use Rattle.fab_site.specs.Placement.{swapped, IsSwapOf};
 ghost use Rattle.fab_cost.specs.Boxes.{Counts};
-ghost use Rattle.fab_cost.specs.Changes.{IsChange, reach_between};
+ghost use Rattle.fab_cost.specs.Changes.{IsChange};
 ghost use Rattle.fab_cost.specs.Cost.{cost_of, net_cost};
 ghost use Rattle.fab_cost.specs.Edges.{times, counted_box as box_counted};
-ghost use Rattle.fab_cost.specs.Runs.{AreLarge, HasRecords, large_of};
+ghost use Rattle.fab_cost.specs.Runs.{AreLarge, HasRecords, edge_lanes, large_of, reach_lanes};
 ghost use Rattle.fab_cost.specs.Swapping.{AreRenewed, HaveBoxes, IsPart, blocks_of, cost_unless, counted_at, has_block, is_on_swap, times_other};
 
 use crate::block_nets::{Shares, is_left_out, net_of, own_pins, partner_pins, shares_with};
@@ -20,11 +20,77 @@ use crate::counting::{counted_box, swapped_box};
 use crate::edge_boxes::{NO_TALLY, Tally, plus};
 use crate::edge_counts::{CountedBox, NOTHING};
 use crate::runs::{Runs, WIDE};
-use crate::swap_change::{Reach, change_of_many, reach_of, surrounds};
+use crate::lanes::{edge_lanes_of, reach_of, surrounds};
+use crate::swap_change::change_of_many;
 use fab_arch::Grid;
 use fab_net::{BlockId, Design, NetId};
 use fab_site::{Placement, Swap};
 use std::alloc::{AllocError, Global};
+use std::simd::prelude::*;
+
+/// By net number the box of each large net, and its edges as lanes.
+pub(crate) struct LargeBoxes {
+    pub(crate) boxes: Vec<CountedBox>,
+    pub(crate) edges: Vec<u16x4>,
+    ghost alike: { edges.items ≡ map edge_lanes boxes.items },
+}
+
+impl Drop for LargeBoxes {
+    // A written `drop` is one step of a proof wherever a value goes out of scope; a derived one is proved again each time.
+    fn drop(self) {
+        let LargeBoxes { boxes: _, edges: _ } = self;
+    }
+}
+
+/// Gives the boxes their edges.
+fn with_edges(alloc: Global, boxes: Vec<CountedBox>) -> Result<LargeBoxes, AllocError>
+    ensures { IfOk result (λ large. large.boxes.items ≡ boxes.items) }
+{
+    let mut edges = Vec::with_capacity(alloc, boxes.len())?;
+    'boxes: for i in 0..boxes.len() {
+        edges.push(edge_lanes_of(boxes[i]))?;
+    }
+    Ok(LargeBoxes { boxes, edges })
+}
+
+impl LargeBoxes {
+    /// A copy.
+    pub(crate) fn copy(&self) -> Result<LargeBoxes, AllocError>
+        ensures { IfOk result (λ large. large.boxes.items ≡ self.now.boxes.items) }
+    {
+        Ok(LargeBoxes {
+            boxes: self.boxes.clone()?,
+            edges: self.edges.clone()?,
+        })
+    }
+
+    #[tactic(auto, unfolding(crate::specs::Swapping::counted_at))]
+    /// The box of the net.
+    pub(crate) fn kept(&self, net: NetId) -> CountedBox
+        requires { net.0 < length self.now.boxes.items }
+        ensures { result ≡ counted_at self.now.boxes.items net.0 }
+    {
+        self.boxes[net.0 as usize]
+    }
+
+    #[inline(always)]
+    /// The edges of the box of the net.
+    fn edges_of(&self, net: NetId) -> u16x4
+        requires { net.0 < length self.now.boxes.items }
+        ensures { result ≡ edge_lanes (counted_at self.now.boxes.items net.0) }
+    {
+        self.edges[net.0 as usize]
+    }
+
+    /// Renews the box of the net.
+    fn set(&mut self, net: NetId, new: CountedBox)
+        requires { net.0 < length self.old.boxes.items }
+        ensures { self.new.boxes.items ≡ slice_set self.old.boxes.items net.0 new }
+    {
+        self.boxes[net.0 as usize] = new;
+        self.edges[net.0 as usize] = edge_lanes_of(new);
+    }
+}
 
 #[tactic(auto, using(crate::proofs::Nets::counted_from, crate::proofs::Making::terminals_some, crate::proofs::Making::terminals_within, crate::proofs::Bounds::terminals_few))]
 /// The box of the net at the blocks' sites.
@@ -81,15 +147,6 @@ pub(crate) fn cost_of_counted(design: &Design, net: NetId, kept: CountedBox) -> 
     kept.cost(terminals.len() as u32)
 }
 
-#[tactic(auto, unfolding(crate::specs::Swapping::counted_at))]
-/// The stored box of the net.
-pub(crate) fn kept_box(boxes: &Vec<CountedBox>, net: NetId) -> CountedBox
-    requires { net.0 < length boxes.now.items }
-    ensures { result ≡ counted_at boxes.now.items net.0 }
-{
-    boxes[net.0 as usize]
-}
-
 /// What the net costs with the box after the swap, and with the box before it.
 fn tally_between(design: &Design, net: NetId, old: CountedBox, new: CountedBox) -> Tally
     requires { Counts design.now net.0 }
@@ -122,9 +179,9 @@ pub(crate) fn boxes_for(
     design: &Design,
     grid: &Grid,
     placement: &Placement,
-) -> Result<(Vec<CountedBox>, u64), AllocError>
+) -> Result<(LargeBoxes, u64), AllocError>
     requires { length design.now.kinds ≡ length placement.now.sites }
-    ensures have { IfOk result (λ b. HaveBoxes b.0.items (large_of design.now) grid.now placement.now.sites) }
+    ensures have { IfOk result (λ b. HaveBoxes b.0.boxes.items (large_of design.now) grid.now placement.now.sites) }
     ensures sum { IfOk result (λ b. b.1 ≡ cost_of design.now grid.now placement.now.sites) }
     ensures below { IfOk result (λ b. b.1 < 2 ^ 43) }
 {
@@ -144,7 +201,7 @@ pub(crate) fn boxes_for(
             total += cost;
         }
     }
-    Ok((boxes, total))
+    Ok((with_edges(alloc, boxes)?, total))
 }
 
 #[tactic(auto, using(crate::proofs::Large::row_within, crate::proofs::Changes::passed))]
@@ -152,19 +209,19 @@ pub(crate) fn boxes_for(
 /// How the swap changes the cost of large net `k` of a block, of which `row` has the places; nothing if it is also a net of the
 /// block `but`.
 fn change_of_kept(
-    boxes: &Vec<CountedBox>,
+    large: &LargeBoxes,
     design: &Design,
     grid: &Grid,
     placement: &Placement,
     swap: &Swap,
-    reach: Reach,
+    reach: u16x4,
     block: BlockId,
     but: Option<BlockId>,
     row: &[u32],
     k: usize,
 ) -> Tally
-    requires have { HaveBoxes boxes.now.items (large_of design.now) grid.now placement.now.sites }
-    requires reach { reach ≡ reach_between grid.now swap.now }
+    requires have { HaveBoxes large.now.boxes.items (large_of design.now) grid.now placement.now.sites }
+    requires reach { reach ≡ reach_lanes grid.now swap.now }
     requires part { IsPart swap.now block but }
     requires block { block.0 < length design.now.kinds }
     requires large { AreLarge design.now block.0 row.now }
@@ -175,11 +232,11 @@ fn change_of_kept(
 {
     let _nets = design.nets();
     let i = row[k] as usize;
-    let old = kept_box(boxes, net_of(design, block, i));
-    if surrounds(old, reach) {
+    let net = net_of(design, block, i);
+    if surrounds(large.edges_of(net), reach) {
         NO_TALLY
     } else {
-        change_of_many(old, design, grid, placement, swap, block, but, i)
+        change_of_many(large.kept(net), design, grid, placement, swap, block, but, i)
     }
 }
 
@@ -187,19 +244,19 @@ fn change_of_kept(
 #[inline(always)]
 /// How the swap changes the cost of the large nets of a block, without those of the block `but`.
 fn change_of_larges(
-    boxes: &Vec<CountedBox>,
+    large: &LargeBoxes,
     runs: &Runs,
     design: &Design,
     grid: &Grid,
     placement: &Placement,
     swap: &Swap,
-    reach: Reach,
+    reach: u16x4,
     block: BlockId,
     but: Option<BlockId>,
 ) -> Tally
     requires records { HasRecords runs.now design.now }
-    requires have { HaveBoxes boxes.now.items (large_of design.now) grid.now placement.now.sites }
-    requires reach { reach ≡ reach_between grid.now swap.now }
+    requires have { HaveBoxes large.now.boxes.items (large_of design.now) grid.now placement.now.sites }
+    requires reach { reach ≡ reach_lanes grid.now swap.now }
     requires part { IsPart swap.now block but }
     requires block { block.0 < length design.now.kinds }
     requires lawful { IsSwapOf grid.now placement.now.sites swap.now }
@@ -212,9 +269,9 @@ fn change_of_larges(
     let row = runs.large.row(block.0 as usize);
     let mut gained: u64 = 0;
     let mut lost: u64 = 0;
-    'large: for k in 0..row.len() {
+    'places: for k in 0..row.len() {
         let one = change_of_kept(
-            boxes, design, grid, placement, swap, reach, block, but, row, k,
+            large, design, grid, placement, swap, reach, block, but, row, k,
         );
         gained += one.gained;
         lost += one.lost;
@@ -225,7 +282,7 @@ fn change_of_larges(
 #[tactic(auto, using(crate::proofs::Sited::block_below, crate::proofs::Changes::whole_none, crate::proofs::Changes::whole_some))]
 /// How the swap changes the cost of the large nets.
 pub(crate) fn change_of_large(
-    boxes: &Vec<CountedBox>,
+    large: &LargeBoxes,
     runs: &Runs,
     design: &Design,
     grid: &Grid,
@@ -233,7 +290,7 @@ pub(crate) fn change_of_large(
     swap: &Swap,
 ) -> Tally
     requires records { HasRecords runs.now design.now }
-    requires have { HaveBoxes boxes.now.items (large_of design.now) grid.now placement.now.sites }
+    requires have { HaveBoxes large.now.boxes.items (large_of design.now) grid.now placement.now.sites }
     requires lawful { IsSwapOf grid.now placement.now.sites swap.now }
     requires whole { length design.now.kinds ≡ length placement.now.sites }
     ensures balance { cost_of (large_of design.now) grid.now (swapped placement.now.sites swap.now) + result.lost ≡ cost_of (large_of design.now) grid.now placement.now.sites + result.gained }
@@ -245,14 +302,14 @@ pub(crate) fn change_of_large(
     let _nets = design.nets();
     let reach = reach_of(grid, swap);
     let first = change_of_larges(
-        boxes, runs, design, grid, placement, swap, reach, swap.block, None,
+        large, runs, design, grid, placement, swap, reach, swap.block, None,
     );
     match swap.other {
         None => first,
         Some(other) => {
             let but = Some(swap.block);
             let second = change_of_larges(
-                boxes, runs, design, grid, placement, swap, reach, other, but,
+                large, runs, design, grid, placement, swap, reach, other, but,
             );
             plus(first, second)
         }
@@ -263,7 +320,7 @@ pub(crate) fn change_of_large(
 /// Renews the box of large net `k` of a block, of which `row` has the places, unless it is also a net of the block `but`. Returns
 /// the net's cost after and before.
 fn renew_net(
-    boxes: &mut Vec<CountedBox>,
+    large: &mut LargeBoxes,
     design: &Design,
     grid: &Grid,
     placement: &Placement,
@@ -273,14 +330,14 @@ fn renew_net(
     row: &[u32],
     k: usize,
 ) -> Tally
-    requires left { AreRenewed boxes.old.items (large_of design.now) grid.now placement.now.sites (swapped placement.now.sites swap.now) (λ n. has_block but (blocks_of design.now n) || has_number n (take k (nets_of (large_of design.now) block.0))) }
+    requires left { AreRenewed large.old.boxes.items (large_of design.now) grid.now placement.now.sites (swapped placement.now.sites swap.now) (λ n. has_block but (blocks_of design.now n) || has_number n (take k (nets_of (large_of design.now) block.0))) }
     requires part { IsPart swap.now block but }
     requires block { block.0 < length design.now.kinds }
     requires large { AreLarge design.now block.0 row.now }
     requires within { k < length row.now }
     requires lawful { IsSwapOf grid.now placement.now.sites swap.now }
     requires whole { length design.now.kinds ≡ length placement.now.sites }
-    ensures boxes { AreRenewed boxes.new.items (large_of design.now) grid.now placement.now.sites (swapped placement.now.sites swap.now) (λ n. has_block but (blocks_of design.now n) || has_number n (take (k + 1) (nets_of (large_of design.now) block.0))) }
+    ensures boxes { AreRenewed large.new.boxes.items (large_of design.now) grid.now placement.now.sites (swapped placement.now.sites swap.now) (λ n. has_block but (blocks_of design.now n) || has_number n (take (k + 1) (nets_of (large_of design.now) block.0))) }
     ensures gained { result.gained ≡ cost_unless (large_of design.now) grid.now (swapped placement.now.sites swap.now) but (slice_index (nets_of (large_of design.now) block.0) k) }
     ensures lost { result.lost ≡ cost_unless (large_of design.now) grid.now placement.now.sites but (slice_index (nets_of (large_of design.now) block.0) k) }
 {
@@ -292,9 +349,9 @@ fn renew_net(
     if is_left_out(but, shares) {
         return NO_TALLY;
     }
-    let old = kept_box(&*boxes, net);
+    let old = large.kept(net);
     let new = renewed(old, design, grid, placement, swap, net, shares);
-    boxes[net.0 as usize] = new;
+    large.set(net, new);
     tally_between(design, net, old, new)
 }
 
@@ -302,7 +359,7 @@ fn renew_net(
 /// Renews the boxes of a block's large nets, except those of the block `but`, which are renewed already. Returns the nets' cost
 /// after and before.
 fn renew_larges(
-    boxes: &mut Vec<CountedBox>,
+    large: &mut LargeBoxes,
     runs: &Runs,
     design: &Design,
     grid: &Grid,
@@ -312,12 +369,12 @@ fn renew_larges(
     but: Option<BlockId>,
 ) -> Tally
     requires records { HasRecords runs.now design.now }
-    requires left { AreRenewed boxes.old.items (large_of design.now) grid.now placement.now.sites (swapped placement.now.sites swap.now) (λ n. has_block but (blocks_of design.now n)) }
+    requires left { AreRenewed large.old.boxes.items (large_of design.now) grid.now placement.now.sites (swapped placement.now.sites swap.now) (λ n. has_block but (blocks_of design.now n)) }
     requires part { IsPart swap.now block but }
     requires block { block.0 < length design.now.kinds }
     requires lawful { IsSwapOf grid.now placement.now.sites swap.now }
     requires whole { length design.now.kinds ≡ length placement.now.sites }
-    ensures boxes { AreRenewed boxes.new.items (large_of design.now) grid.now placement.now.sites (swapped placement.now.sites swap.now) (λ n. has_block but (blocks_of design.now n) || has_number block.0 (blocks_of design.now n)) }
+    ensures boxes { AreRenewed large.new.boxes.items (large_of design.now) grid.now placement.now.sites (swapped placement.now.sites swap.now) (λ n. has_block but (blocks_of design.now n) || has_number block.0 (blocks_of design.now n)) }
     ensures gained { result.gained ≡ sum_by (cost_unless (large_of design.now) grid.now (swapped placement.now.sites swap.now) but) (nets_of (large_of design.now) block.0) }
     ensures lost { result.lost ≡ sum_by (cost_unless (large_of design.now) grid.now placement.now.sites but) (nets_of (large_of design.now) block.0) }
 {
@@ -327,8 +384,8 @@ fn renew_larges(
     let row = runs.large.row(block.0 as usize);
     let mut gained: u64 = 0;
     let mut lost: u64 = 0;
-    'large: for k in 0..row.len() {
-        let one = renew_net(boxes, design, grid, placement, swap, block, but, row, k);
+    'places: for k in 0..row.len() {
+        let one = renew_net(large, design, grid, placement, swap, block, but, row, k);
         gained += one.gained;
         lost += one.lost;
     }
@@ -338,7 +395,7 @@ fn renew_larges(
 #[tactic(auto, using(crate::proofs::Sited::block_below, crate::proofs::Renewals::untouched, crate::proofs::Renewals::first_done))]
 /// Renews the boxes of the large nets of the swap's blocks. Returns how the cost of these nets changes.
 pub(crate) fn renew_large(
-    boxes: &mut Vec<CountedBox>,
+    large: &mut LargeBoxes,
     runs: &Runs,
     design: &Design,
     grid: &Grid,
@@ -346,10 +403,10 @@ pub(crate) fn renew_large(
     swap: &Swap,
 ) -> Tally
     requires records { HasRecords runs.now design.now }
-    requires have { HaveBoxes boxes.old.items (large_of design.now) grid.now placement.now.sites }
+    requires have { HaveBoxes large.old.boxes.items (large_of design.now) grid.now placement.now.sites }
     requires lawful { IsSwapOf grid.now placement.now.sites swap.now }
     requires whole { length design.now.kinds ≡ length placement.now.sites }
-    ensures have { HaveBoxes boxes.new.items (large_of design.now) grid.now (swapped placement.now.sites swap.now) }
+    ensures have { HaveBoxes large.new.boxes.items (large_of design.now) grid.now (swapped placement.now.sites swap.now) }
     ensures balance { cost_of (large_of design.now) grid.now (swapped placement.now.sites swap.now) + result.lost ≡ cost_of (large_of design.now) grid.now placement.now.sites + result.gained }
     ensures gained { result.gained < 2 ^ 43 }
     ensures lost { result.lost < 2 ^ 43 }
@@ -358,46 +415,46 @@ pub(crate) fn renew_large(
     let _ny = grid.ny();
     let _nets = design.nets();
     let first = renew_larges(
-        boxes, runs, design, grid, placement, swap, swap.block, None,
+        large, runs, design, grid, placement, swap, swap.block, None,
     );
     match swap.other {
         None => first,
         Some(other) => {
             let but = Some(swap.block);
-            let second = renew_larges(boxes, runs, design, grid, placement, swap, other, but);
+            let second = renew_larges(large, runs, design, grid, placement, swap, other, but);
             plus(first, second)
         }
     }
 }
 
 /// Copies the boxes of these nets from another list.
-fn take_nets(boxes: &mut Vec<CountedBox>, from: &Vec<CountedBox>, nets: &[NetId])
-    requires within { All (λ (n : Net). n.0 < length boxes.old.items) nets.now }
-    requires from { length from.now.items ≡ length boxes.old.items }
-    ensures length { length boxes.new.items ≡ length boxes.old.items }
-    ensures each { (k : ℕ) → counted_at boxes.new.items k ≡ (if list_any (λ (n : Net). k == n.0) nets.now then counted_at from.now.items k else counted_at boxes.old.items k) }
+fn take_nets(large: &mut LargeBoxes, from: &LargeBoxes, nets: &[NetId])
+    requires within { All (λ (n : Net). n.0 < length large.old.boxes.items) nets.now }
+    requires from { length from.now.boxes.items ≡ length large.old.boxes.items }
+    ensures length { length large.new.boxes.items ≡ length large.old.boxes.items }
+    ensures each { (k : ℕ) → counted_at large.new.boxes.items k ≡ (if list_any (λ (n : Net). k == n.0) nets.now then counted_at from.now.boxes.items k else counted_at large.old.boxes.items k) }
 {
     for net in nets {
-        boxes[net.0 as usize] = from[net.0 as usize];
+        large.set(*net, from.kept(*net));
     }
 }
 
 /// Copies the boxes of the nets of a swap's blocks from another list.
 pub(crate) fn take_boxes(
-    boxes: &mut Vec<CountedBox>,
-    from: &Vec<CountedBox>,
+    large: &mut LargeBoxes,
+    from: &LargeBoxes,
     design: &Design,
     swap: &Swap,
 )
     requires block { swap.now.block.0 < length design.now.kinds }
     requires other { (b : Block) → swap.now.other ≡ Some b → b.0 < length design.now.kinds }
-    requires long { length boxes.old.items ≡ length design.now.terminals }
-    requires from_long { length from.now.items ≡ length design.now.terminals }
-    ensures long { length boxes.new.items ≡ length boxes.old.items }
-    ensures each { (n : ℕ) → Counts design.now n → counted_at boxes.new.items n ≡ counted_at (if is_on_swap design.now swap.now n then from.now.items else boxes.old.items) n }
+    requires long { length large.old.boxes.items ≡ length design.now.terminals }
+    requires from_long { length from.now.boxes.items ≡ length design.now.terminals }
+    ensures long { length large.new.boxes.items ≡ length large.old.boxes.items }
+    ensures each { (n : ℕ) → Counts design.now n → counted_at large.new.boxes.items n ≡ counted_at (if is_on_swap design.now swap.now n then from.now.boxes.items else large.old.boxes.items) n }
 {
-    take_nets(boxes, from, design.nets_of(swap.block));
+    take_nets(large, from, design.nets_of(swap.block));
     if let Some(other) = swap.other {
-        take_nets(boxes, from, design.nets_of(other));
+        take_nets(large, from, design.nets_of(other));
     }
 }

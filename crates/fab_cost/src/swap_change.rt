@@ -1,7 +1,7 @@
 //! How a swap changes the cost of a net whose box is kept, without renewing the box. Most judged moves are rejected, so this is
 //! what an annealer waits for. Most of these nets are settled by one look at their box.
 
-ghost use Rattle.std.specs.Prelude.{◌≡◌, ◌≢◌, ℕ, ◌<◌, ◌+◌, ◌^◌, List, [], Some, IsTrue, MatchOption, length, map, slice_index, slice_index_or};
+ghost use Rattle.std.specs.Prelude.{◌≡◌, ◌≢◌, ℕ, ◌<◌, ◌+◌, ◌^◌, List, [], Some, MatchOption, length, map, slice_index, slice_index_or};
 ghost use Rattle.std.specs.List.{sum_by};
 ghost use Rattle.fab_arch.specs.declared.array.Site.{Site as ArraySite};
 ghost use Rattle.fab_arch.specs.Grid.{GridShape};
@@ -10,7 +10,7 @@ ghost use Rattle.fab_net.specs.BlockNets.{net_id};
 ghost use Rattle.fab_net.specs.Netlist.{nets_of, has_number};
 ghost use Rattle.fab_site.specs.Placement.{swapped, IsSwapOf};
 ghost use Rattle.fab_cost.specs.Boxes.{Counts, box_of};
-ghost use Rattle.fab_cost.specs.Changes.{IsChange, IsPlainAfter, IsPlainSwapped, Surrounds, reach_between};
+ghost use Rattle.fab_cost.specs.Changes.{IsChange, IsPlainAfter, IsPlainSwapped};
 ghost use Rattle.fab_cost.specs.Cost.{cost_of, net_box, net_cost};
 ghost use Rattle.fab_cost.specs.Edges.{times, counted_box as box_counted};
 ghost use Rattle.fab_cost.specs.Swapping.{HaveBoxes, IsPart, blocks_of, cost_unless, has_block, times_other};
@@ -23,43 +23,6 @@ use crate::whole_boxes::box_after;
 use fab_arch::{Grid, Site};
 use fab_net::{BlockId, Design, NetId, Terminal};
 use fab_site::{Placement, Swap};
-
-/// The clipped columns and rows from one site of a swap to the other.
-#[derive(Clone, Copy)]
-pub(crate) struct Reach {
-    x_low: u16,
-    x_high: u16,
-    y_low: u16,
-    y_high: u16,
-}
-
-#[tactic(auto, unfolding(crate::specs::Changes::reach_between))]
-#[inline]
-/// The clipped columns and rows from one site of the swap to the other.
-pub(crate) fn reach_of(grid: &Grid, swap: &Swap) -> Reach
-    ensures { result ≡ reach_between grid.now swap.now }
-{
-    let from_x = clipped(grid.nx(), swap.from.x);
-    let to_x = clipped(grid.nx(), swap.to.x);
-    let from_y = clipped(grid.ny(), swap.from.y);
-    let to_y = clipped(grid.ny(), swap.to.y);
-    Reach {
-        x_low: from_x.min(to_x),
-        x_high: from_x.max(to_x),
-        y_low: from_y.min(to_y),
-        y_high: from_y.max(to_y),
-    }
-}
-
-#[inline(always)]
-/// Whether both sites are strictly inside the box.
-pub(crate) fn surrounds(old: CountedBox, reach: Reach) -> bool
-    ensures { IsTrue result → Surrounds old reach }
-{
-    let x = old.x.least.at < reach.x_low && reach.x_high < old.x.greatest.at;
-    let y = old.y.least.at < reach.y_low && reach.y_high < old.y.greatest.at;
-    x && y
-}
 
 #[tactic(auto, using(crate::proofs::Changes::plain_after))]
 #[inline]

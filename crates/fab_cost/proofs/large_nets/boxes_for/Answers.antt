@@ -1,5 +1,6 @@
-use Rattle.std.proofs.Common.{◌+◌, sym, ◌∙◌, arith}
+use Rattle.std.proofs.Common.{◌+◌, subst, sym, ◌∙◌, arith}
 use Rattle.fab_cost.specs.Boxes.{Counts}
+use Rattle.fab_cost.specs.Swapping.{HaveBoxes}
 use Rattle.fab_cost.specs.Runs.{large_of}
 use Rattle.fab_cost.proofs.Bounds.{AreSides, cost_below}
 use Rattle.fab_cost.proofs.CountedMaking.{have_made, made_none, made_global, made_more}
@@ -53,7 +54,7 @@ returns c =
     let all = cost_all d g sites c.nets.number (omega arith) in
     let below = cost_below d g sites c.nets-nets.ensures.lawful (omega arith, omega arith) (omega arith, omega arith) in
     record {
-      have = have_made c.nets.boxes.items (large_of d) g sites c.nets.number c.nets.invariant.made (omega arith);
+      have = subst (λ v. HaveBoxes v (large_of d) g sites) (sym c.in_ok-with_edges.ensures) (have_made c.nets.boxes.items (large_of d) g sites c.nets.number c.nets.invariant.made (omega arith));
       sum = c.nets.invariant.sum ∙ all;
       below = omega (arith, all, below, c.nets.invariant.sum);
     }

@@ -2,6 +2,7 @@ use Rattle.std.proofs.Common.{get_or, refl, ap, ◌∙◌}
 use Rattle.fab_net.specs.Netlist.{nets_of}
 use Rattle.fab_site.specs.Placement.{swapped}
 use Rattle.fab_cost.specs.Edges.{counted_box}
+use Rattle.fab_cost.specs.Swapping.{counted_at}
 use Rattle.fab_cost.specs.Runs.{large_of}
 use Rattle.fab_cost.proofs.Changes.{passed}
 use Rattle.fab_cost.proofs.Large.{change_large, kept_is, row_counts, row_net}
@@ -12,9 +13,9 @@ change_of_many-requires-clause-old c =
     let d = c.args.design.now in
     let g = c.args.grid.now in
     let sites = c.args.placement.now.sites in
-    let n = c.net_of.result.0 in
-    let counts = row_counts d c.args.block.0 c.args.row.now c.args.k _ 0 n c.requires.large c.requires.within refl c.net_of.ensures.number in
-    kept_is c.args.boxes.now.items d g sites n c.kept_box-old.result c.requires.have counts c.kept_box-old.ensures ∙ ap (counted_box d g sites) c.net_of.ensures.number
+    let n = c.net_of-net.result.0 in
+    let counts = row_counts d c.args.block.0 c.args.row.now c.args.k _ 0 n c.requires.large c.requires.within refl c.net_of-net.ensures.number in
+    kept_is c.args.large.now.boxes.items d g sites n c.kept.result c.requires.have counts c.kept.ensures ∙ ap (counted_box d g sites) c.net_of-net.ensures.number
 
 pub returns-then-surrounds : goal.returns-then-surrounds
 returns-then-surrounds c =
@@ -22,11 +23,12 @@ returns-then-surrounds c =
     let g = c.args.grid.now in
     let sites = c.args.placement.now.sites in
     let b = c.args.block.0 in
-    let n = c.net_of.result.0 in
-    let counts = row_counts d b c.args.row.now c.args.k _ 0 n c.requires.large c.requires.within refl c.net_of.ensures.number in
-    let old = kept_is c.args.boxes.now.items d g sites n c.kept_box-old.result c.requires.have counts c.kept_box-old.ensures in
-    change_large d g sites (swapped sites c.args.swap.now) c.args.but n (get_or (nets_of (large_of d) b) c.args.k 0) 0 0 (c.net_of.ensures.number ∙ row_net d b c.args.row.now c.args.k _ 0 c.requires.large c.requires.within refl)
-    (passed d g g sites c.args.swap.now c.args.but n c.kept_box-old.result c.args.reach c.requires.lawful c.requires.reach (c.if-surrounds.ensures refl) old)
+    let n = c.net_of-net.result.0 in
+    let kept = counted_at c.args.large.now.boxes.items n in
+    let counts = row_counts d b c.args.row.now c.args.k _ 0 n c.requires.large c.requires.within refl c.net_of-net.ensures.number in
+    let old = kept_is c.args.large.now.boxes.items d g sites n kept c.requires.have counts refl in
+    change_large d g sites (swapped sites c.args.swap.now) c.args.but n (get_or (nets_of (large_of d) b) c.args.k 0) 0 0 (c.net_of-net.ensures.number ∙ row_net d b c.args.row.now c.args.k _ 0 c.requires.large c.requires.within refl)
+    (passed d g g sites c.args.swap.now c.args.but n kept c.requires.lawful (c.if-surrounds.ensures g kept c.args.swap.now c.edges_of.ensures c.requires.reach refl) old)
 
 pub returns-else-surrounds : goal.returns-else-surrounds
 returns-else-surrounds c =

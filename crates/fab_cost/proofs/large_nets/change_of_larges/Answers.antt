@@ -15,9 +15,9 @@ overflow_add-gained c =
     let b = c.args.block.0 in
     let sites = c.args.placement.now.sites in
     let row = subst (AreLarge d b) (sym c.row-row.ensures) (c.requires.records.large.each b c.requires.block) in
-    let h : c.large.k < length (nets_of (large_of d) b) = (let e = row_long d b c.row-row.result.now row in let t = c.large-test.true in omega (arith, e, t)) in
-    let f = gained_fits (large_of d) c.args.grid.now sites (swapped sites c.args.swap.now) c.args.but b c.large.k c.large.gained c.large.lost c.change_of_kept-one.result.gained c.change_of_kept-one.result.lost
-    (lawful_large d c.nets-nets.ensures.lawful) (omega arith, omega arith) (omega arith, omega arith) h c.large.invariant c.change_of_kept-one.ensures in
+    let h : c.places.k < length (nets_of (large_of d) b) = (let e = row_long d b c.row-row.result.now row in let t = c.places-test.true in omega (arith, e, t)) in
+    let f = gained_fits (large_of d) c.args.grid.now sites (swapped sites c.args.swap.now) c.args.but b c.places.k c.places.gained c.places.lost c.change_of_kept-one.result.gained c.change_of_kept-one.result.lost
+    (lawful_large d c.nets-nets.ensures.lawful) (omega arith, omega arith) (omega arith, omega arith) h c.places.invariant c.change_of_kept-one.ensures in
     omega arith
 
 pub overflow_add-lost : goal.overflow_add-lost
@@ -26,19 +26,19 @@ overflow_add-lost c =
     let b = c.args.block.0 in
     let sites = c.args.placement.now.sites in
     let row = subst (AreLarge d b) (sym c.row-row.ensures) (c.requires.records.large.each b c.requires.block) in
-    let h : c.large.k < length (nets_of (large_of d) b) = (let e = row_long d b c.row-row.result.now row in let t = c.large-test.true in omega (arith, e, t)) in
-    let f = lost_fits (large_of d) c.args.grid.now sites (swapped sites c.args.swap.now) c.args.but b c.large.k c.large.gained c.large.lost c.change_of_kept-one.result.gained c.change_of_kept-one.result.lost
-    (lawful_large d c.nets-nets.ensures.lawful) (omega arith, omega arith) (omega arith, omega arith) h c.large.invariant c.change_of_kept-one.ensures in
+    let h : c.places.k < length (nets_of (large_of d) b) = (let e = row_long d b c.row-row.result.now row in let t = c.places-test.true in omega (arith, e, t)) in
+    let f = lost_fits (large_of d) c.args.grid.now sites (swapped sites c.args.swap.now) c.args.but b c.places.k c.places.gained c.places.lost c.change_of_kept-one.result.gained c.change_of_kept-one.result.lost
+    (lawful_large d c.nets-nets.ensures.lawful) (omega arith, omega arith) (omega arith, omega arith) h c.places.invariant c.change_of_kept-one.ensures in
     omega arith
 
-pub large-preserved : goal.large-preserved
-large-preserved c =
+pub places-preserved : goal.places-preserved
+places-preserved c =
     let d = c.args.design.now in
     let b = c.args.block.0 in
     let sites = c.args.placement.now.sites in
     let row = subst (AreLarge d b) (sym c.row-row.ensures) (c.requires.records.large.each b c.requires.block) in
-    let h : c.large.k < length (nets_of (large_of d) b) = (let e = row_long d b c.row-row.result.now row in let t = c.large-test.true in omega (arith, e, t)) in
-    more (large_of d) c.args.grid.now sites (swapped sites c.args.swap.now) c.args.but b c.large.k c.large.gained c.large.lost c.change_of_kept-one.result.gained c.change_of_kept-one.result.lost h c.large.invariant c.change_of_kept-one.ensures
+    let h : c.places.k < length (nets_of (large_of d) b) = (let e = row_long d b c.row-row.result.now row in let t = c.places-test.true in omega (arith, e, t)) in
+    more (large_of d) c.args.grid.now sites (swapped sites c.args.swap.now) c.args.but b c.places.k c.places.gained c.places.lost c.change_of_kept-one.result.gained c.change_of_kept-one.result.lost h c.places.invariant c.change_of_kept-one.ensures
 
 pub returns : goal.returns
 returns c =
@@ -47,4 +47,4 @@ returns c =
     let sites = c.args.placement.now.sites in
     let row = subst (AreLarge d b) (sym c.row-row.ensures) (c.requires.records.large.each b c.requires.block) in
     let e = row_long d b c.row-row.result.now row in
-    all (large_of d) c.args.grid.now sites (swapped sites c.args.swap.now) c.args.but b c.large.k c.large.gained c.large.lost (omega arith) c.large.invariant
+    all (large_of d) c.args.grid.now sites (swapped sites c.args.swap.now) c.args.but b c.places.k c.places.gained c.places.lost (omega arith) c.places.invariant

@@ -7,5 +7,5 @@ use Rattle.fab_cost.specs.Runs.{large_of}
 use Rattle.fab_cost.specs.Swapping.{cost_unless}
 use Rattle.fab_cost.proofs.large_nets.change_of_larges.Given as goal
 
-abbrev pub invariant-large : goal.invariant-large
-invariant-large l = IsChange (sum_by (cost_unless (large_of l.design) l.grid l.placement.sites l.but) (take l.k (nets_of (large_of l.design) l.block.0))) (sum_by (cost_unless (large_of l.design) l.grid (swapped l.placement.sites l.swap) l.but) (take l.k (nets_of (large_of l.design) l.block.0))) l.gained l.lost
+abbrev pub invariant-places : goal.invariant-places
+invariant-places l = IsChange (sum_by (cost_unless (large_of l.design) l.grid l.placement.sites l.but) (take l.k (nets_of (large_of l.design) l.block.0))) (sum_by (cost_unless (large_of l.design) l.grid (swapped l.placement.sites l.swap) l.but) (take l.k (nets_of (large_of l.design) l.block.0))) l.gained l.lost

@@ -12,10 +12,10 @@ pub renew_larges-second-requires-clause-block : goal.renew_larges-second-require
 renew_larges-second-requires-clause-block c = other_below c.args.grid.now c.args.placement.now.sites c.args.swap.now c.in-Some.other _ c.requires.lawful c.in-Some.is c.requires.whole
 
 pub returns-in-None-clause-have : goal.returns-in-None-clause-have
-returns-in-None-clause-have c = one_done c.renew_larges-first.new.boxes.items (large_of c.args.design.now) c.args.grid.now c.args.placement.now.sites c.args.swap.now c.renew_larges-first.ensures.boxes c.in-None.is
+returns-in-None-clause-have c = one_done c.renew_larges-first.new.large.boxes.items (large_of c.args.design.now) c.args.grid.now c.args.placement.now.sites c.args.swap.now c.renew_larges-first.ensures.boxes c.in-None.is
 
 pub returns-in-Some-clause-have : goal.returns-in-Some-clause-have
-returns-in-Some-clause-have c = both_done c.renew_larges-second.new.boxes.items (large_of c.args.design.now) c.args.grid.now c.args.placement.now.sites c.args.swap.now c.in-Some.other c.renew_larges-second.ensures.boxes c.in-Some.is
+returns-in-Some-clause-have c = both_done c.renew_larges-second.new.large.boxes.items (large_of c.args.design.now) c.args.grid.now c.args.placement.now.sites c.args.swap.now c.in-Some.other c.renew_larges-second.ensures.boxes c.in-Some.is
 
 pub plus-requires-clause-gained : goal.plus-requires-clause-gained
 plus-requires-clause-gained c =

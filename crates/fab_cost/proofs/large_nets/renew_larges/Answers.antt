@@ -16,9 +16,9 @@ overflow_add-gained c =
     let b = c.args.block.0 in
     let sites = c.args.placement.now.sites in
     let row = subst (AreLarge d b) (sym c.row-row.ensures) (c.requires.records.large.each b c.requires.block) in
-    let h : c.large.k < length (nets_of (large_of d) b) = (let e = row_long d b c.row-row.result.now row in let t = c.large-test.true in omega (arith, e, t)) in
-    let f = sum_fits (large_of d) c.args.grid.now (swapped sites c.args.swap.now) c.args.but b c.large.k (get_or (nets_of (large_of d) b) c.large.k 0) c.large.gained c.renew_net-one.result.gained
-    (lawful_large d c.nets-nets.ensures.lawful) (omega arith, omega arith) (omega arith, omega arith) h refl c.large.invariant.gained c.renew_net-one.ensures.gained in
+    let h : c.places.k < length (nets_of (large_of d) b) = (let e = row_long d b c.row-row.result.now row in let t = c.places-test.true in omega (arith, e, t)) in
+    let f = sum_fits (large_of d) c.args.grid.now (swapped sites c.args.swap.now) c.args.but b c.places.k (get_or (nets_of (large_of d) b) c.places.k 0) c.places.gained c.renew_net-one.result.gained
+    (lawful_large d c.nets-nets.ensures.lawful) (omega arith, omega arith) (omega arith, omega arith) h refl c.places.invariant.gained c.renew_net-one.ensures.gained in
     omega arith
 
 pub overflow_add-lost : goal.overflow_add-lost
@@ -27,21 +27,21 @@ overflow_add-lost c =
     let b = c.args.block.0 in
     let sites = c.args.placement.now.sites in
     let row = subst (AreLarge d b) (sym c.row-row.ensures) (c.requires.records.large.each b c.requires.block) in
-    let h : c.large.k < length (nets_of (large_of d) b) = (let e = row_long d b c.row-row.result.now row in let t = c.large-test.true in omega (arith, e, t)) in
-    let f = sum_fits (large_of d) c.args.grid.now sites c.args.but b c.large.k (get_or (nets_of (large_of d) b) c.large.k 0) c.large.lost c.renew_net-one.result.lost
-    (lawful_large d c.nets-nets.ensures.lawful) (omega arith, omega arith) (omega arith, omega arith) h refl c.large.invariant.lost c.renew_net-one.ensures.lost in
+    let h : c.places.k < length (nets_of (large_of d) b) = (let e = row_long d b c.row-row.result.now row in let t = c.places-test.true in omega (arith, e, t)) in
+    let f = sum_fits (large_of d) c.args.grid.now sites c.args.but b c.places.k (get_or (nets_of (large_of d) b) c.places.k 0) c.places.lost c.renew_net-one.result.lost
+    (lawful_large d c.nets-nets.ensures.lawful) (omega arith, omega arith) (omega arith, omega arith) h refl c.places.invariant.lost c.renew_net-one.ensures.lost in
     omega arith
 
-pub large-preserved : goal.large-preserved
-large-preserved c =
+pub places-preserved : goal.places-preserved
+places-preserved c =
     let d = c.args.design.now in
     let b = c.args.block.0 in
     let sites = c.args.placement.now.sites in
     let row = subst (AreLarge d b) (sym c.row-row.ensures) (c.requires.records.large.each b c.requires.block) in
-    let h : c.large.k < length (nets_of (large_of d) b) = (let e = row_long d b c.row-row.result.now row in let t = c.large-test.true in omega (arith, e, t)) in
+    let h : c.places.k < length (nets_of (large_of d) b) = (let e = row_long d b c.row-row.result.now row in let t = c.places-test.true in omega (arith, e, t)) in
     record {
-      gained = sum_more (large_of d) c.args.grid.now (swapped sites c.args.swap.now) c.args.but b c.large.k (get_or (nets_of (large_of d) b) c.large.k 0) c.large.gained c.renew_net-one.result.gained h refl c.large.invariant.gained c.renew_net-one.ensures.gained;
-      lost = sum_more (large_of d) c.args.grid.now sites c.args.but b c.large.k (get_or (nets_of (large_of d) b) c.large.k 0) c.large.lost c.renew_net-one.result.lost h refl c.large.invariant.lost c.renew_net-one.ensures.lost;
+      gained = sum_more (large_of d) c.args.grid.now (swapped sites c.args.swap.now) c.args.but b c.places.k (get_or (nets_of (large_of d) b) c.places.k 0) c.places.gained c.renew_net-one.result.gained h refl c.places.invariant.gained c.renew_net-one.ensures.gained;
+      lost = sum_more (large_of d) c.args.grid.now sites c.args.but b c.places.k (get_or (nets_of (large_of d) b) c.places.k 0) c.places.lost c.renew_net-one.result.lost h refl c.places.invariant.lost c.renew_net-one.ensures.lost;
       left = c.renew_net-one.ensures.boxes;
     }
 
@@ -53,7 +53,7 @@ returns c =
     let row = subst (AreLarge d b) (sym c.row-row.ensures) (c.requires.records.large.each b c.requires.block) in
     let e = row_long d b c.row-row.result.now row in
     record {
-      boxes = ended c.large.boxes.items (large_of d) c.args.grid.now sites (swapped sites c.args.swap.now) b c.args.but c.large.k c.large.invariant.left (omega arith);
-      gained = sum_all (large_of d) c.args.grid.now (swapped sites c.args.swap.now) c.args.but b c.large.k c.large.gained (omega arith) c.large.invariant.gained;
-      lost = sum_all (large_of d) c.args.grid.now sites c.args.but b c.large.k c.large.lost (omega arith) c.large.invariant.lost;
+      boxes = ended c.places.large.boxes.items (large_of d) c.args.grid.now sites (swapped sites c.args.swap.now) b c.args.but c.places.k c.places.invariant.left (omega arith);
+      gained = sum_all (large_of d) c.args.grid.now (swapped sites c.args.swap.now) c.args.but b c.places.k c.places.gained (omega arith) c.places.invariant.gained;
+      lost = sum_all (large_of d) c.args.grid.now sites c.args.but b c.places.k c.places.lost (omega arith) c.places.invariant.lost;
     }

@@ -30,7 +30,7 @@ returns-then-is_left_out-clause-boxes c =
     let is = c.is_left_out.ensures c.args.swap.now c.args.block (blocks_of d n) c.requires.part mine in
     let at : n ≡ get_or (nets_of (large_of d) b) c.args.k 0 = c.net_of-net.ensures.number ∙ row_net d b c.args.row.now c.args.k _ 0 c.requires.large c.requires.within refl in
     let within : c.args.k < length (nets_of (large_of d) b) = subst (λ v. c.args.k < v) (row_long d b c.args.row.now c.requires.large) c.requires.within in
-    next_on c.args.boxes.now.items (large_of d) g sites after b c.args.but c.args.k n c.is_left_out.result c.requires.left within at is c.if-is_left_out.true
+    next_on c.args.large.now.boxes.items (large_of d) g sites after b c.args.but c.args.k n c.is_left_out.result c.requires.left within at is c.if-is_left_out.true
 
 pub returns-then-is_left_out-clause-gained : goal.returns-then-is_left_out-clause-gained
 returns-then-is_left_out-clause-gained c =
@@ -88,7 +88,7 @@ renewed-new-requires-clause-old c =
     let at : n ≡ get_or (nets_of (large_of d) b) c.args.k 0 = c.net_of-net.ensures.number ∙ row_net d b c.args.row.now c.args.k _ 0 c.requires.large c.requires.within refl in
     let within : c.args.k < length (nets_of (large_of d) b) = subst (λ v. c.args.k < v) (row_long d b c.args.row.now c.requires.large) c.requires.within in
     let counts = row_counts d b c.args.row.now c.args.k _ 0 n c.requires.large c.requires.within refl c.net_of-net.ensures.number in
-    let old = old_here c.args.boxes.now.items (large_of d) g sites after b c.args.but c.args.k n c.is_left_out.result c.kept_box-old.result c.requires.left counts within at is c.if-is_left_out.false c.kept_box-old.ensures ∙ box_large d g sites n in
+    let old = old_here c.args.large.now.boxes.items (large_of d) g sites after b c.args.but c.args.k n c.is_left_out.result c.kept-old.result c.requires.left counts within at is c.if-is_left_out.false c.kept-old.ensures ∙ box_large d g sites n in
     old
 
 pub returns-clause-boxes : goal.returns-clause-boxes
@@ -102,7 +102,7 @@ returns-clause-boxes c =
     let at : n ≡ get_or (nets_of (large_of d) b) c.args.k 0 = c.net_of-net.ensures.number ∙ row_net d b c.args.row.now c.args.k _ 0 c.requires.large c.requires.within refl in
     let within : c.args.k < length (nets_of (large_of d) b) = subst (λ v. c.args.k < v) (row_long d b c.args.row.now c.requires.large) c.requires.within in
     let counts = row_counts d b c.args.row.now c.args.k _ 0 n c.requires.large c.requires.within refl c.net_of-net.ensures.number in
-    next_off c.args.boxes.now.items _ (large_of d) g sites after b c.args.but c.args.k n c.renewed-new.result c.requires.left counts within at (c.renewed-new.ensures ∙ sym (box_large d g after n)) refl
+    next_off c.args.large.now.boxes.items _ (large_of d) g sites after b c.args.but c.args.k n c.renewed-new.result c.requires.left counts within at (c.renewed-new.ensures ∙ sym (box_large d g after n)) c.set.ensures
 
 pub returns-clause-gained : goal.returns-clause-gained
 returns-clause-gained c =
@@ -132,5 +132,5 @@ returns-clause-lost c =
     let at : n ≡ get_or (nets_of (large_of d) b) c.args.k 0 = c.net_of-net.ensures.number ∙ row_net d b c.args.row.now c.args.k _ 0 c.requires.large c.requires.within refl in
     let within : c.args.k < length (nets_of (large_of d) b) = subst (λ v. c.args.k < v) (row_long d b c.args.row.now c.requires.large) c.requires.within in
     let counts = row_counts d b c.args.row.now c.args.k _ 0 n c.requires.large c.requires.within refl c.net_of-net.ensures.number in
-    let old = old_here c.args.boxes.now.items (large_of d) g sites after b c.args.but c.args.k n c.is_left_out.result c.kept_box-old.result c.requires.left counts within at is c.if-is_left_out.false c.kept_box-old.ensures ∙ box_large d g sites n in
+    let old = old_here c.args.large.now.boxes.items (large_of d) g sites after b c.args.but c.args.k n c.is_left_out.result c.kept-old.result c.requires.left counts within at is c.if-is_left_out.false c.kept-old.ensures ∙ box_large d g sites n in
     unless_off d g sites c.args.but n c.is_left_out.result c.tally_between.result.lost is c.if-is_left_out.false (c.tally_between.ensures.lost g sites old) ∙ sym (unless_large d g sites c.args.but n) ∙ ap (cost_unless (large_of d) g sites c.args.but) at

@@ -6,5 +6,5 @@ use Rattle.fab_cost.proofs.large_nets.take_nets.Given as goal
 
 abbrev pub invariant-loop-net : goal.invariant-loop-net
 invariant-loop-net l =
-    (length l.boxes.items ≡ length l.initial.boxes.items)
-    × ((k : ℕ) → counted_at l.boxes.items k ≡ cond (list_any (λ (n : NetId). k == n.0) (take l.net-index l.nets)) (counted_at l.from.items k) (counted_at l.initial.boxes.items k))
+    (length l.large.boxes.items ≡ length l.initial.large.boxes.items)
+    × ((k : ℕ) → counted_at l.large.boxes.items k ≡ cond (list_any (λ (n : NetId). k == n.0) (take l.net-index l.nets)) (counted_at l.from.boxes.items k) (counted_at l.initial.large.boxes.items k))

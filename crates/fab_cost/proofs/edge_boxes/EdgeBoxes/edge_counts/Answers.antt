@@ -8,7 +8,7 @@ use Rattle.fab_cost.proofs.edge_boxes.EdgeBoxes.edge_counts.Goals as goal
 pub row-blocks-requires : goal.row-blocks-requires
 row-blocks-requires c =
     let e = ap (λ (v : CountedBoxesOf). length v.boxes) c.self.view_is in
-    let l = seen_long c.self.inside.runs.terminals (positions_in c.self.inside.lanes.items) c.self.inside.boxes.items in
+    let l = seen_long c.self.inside.runs.terminals (positions_in c.self.inside.lanes.items) c.self.inside.large.boxes.items in
     let r = c.requires in
     omega (arith, e, l, r)
 
@@ -25,19 +25,19 @@ returns-then-blocks-gt-WIDE c = λ d g sites stands counts.
     let n = c.args.net.0 in
     let nets = c.self.inside.runs.terminals in
     let ps = positions_in c.self.inside.lanes.items in
-    let kept = c.self.inside.boxes.items in
+    let kept = c.self.inside.large.boxes.items in
     let e = ap (λ (v : CountedBoxesOf). length v.boxes) c.self.view_is in
     let low : n < length nets = (let l = seen_long nets ps kept in let r = c.requires in omega (arith, e, l, r)) in
     let many : 16 < length (get_or nets n []) = (let l = ap length c.row-blocks.ensures in let t = c.if-blocks-gt-WIDE.true in omega (arith, l, t)) in
-    counts_shown c.args.self.now d g sites n c.kept_box-kept.result stands counts
-    (c.kept_box-kept.ensures ∙ sym (seen_large nets ps kept n low many) ∙ ap (λ (v : CountedBoxesOf). counted_at v.boxes n) c.self.view_is)
+    counts_shown c.args.self.now d g sites n c.kept-kept.result stands counts
+    (c.kept-kept.ensures ∙ sym (seen_large nets ps kept n low many) ∙ ap (λ (v : CountedBoxesOf). counted_at v.boxes n) c.self.view_is)
 
 pub returns-else-blocks-gt-WIDE : goal.returns-else-blocks-gt-WIDE
 returns-else-blocks-gt-WIDE c = λ d g sites stands counts.
     let n = c.args.net.0 in
     let nets = c.self.inside.runs.terminals in
     let ps = positions_in c.self.inside.lanes.items in
-    let kept = c.self.inside.boxes.items in
+    let kept = c.self.inside.large.boxes.items in
     let e = ap (λ (v : CountedBoxesOf). length v.boxes) c.self.view_is in
     let low : n < length nets = (let l = seen_long nets ps kept in let r = c.requires in omega (arith, e, l, r)) in
     let few : length (get_or nets n []) ≤ 16 = (let l = ap length c.row-blocks.ensures in let t = c.if-blocks-gt-WIDE.false in omega (arith, l, t)) in

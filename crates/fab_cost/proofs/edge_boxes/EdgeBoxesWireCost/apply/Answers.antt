@@ -15,7 +15,7 @@ renew_large-large-requires-clause-have c =
     let d = c.args.design.now in
     let g = c.args.grid.now in
     let sites = c.args.placement.now.sites in
-    large_have d g sites c.self.inside.runs.terminals (positions_in c.self.inside.lanes.items) c.self.inside.boxes.items (ap (λ (v : CountedBoxesOf). v.nets) c.self.view_is ∙ c.requires.stands.made.nets) c.self.invariant.long
+    large_have d g sites c.self.inside.runs.terminals (positions_in c.self.inside.lanes.items) c.self.inside.large.boxes.items (ap (λ (v : CountedBoxesOf). v.nets) c.self.view_is ∙ c.requires.stands.made.nets) c.self.invariant.long
     (subst (λ (v : CountedBoxesOf). HaveBoxes v.boxes d g sites) (sym c.self.view_is) c.requires.stands.have)
 
 pub renew_lanes-requires-clause-block : goal.renew_lanes-requires-clause-block
@@ -62,9 +62,9 @@ invariant_of-self c =
     let at = positions_of_from (positions_after g (positions_in old) s) new e in
     let below = cost_below d g (swapped sites s) c.blocks-blocks.ensures.lawful (omega arith, omega arith) (omega arith, omega arith) in
     let was = ap (λ (v : CountedBoxesOf). length v.boxes) c.self.view_is ∙ c.requires.stands.have.long in
-    let long : length c.renew_large-large.new.boxes.items ≡ length c.self.inside.boxes.items =
-    c.renew_large-large.ensures.have.long ∙ sym was ∙ seen_long c.self.inside.runs.terminals (positions_in old) c.self.inside.boxes.items ∙ sym c.self.invariant.long in
-    kept_after old new c.self.inside.runs c.self.inside.boxes.items c.renew_large-large.new.boxes.items c.self.inside.total _ c.self.invariant (ap length at ∙ length_after g (positions_in old) s) (e ∙ ap table_from (sym at)) long
+    let long : length c.renew_large-large.new.large.boxes.items ≡ length c.self.inside.large.boxes.items =
+    c.renew_large-large.ensures.have.long ∙ sym was ∙ seen_long c.self.inside.runs.terminals (positions_in old) c.self.inside.large.boxes.items ∙ sym c.self.invariant.long in
+    kept_after old new c.self.inside.runs c.self.inside.large.boxes.items c.renew_large-large.new.large.boxes.items c.self.inside.total _ c.self.invariant (ap length at ∙ length_after g (positions_in old) s) (e ∙ ap table_from (sym at)) long
     (omega (arith, total, both, below, c.plus-tally.ensures.gained, c.plus-tally.ensures.lost))
 
 pub returns : goal.returns
@@ -77,5 +77,5 @@ returns c =
     let total = ap (λ (v : CountedBoxesOf). v.total) c.self.view_is ∙ c.requires.stands.sum in
     let at = ap (λ (v : CountedBoxesOf). v.positions) c.self.view_is ∙ c.requires.stands.at in
     let table = table_is g sites c.self.inside.lanes.items c.self.invariant.vectors at in
-    stands_by d g (swapped sites s) c.renew_lanes.new.lanes.items c.self.inside.runs c.renew_large-large.new.boxes.items _ c.blocks-blocks.ensures.lawful (c.requires.stands.whole ∙ sym (length-swapped sites s)) (c.renew_lanes.ensures.swapped sites c.requires.lawful table)
+    stands_by d g (swapped sites s) c.renew_lanes.new.lanes.items c.self.inside.runs c.renew_large-large.new.large.boxes.items _ c.blocks-blocks.ensures.lawful (c.requires.stands.whole ∙ sym (length-swapped sites s)) (c.renew_lanes.ensures.swapped sites c.requires.lawful table)
     (ap (λ (v : CountedBoxesOf). v.nets) c.self.view_is ∙ c.requires.stands.made.nets) c.renew_large-large.ensures.have (omega (arith, total, both, c.plus-tally.ensures.gained, c.plus-tally.ensures.lost))
