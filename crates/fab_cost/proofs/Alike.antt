@@ -27,8 +27,8 @@ row_is d n = elim (cases_lt n (length d.terminals)) [
   | inl l ↦ listed_row d n l
   | inr h ↦
       (let e = blocks_long d in
-       get_or_past (counted_blocks d) n [] (omega (arith, h, e))
-       ∙ sym (ap (λ (ts : List Terminal). cond (net_at d n).global [] (map block_on ts)) (get_or_past d.terminals n [] h) ∙ none_either (net_at d n).global))
+      get_or_past (counted_blocks d) n [] (omega (arith, h, e))
+      ∙ sym (ap (λ (ts : List Terminal). cond (net_at d n).global [] (map block_on ts)) (get_or_past d.terminals n [] h) ∙ none_either (net_at d n).global))
 ]
   where
     none_either : (b : Bool) → cond b [] (map block_on []) ≡ []
@@ -94,7 +94,7 @@ record_alike d e b n others q same kinds is =
 records_alike : {W : ℕ} (d e : Netlist) (b : ℕ) (ns ms : List ℕ) (rs : List (Record W)) → counted_blocks d ≡ counted_blocks e → length d.kinds ≡ length e.kinds → ns ≡ ms → AreRecords d b ns rs → AreRecords e b ms rs
 records_alike {W = W} d e b ns ms rs same kinds en are = subst (λ v. AreRecords {W = W} e b v rs) en (record {
   long = are.long;
-  each = λ i z h. record_alike d e b (get_or ns i 0) (get_or rs i z).others (get_or rs i z).q same kinds (are.each i z h);
+  each = λ i z h. record_alike d e b (get_or ns i 0) (get_or rs i z).others (get_or rs i z).factor same kinds (are.each i z h);
 })
 
 rows_alike : {W : ℕ} (d e : Netlist) (above most : ℕ) (rows : List (List (Record W))) → counted_blocks d ≡ counted_blocks e → length d.kinds ≡ length e.kinds → HasRows d above most rows → HasRows e above most rows

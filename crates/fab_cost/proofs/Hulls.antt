@@ -12,7 +12,7 @@ use Rattle.fab_net.specs.Netlist.{Netlist, has_number, IsLawful}
 use Rattle.fab_site.specs.Placement.{nowhere, site_of}
 use Rattle.fab_cost.specs.Cost.{clip, least, greatest, least_with, greatest_with, box_on, half_perimeter, net_box, net_cost}
 use Rattle.fab_cost.specs.Swapping.{blocks_of}
-use Rattle.fab_cost.specs.Runs.{four, nowhere4, lanes_at, lanes_in, least_of, least_among, table_of, seen_in, weight, IsRecord, AreRecords}
+use Rattle.fab_cost.specs.Runs.{four, no_lanes, lanes_at, lanes_in, least_of, least_among, table_of, seen_in, weight, IsRecord, AreRecords}
 use Rattle.fab_cost.specs.declared.records.Record.{Record}
 use Rattle.fab_cost.proofs.Bounds.{AreSides}
 use Rattle.fab_cost.proofs.Numbers.{has_first, has_later, has_apart, has_none, absent_from_each}
@@ -160,7 +160,7 @@ map_set h [] a s = refl
 map_set h (t ∷ sites) zero s = refl
 map_set h (t ∷ sites) (suc a) s = ap (λ v. h t ∷ v) (map_set h sites a s)
 
-in_table : (g : GridShape) (sites : List Site) (k : ℕ) → get_or (table_of g sites) k nowhere4 ≡ lanes_in g sites k
+in_table : (g : GridShape) (sites : List Site) (k : ℕ) → get_or (table_of g sites) k no_lanes ≡ lanes_in g sites k
 in_table g [] zero = refl
 in_table g [] (suc k) = refl
 in_table g (s ∷ sites) zero = refl
@@ -169,11 +169,11 @@ in_table g (s ∷ sites) (suc k) = in_table g sites k
 pub seen_is : (g : GridShape) (sites : List Site) (a : ℕ) (s : Site) (k : ℕ) → a < length sites → seen_in (table_of g sites) a (lanes_at g s) k ≡ lanes_in g (set sites a s) k
 seen_is g sites a s k l = elim (cases_eq k a) [
   | inl q ↦
-      (λ i. cond (eq-eqb k a q i) (lanes_at g s) (get_or (table_of g sites) k nowhere4))
-      ∙ sym (ap (λ v. get_or (map (lanes_at g) (set sites a s)) v nowhere4) q ∙ ap (λ v. get_or v a nowhere4) (map_set (lanes_at g) sites a s) ∙ get_or-set_same (map (lanes_at g) sites) a (lanes_at g s) nowhere4 (omega (arith, l, length-map sites (lanes_at g))))
+      (λ i. cond (eq-eqb k a q i) (lanes_at g s) (get_or (table_of g sites) k no_lanes))
+      ∙ sym (ap (λ v. get_or (map (lanes_at g) (set sites a s)) v no_lanes) q ∙ ap (λ v. get_or v a no_lanes) (map_set (lanes_at g) sites a s) ∙ get_or-set_same (map (lanes_at g) sites) a (lanes_at g s) no_lanes (omega (arith, l, length-map sites (lanes_at g))))
   | inr ne ↦
-      (λ i. cond (ne_eqb k a ne i) (lanes_at g s) (get_or (table_of g sites) k nowhere4)) ∙ in_table g sites k
-      ∙ sym (ap (λ v. get_or v k nowhere4) (map_set (lanes_at g) sites a s) ∙ get_or-set_other (map (lanes_at g) sites) a k (lanes_at g s) nowhere4 ne)
+      (λ i. cond (ne_eqb k a ne i) (lanes_at g s) (get_or (table_of g sites) k no_lanes)) ∙ in_table g sites k
+      ∙ sym (ap (λ v. get_or v k no_lanes) (map_set (lanes_at g) sites a s) ∙ get_or-set_other (map (lanes_at g) sites) a k (lanes_at g s) no_lanes ne)
 ]
 
 mul_distrib : (q a b : ℕ) → q * (a + b) ≡ q * a + q * b
@@ -206,15 +206,15 @@ records_rest d b n ns r rs are = record {
 }
 
 row_weight : {W : ℕ} (d : Netlist) (g : GridShape) (sites : List Site) (b : ℕ) (s : Site) → IsLawful d → AreSides g → length d.kinds ≡ length sites → b < length sites
-    → (ns : List ℕ) (rs : List (Record W)) → AreRecords d b ns rs → sum_by (net_cost d g (set sites b s)) ns + sum_by (weight (lanes_in g sites) (lanes_at g s)) rs ≡ sum_by (λ (r : Record W). r.q * 2004) rs
+    → (ns : List ℕ) (rs : List (Record W)) → AreRecords d b ns rs → sum_by (net_cost d g (set sites b s)) ns + sum_by (weight (lanes_in g sites) (lanes_at g s)) rs ≡ sum_by (λ (r : Record W). r.factor * 2004) rs
 row_weight d g sites b s lawful sides w lb [] [] are = refl
 row_weight d g sites b s lawful sides w lb [] (r ∷ rs) are = absurd (let l = are.long in omega (arith, l))
 row_weight d g sites b s lawful sides w lb (n ∷ ns) [] are = absurd (let l = are.long in omega (arith, l))
 row_weight {W = W} d g sites b s lawful sides w lb (n ∷ ns) (r ∷ rs) are =
-    let one = net_weight d g sites b s n r.others r.q (are.each 0 r (omega arith)) lawful sides w lb in
+    let one = net_weight d g sites b s n r.others r.factor (are.each 0 r (omega arith)) lawful sides w lb in
     let rest = row_weight {W = W} d g sites b s lawful sides w lb ns rs (records_rest {W = W} d b n ns r rs are) in
     let f : Record W → ℕ = weight (lanes_in g sites) (lanes_at g s) in
-    let h : Record W → ℕ = λ (r : Record W). r.q * 2004 in
+    let h : Record W → ℕ = λ (r : Record W). r.factor * 2004 in
     let a = sum_by-cons (net_cost d g (set sites b s)) n ns in
     let c = sum_by-cons f r rs in
     let e = sum_by-cons h r rs in

@@ -17,7 +17,7 @@ use Rattle.fab_cost.specs.Cost.{clip, cost_of}
 use Rattle.fab_cost.specs.Boxes.{Counts}
 use Rattle.fab_cost.specs.Edges.{counted_box, counted_on, counts_of, edge_counts, edges_of}
 use Rattle.fab_cost.specs.Swapping.{CountedBoxesOf, CountedStandsFor, HaveBoxes, Position, position_at, blocks_of, counted_at, counted_blocks, nothing_counted}
-use Rattle.fab_cost.specs.Runs.{HasRecords, IsKept, box_seen, boxes_seen, counted_over, is_large, large_of, lanes_at, lanes_for, no_position, nowhere4, positions_after, positions_in, positions_with, table_from, table_of}
+use Rattle.fab_cost.specs.Runs.{HasRecords, IsKept, box_seen, boxes_seen, counted_over, is_large, large_of, lanes_at, lanes_for, no_position, no_lanes, positions_after, positions_in, positions_with, table_from, table_of}
 use Rattle.fab_cost.proofs.Alike.{alike, row_is}
 use Rattle.fab_cost.proofs.Large.{box_large, counts_large, large_counts}
 use Rattle.fab_cost.proofs.Listings.{listed_row}
@@ -33,13 +33,13 @@ abbrev position_from : List ℕ → Position
 position_from v = record { x = get_or v 0 0; y = get_or v 2 0 }
 
 pub positions_of_table : (g : GridShape) (sites : List Site) (table : List (List ℕ)) → table ≡ table_of g sites → positions_in table ≡ map (position_at g) sites
-positions_of_table g sites table e = ap positions_in e ∙ ap (map position_from) (last_left (map (lanes_at g) sites) nowhere4) ∙ map-map position_from (lanes_at g) sites
+positions_of_table g sites table e = ap positions_in e ∙ ap (map position_from) (last_left (map (lanes_at g) sites) no_lanes) ∙ map-map position_from (lanes_at g) sites
 
 pub table_by_positions : (g : GridShape) (sites : List Site) (table : List (List ℕ)) → table ≡ table_of g sites → table ≡ table_from (positions_in table)
-table_by_positions g sites table e = e ∙ ap (λ v. v ++ nowhere4 ∷ []) (sym (map-map lanes_for (position_at g) sites)) ∙ ap table_from (sym (positions_of_table g sites table e))
+table_by_positions g sites table e = e ∙ ap (λ v. v ++ no_lanes ∷ []) (sym (map-map lanes_for (position_at g) sites)) ∙ ap table_from (sym (positions_of_table g sites table e))
 
 pub table_is : (g : GridShape) (sites : List Site) (table : List (List ℕ)) → table ≡ table_from (positions_in table) → positions_in table ≡ map (position_at g) sites → table ≡ table_of g sites
-table_is g sites table e at = e ∙ ap table_from at ∙ ap (λ v. v ++ nowhere4 ∷ []) (map-map lanes_for (position_at g) sites)
+table_is g sites table e at = e ∙ ap table_from at ∙ ap (λ v. v ++ no_lanes ∷ []) (map-map lanes_for (position_at g) sites)
 
 -- a table with another vector
 
@@ -50,8 +50,8 @@ set_map f (q ∷ ps) (suc k) p more h = ap (λ v. f q ∷ v) (set_map f ps k p m
 
 pub set_table : (table new : List (List ℕ)) (ps : List Position) (k : ℕ) (p : Position) (v : List ℕ) → k + 1 < length table → table ≡ table_from ps → v ≡ lanes_for p → new ≡ set table k v → new ≡ table_from (set ps k p)
 set_table table new ps k p v h e ev en =
-    let low : k < length ps = (let l = ap length e in let m = length-append (map lanes_for ps) (nowhere4 ∷ []) in let n = length-map ps lanes_for in omega (arith, h, l, m, n)) in
-    en ∙ (λ i. set (e i) k (ev i)) ∙ set_map lanes_for ps k p (nowhere4 ∷ []) low
+    let low : k < length ps = (let l = ap length e in let m = length-append (map lanes_for ps) (no_lanes ∷ []) in let n = length-map ps lanes_for in omega (arith, h, l, m, n)) in
+    en ∙ (λ i. set (e i) k (ev i)) ∙ set_map lanes_for ps k p (no_lanes ∷ []) low
 
 pub after_none : (g : GridShape) (s : Swap) (table new : List (List ℕ)) (ps : List Position) (v : List ℕ) → s.block.0 + 1 < length table → s.other ≡ None → table ≡ table_from ps → v ≡ lanes_at g s.to → new ≡ set table s.block.0 v → new ≡ table_from (positions_after g ps s)
 after_none g s table new ps v h o e ev en = set_table table new ps s.block.0 (position_at g s.to) v h e ev en ∙ ap (λ w. table_from (positions_with g (set ps s.block.0 (position_at g s.to)) w s.from)) (sym o)
@@ -64,7 +64,7 @@ after_some g s c table mid new ps v w h k o e ev ew em en =
     ∙ ap (λ u. table_from (positions_with g (set ps s.block.0 (position_at g s.to)) u s.from)) (sym o)
 
 pub positions_of_from : (ps : List Position) (table : List (List ℕ)) → table ≡ table_from ps → positions_in table ≡ ps
-positions_of_from ps table e = ap positions_in e ∙ ap (map position_from) (last_left (map lanes_for ps) nowhere4) ∙ map-map position_from lanes_for ps ∙ map-id ps
+positions_of_from ps table e = ap positions_in e ∙ ap (map position_from) (last_left (map lanes_for ps) no_lanes) ∙ map-map position_from lanes_for ps ∙ map-id ps
   where
     map-id : (ps : List Position) → map (λ p. position_from (lanes_for p)) ps ≡ ps
     map-id [] = refl
@@ -141,7 +141,7 @@ have_seen d g sites nets ps kept is w e ep have = record {
       elim (cases_lt 16 (length (get_or nets n []))) [
         | inl l ↦
             (let many : is_large d n ≡ true = (let m = ap length row in let t : 16 < length (blocks_of d n) = omega (arith, l, m) in grind (arith, nat_tests)) in
-             seen_large nets ps kept n low l ∙ have.each n (counts_large d n c many) ∙ box_large d g sites n)
+            seen_large nets ps kept n low l ∙ have.each n (counts_large d n c many) ∙ box_large d g sites n)
         | inr h ↦ seen_small nets ps kept n low h ∙ ap (counted_over ps) row ∙ over_is d g sites ps n is w ep
       ];
 }

@@ -34,12 +34,12 @@ global_at : (d : Netlist) (n : ℕ) → (net_at (large_of d) n).global ≡ marke
 global_at d n = elim (cases_lt n (length d.terminals)) [
   | inl l ↦
       (let e = length-range_with_len 0 (length d.terminals) in
-       get_or-map (marked d) (range_with_len 0 (length d.terminals)) n 0 true (omega (arith, l, e)) ∙ ap (marked d) (get_or-range_with_len 0 (length d.terminals) n 0 l ∙ (let z : 0 + n ≡ n = omega arith in z)))
+      get_or-map (marked d) (range_with_len 0 (length d.terminals)) n 0 true (omega (arith, l, e)) ∙ ap (marked d) (get_or-range_with_len 0 (length d.terminals) n 0 l ∙ (let z : 0 + n ≡ n = omega arith in z)))
   | inr h ↦
       (let e = length-range_with_len 0 (length d.terminals) in
-       let m = length-map (range_with_len 0 (length d.terminals)) (marked d) in
-       get_or_past (map (marked d) (range_with_len 0 (length d.terminals))) n true (omega (arith, h, e, m))
-       ∙ sym (ap (λ (ts : List Terminal). not (ltb 16 (length (map block_on ts))) || (net_at d n).global) (get_or_past d.terminals n [] h)))
+      let m = length-map (range_with_len 0 (length d.terminals)) (marked d) in
+      get_or_past (map (marked d) (range_with_len 0 (length d.terminals))) n true (omega (arith, h, e, m))
+      ∙ sym (ap (λ (ts : List Terminal). not (ltb 16 (length (map block_on ts))) || (net_at d n).global) (get_or_past d.terminals n [] h)))
 ]
 
 marked_parts : (a b : Bool) → (not a || b) ≡ false → (a ≡ true) × (b ≡ false)

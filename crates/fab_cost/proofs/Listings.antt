@@ -52,6 +52,7 @@ listing_more n ts i b z before entries new h eb en is = subst (λ v. Listing n t
     joined : (c : Bool) (xs : List ℕ) → (xs ++ cond c (map block_on (take i ts)) []) ++ cond c (b ∷ []) [] ≡ xs ++ cond c (map block_on (take (i + 1) ts)) []
     joined true xs = append_assoc xs (map block_on (take i ts)) (b ∷ []) ∙ ap (λ v. xs ++ v) (sym (ap (map block_on) (take_more ts i z h) ∙ map-append block_on (take i ts) (get_or ts i z ∷ []) ∙ (λ j. map block_on (take i ts) ++ sym eb j ∷ [])))
     joined false xs = append_assoc xs [] []
+
     there : Listing n ts (i + 1) before (entries ++ (n, b) ∷ [])
     there =
         let few = is.few in
@@ -75,14 +76,14 @@ listed_pushed d n i ts entries new c e h low is are =
       rows = λ k. is.rows k ∙ (λ j. are.rows k j ++ cond (eqb n k) (map block_on (take_all i ts h j)) []) ∙ elim (cases_eq n k) [
         | inl q ↦
             (let t : eqb n k ≡ true = eq-eqb n k q in
-             let f : ltb k n ≡ false = grind (arith, nat_tests) in
-             let u : ltb k (n + 1) ≡ true = grind (arith, nat_tests) in
-             (λ j. cond (f j) (get_or (counted_blocks d) k []) [] ++ cond (t j) (map block_on ts) [])
-             ∙ sym ((λ j. cond (u j) (get_or (counted_blocks d) k []) []) ∙ ap (λ v. get_or (counted_blocks d) v []) (sym q) ∙ listed_row d n c.within ∙ (λ j. cond (c.counted j) [] (blocks_of d n)) ∙ ap (map block_on) (sym e)))
+            let f : ltb k n ≡ false = grind (arith, nat_tests) in
+            let u : ltb k (n + 1) ≡ true = grind (arith, nat_tests) in
+            (λ j. cond (f j) (get_or (counted_blocks d) k []) [] ++ cond (t j) (map block_on ts) [])
+            ∙ sym ((λ j. cond (u j) (get_or (counted_blocks d) k []) []) ∙ ap (λ v. get_or (counted_blocks d) v []) (sym q) ∙ listed_row d n c.within ∙ (λ j. cond (c.counted j) [] (blocks_of d n)) ∙ ap (map block_on) (sym e)))
         | inr ne ↦
             (let f : eqb n k ≡ false = ne_eqb n k ne in
-             let u : ltb k n ≡ ltb k (n + 1) = grind (arith, nat_tests) in
-             (λ j. cond (u j) (get_or (counted_blocks d) k []) [] ++ cond (f j) (map block_on ts) []) ∙ append-nil (cond (ltb k (n + 1)) (get_or (counted_blocks d) k []) []))
+            let u : ltb k n ≡ ltb k (n + 1) = grind (arith, nat_tests) in
+            (λ j. cond (u j) (get_or (counted_blocks d) k []) [] ++ cond (f j) (map block_on ts) []) ∙ append-nil (cond (ltb k (n + 1)) (get_or (counted_blocks d) k []) []))
       ];
       within = λ j z hj. is.within (length d.terminals) c.within are.within j z hj;
       few = omega (arith, few, was, sum, l);
@@ -96,9 +97,9 @@ listed_passed d n entries h g are =
       rows = λ k. are.rows k ∙ elim (cases_eq n k) [
         | inl q ↦
             (let f : ltb k n ≡ false = grind (arith, nat_tests) in
-             let u : ltb k (n + 1) ≡ true = grind (arith, nat_tests) in
-             (λ j. cond (f j) (get_or (counted_blocks d) k []) [])
-             ∙ sym ((λ j. cond (u j) (get_or (counted_blocks d) k []) []) ∙ ap (λ v. get_or (counted_blocks d) v []) (sym q) ∙ listed_row d n h ∙ (λ j. cond (g j) [] (blocks_of d n))))
+            let u : ltb k (n + 1) ≡ true = grind (arith, nat_tests) in
+            (λ j. cond (f j) (get_or (counted_blocks d) k []) [])
+            ∙ sym ((λ j. cond (u j) (get_or (counted_blocks d) k []) []) ∙ ap (λ v. get_or (counted_blocks d) v []) (sym q) ∙ listed_row d n h ∙ (λ j. cond (g j) [] (blocks_of d n))))
         | inr ne ↦ (let u : ltb k n ≡ ltb k (n + 1) = grind (arith, nat_tests) in λ j. cond (u j) (get_or (counted_blocks d) k []) [])
       ];
       within = are.within;
@@ -111,9 +112,9 @@ each_row d n entries h are =
     let m : length (rows_of (length d.terminals) entries) ≡ length d.terminals = length-map-range_with_len (row_of entries) 0 (length d.terminals) in
     ext_get_or [] (rows_of (length d.terminals) entries) (counted_blocks d) (m ∙ sym (length-map-range_with_len (λ n. cond (net_at d n).global [] (blocks_of d n)) 0 (length d.terminals)))
     (λ k lk.
-      let low : k < length d.terminals = omega (arith, lk, m) in
-      let t : ltb k n ≡ true = (let lt : k < n = omega (arith, low, h) in grind (arith, nat_tests)) in
-      get_or-map-range_with_len (row_of entries) 0 (length d.terminals) k k [] low (omega arith) ∙ are.rows k ∙ (λ j. cond (t j) (get_or (counted_blocks d) k []) []))
+    let low : k < length d.terminals = omega (arith, lk, m) in
+    let t : ltb k n ≡ true = (let lt : k < n = omega (arith, low, h) in grind (arith, nat_tests)) in
+    get_or-map-range_with_len (row_of entries) 0 (length d.terminals) k k [] low (omega arith) ∙ are.rows k ∙ (λ j. cond (t j) (get_or (counted_blocks d) k []) []))
 
 pub listed_all : (d : Netlist) (n count : ℕ) (entries : List (ℕ × ℕ)) (rows : List (List ℕ)) → count ≡ length d.terminals → count ≤ n → rows ≡ rows_of count entries → AreListed d n entries → rows ≡ counted_blocks d
 listed_all d n count entries rows e h er are = er ∙ ap (λ v. rows_of v entries) e ∙ each_row d n entries (omega arith) are

@@ -7,7 +7,7 @@ use Rattle.std.proofs.lemmas.List.Sums.{sum_by_more}
 use lib.Lanes.{zip2, sel_l, sum_l, fold_l, top}
 use Rattle.std.proofs.lemmas.Simd.{tops_compared}
 use mir.Syntax.{w16}
-use Rattle.fab_cost.specs.Runs.{nowhere4, least_of, least_among}
+use Rattle.fab_cost.specs.Runs.{no_lanes, least_of, least_among}
 
 sel_min : (xs ys : List ℕ) → sel_l (zip2 ltb xs ys) xs ys ≡ zip2 (λ x y. min x y) xs ys
 sel_min [] ys = refl
@@ -27,7 +27,7 @@ fold_snoc f v (c ∷ ks) k = fold_snoc f (least_of v (f c)) ks k
 -- one more block
 pub least_more : (f : ℕ → List ℕ) (ks : List ℕ) (i z : ℕ) (v w r : List ℕ) → i < length ks → v ≡ least_among f (take i ks) → w ≡ f (get_or ks i z) → r ≡ least_of v w → r ≡ least_among f (take (i + 1) ks)
 least_more f ks i z v w r h ev ew er =
-    er ∙ (λ j. least_of (ev j) (ew j)) ∙ sym (fold_snoc f nowhere4 (take i ks) (get_or ks i z)) ∙ ap (least_among f) (sym (take_more ks i z h))
+    er ∙ (λ j. least_of (ev j) (ew j)) ∙ sym (fold_snoc f no_lanes (take i ks) (get_or ks i z)) ∙ ap (least_among f) (sym (take_more ks i z h))
 
 pub least_all : (f : ℕ → List ℕ) (ks : List ℕ) (i : ℕ) (v : List ℕ) → length ks ≤ i → v ≡ least_among f (take i ks) → v ≡ least_among f ks
 least_all f ks i v h e = e ∙ ap (least_among f) (take_all i ks h)

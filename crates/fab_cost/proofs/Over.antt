@@ -5,7 +5,7 @@ use Rattle.fab_cost.specs.declared.edge_counts.Edges.{Edges}
 use Rattle.fab_cost.specs.declared.edge_counts.CountedBox.{CountedBox}
 use Rattle.fab_cost.specs.Edges.{edges_of, times, AreEdgesWith}
 use Rattle.fab_cost.specs.Swapping.{Position}
-use Rattle.fab_cost.specs.Runs.{counted_over, lanes_for, no_position, nowhere4, table_from}
+use Rattle.fab_cost.specs.Runs.{counted_over, lanes_for, no_position, no_lanes, table_from}
 use Rattle.fab_cost.proofs.Moves.{edges_small}
 
 abbrev pub x_at : List Position → ℕ → ℕ
@@ -17,7 +17,7 @@ y_at ps k = (get_or ps k no_position).y
 -- the vector of a block
 lanes_at_block : (table : List (List ℕ)) (ps : List Position) (k : ℕ) (z : List ℕ) → table ≡ table_from ps → k < length ps → get_or table k z ≡ lanes_for (get_or ps k no_position)
 lanes_at_block table ps k z e h =
-    ap (λ v. get_or v k z) e ∙ get_or_append_left (map lanes_for ps) (nowhere4 ∷ []) z k (let l = length-map ps lanes_for in omega (arith, h, l)) ∙ get_or-map lanes_for ps k no_position z h
+    ap (λ v. get_or v k z) e ∙ get_or_append_left (map lanes_for ps) (no_lanes ∷ []) z k (let l = length-map ps lanes_for in omega (arith, h, l)) ∙ get_or-map lanes_for ps k no_position z h
 
 pub lane_x : (table : List (List ℕ)) (ps : List Position) (k : ℕ) (z v : List ℕ) → table ≡ table_from ps → k < length ps → v ≡ get_or table k z → get_or v 0 0 ≡ x_at ps k
 lane_x table ps k z v e h ev = ap (λ w. get_or w 0 0) (ev ∙ lanes_at_block table ps k z e h)
@@ -26,7 +26,7 @@ pub lane_y : (table : List (List ℕ)) (ps : List Position) (k : ℕ) (z v : Lis
 lane_y table ps k z v e h ev = ap (λ w. get_or w 2 0) (ev ∙ lanes_at_block table ps k z e h)
 
 pub table_low : (table : List (List ℕ)) (ps : List Position) (k : ℕ) → table ≡ table_from ps → k < length ps → k < length table
-table_low table ps k e h = let l = length-map ps lanes_for in let a = length-append (map lanes_for ps) (nowhere4 ∷ []) in omega (arith, h, l, a, ap length e)
+table_low table ps k e h = let l = length-map ps lanes_for in let a = length-append (map lanes_for ps) (no_lanes ∷ []) in omega (arith, h, l, a, ap length e)
 
 length_first : (f : ℕ → ℕ) (ks : List ℕ) (i : ℕ) → i ≤ length ks → length (map f (take i ks)) ≡ i
 length_first f ks i h = length-map (take i ks) f ∙ length-take-le i ks h

@@ -89,6 +89,7 @@ filled_own none b ts z i skip next m others h em q en f =
   where
     turned : (k m : ℕ) → eqb k m ≡ eqb m k
     turned k m = elim (cases_eq k m) [ inl e ↦ eq-eqb k m e ∙ sym (eq-eqb m k (sym e)) | inr ne ↦ ne_eqb k m ne ∙ sym (ne_eqb m k (λ e. ne (sym e))) ]
+
     on : has_number b (map block_on (take (i + 1) ts)) ≡ true
     on = sym (seen_more b ts z i m (has_number b (map block_on (take i ts))) h em refl) ∙ ap (λ v. has_number b (map block_on (take i ts)) || v) (eq-eqb m b q) ∙ or_true (has_number b (map block_on (take i ts)))
       where
@@ -106,8 +107,10 @@ filled_other none b ts z i skip m others new h em ne lm lp en f = subst (λ v. I
   where
     x : ℕ → Bool
     x k = has_number k (map block_on (take i ts))
+
     more : (k : ℕ) → (x k || eqb m k) ≡ has_number k (map block_on (take (i + 1) ts))
     more k = seen_more k ts z i m (x k) h em refl
+
     join : (k : ℕ) → (eqb k m || (x k && not (eqb k b))) ≡ ((x k || eqb m k) && not (eqb k b))
     join k = elim (cases_eq k m) [
       | inl q ↦
@@ -124,6 +127,7 @@ filled_other none b ts z i skip m others new h em ne lm lp en f = subst (λ v. I
         alltrue : (v : Bool) → ((v || true) && not false) ≡ true
         alltrue true = refl
         alltrue false = refl
+
     there : IsFilled none b ts (i + 1) skip (set others (i - skip) m)
     there =
         let bh = f.behind in
@@ -219,7 +223,7 @@ packed_passed {W = W} d above most k j n entries h en f are =
     append_nil [] = refl
     append_nil (m ∷ ns) = ap (λ v. m ∷ v) (append_nil ns)
 
-records_push : {W : ℕ} (d : Netlist) (c n : ℕ) (ns : List ℕ) (rs : List (Record W)) (r : Record W) → AreRecords d c ns rs → IsRecord d c n r.others r.q → AreRecords d c (ns ++ n ∷ []) (rs ++ r ∷ [])
+records_push : {W : ℕ} (d : Netlist) (c n : ℕ) (ns : List ℕ) (rs : List (Record W)) (r : Record W) → AreRecords d c ns rs → IsRecord d c n r.others r.factor → AreRecords d c (ns ++ n ∷ []) (rs ++ r ∷ [])
 records_push {W = W} d c n ns rs r are is =
     let l = are.long in
     let ln = length-append ns (n ∷ []) in
@@ -230,12 +234,12 @@ records_push {W = W} d c n ns rs r are is =
         | inl w ↦
             let en : get_or (ns ++ n ∷ []) i 0 ≡ get_or ns i 0 = get_or_append_left ns (n ∷ []) 0 i w in
             let er : get_or (rs ++ r ∷ []) i z ≡ get_or rs i z = get_or_append_left rs (r ∷ []) z i (omega (arith, w, l)) in
-            subst (λ v. IsRecord d c v (get_or (rs ++ r ∷ []) i z).others (get_or (rs ++ r ∷ []) i z).q) (sym en) (subst (λ (v : Record W). IsRecord d c (get_or ns i 0) v.others v.q) (sym er) (are.each i z w))
+            subst (λ v. IsRecord d c v (get_or (rs ++ r ∷ []) i z).others (get_or (rs ++ r ∷ []) i z).factor) (sym en) (subst (λ (v : Record W). IsRecord d c (get_or ns i 0) v.others v.factor) (sym er) (are.each i z w))
         | inr ge ↦
             let q : length ns ≡ i = omega (arith, h, ln, ge) in
             let en : get_or (ns ++ n ∷ []) i 0 ≡ n = get_or_push ns n 0 i q in
             let er : get_or (rs ++ r ∷ []) i z ≡ r = get_or_push rs r z i (l ∙ q) in
-            subst (λ v. IsRecord d c v (get_or (rs ++ r ∷ []) i z).others (get_or (rs ++ r ∷ []) i z).q) (sym en) (subst (λ (v : Record W). IsRecord d c n v.others v.q) (sym er) is)
+            subst (λ v. IsRecord d c v (get_or (rs ++ r ∷ []) i z).others (get_or (rs ++ r ∷ []) i z).factor) (sym en) (subst (λ (v : Record W). IsRecord d c n v.others v.factor) (sym er) is)
       ];
     }
 
@@ -244,7 +248,7 @@ append_none [] = refl
 append_none (x ∷ xs) = ap (λ v. x ∷ v) (append_none xs)
 
 -- a net that is
-pub packed_pushed : {W : ℕ} (d : Netlist) (above most k j n : ℕ) (entries new : List (ℕ × Record W)) (r : Record W) → k < length d.kinds → j < length (nets_of d k) → n ≡ get_or (nets_of d k) j 0 → is_sized d above most n ≡ true → IsRecord d k n r.others r.q → new ≡ entries ++ (k, r) ∷ [] → ArePacked d above most k j entries → ArePacked d above most k (j + 1) new
+pub packed_pushed : {W : ℕ} (d : Netlist) (above most k j n : ℕ) (entries new : List (ℕ × Record W)) (r : Record W) → k < length d.kinds → j < length (nets_of d k) → n ≡ get_or (nets_of d k) j 0 → is_sized d above most n ≡ true → IsRecord d k n r.others r.factor → new ≡ entries ++ (k, r) ∷ [] → ArePacked d above most k j entries → ArePacked d above most k (j + 1) new
 packed_pushed {W = W} d above most k j n entries new r lk h en t is enew are = subst (λ v. ArePacked {W = W} d above most k (j + 1) v) (sym enew) there
   where
     there : ArePacked {W = W} d above most k (j + 1) (entries ++ (k, r) ∷ [])
@@ -255,8 +259,8 @@ packed_pushed {W = W} d above most k j n entries new r lk h en t is enew are = s
           rows = λ c. elim (cases_eq c k) [
             | inl q ↦ subst (λ v. AreRecords {W = W} d v (filter (is_sized d above most) (nets_to d k (j + 1) v)) (row_of (entries ++ (k, r) ∷ []) v)) (sym q)
                 (subst (λ v. AreRecords {W = W} d k v (row_of (entries ++ (k, r) ∷ []) k)) (sym (sized_here d above most k j n h en ∙ (λ i. filter (is_sized d above most) (nets_to d k j k) ++ cond (t i) (n ∷ []) [])))
-                  (subst (λ v. AreRecords {W = W} d k (filter (is_sized d above most) (nets_to d k j k) ++ n ∷ []) v) (sym (row_push entries k k r ∙ (λ i. row_of entries k ++ cond (eq-eqb k k refl i) (r ∷ []) [])))
-                    (records_push {W = W} d k n (filter (is_sized d above most) (nets_to d k j k)) (row_of entries k) r (are.rows k) is)))
+                (subst (λ v. AreRecords {W = W} d k (filter (is_sized d above most) (nets_to d k j k) ++ n ∷ []) v) (sym (row_push entries k k r ∙ (λ i. row_of entries k ++ cond (eq-eqb k k refl i) (r ∷ []) [])))
+                (records_push {W = W} d k n (filter (is_sized d above most) (nets_to d k j k)) (row_of entries k) r (are.rows k) is)))
             | inr ne ↦ subst (λ v. AreRecords {W = W} d c v (row_of (entries ++ (k, r) ∷ []) c)) (ap (filter (is_sized d above most)) (nets_apart d k j (j + 1) c ne))
                 (subst (λ v. AreRecords {W = W} d c (filter (is_sized d above most) (nets_to d k j c)) v) (sym (row_push entries k c r ∙ (λ i. row_of entries c ++ cond (ne_eqb k c (λ e. ne (sym e)) i) (r ∷ []) []) ∙ append_none (row_of entries c))) (are.rows c))
           ];
@@ -386,6 +390,7 @@ larger_pushed d k j n entries new lk h en t enew are = subst (λ v. AreLarger d 
   where
     at : ℕ → ℕ → ℕ
     at c i = get_or (nets_of d c) i 0
+
     there : AreLarger d k (j + 1) (entries ++ (k, j) ∷ [])
     there =
         let fw = are.few in
@@ -401,12 +406,12 @@ larger_pushed d k j n entries new lk h en t enew are = subst (λ v. AreLarger d 
           places = λ c i w. elim (cases_eq c k) [
             | inl q ↦ subst (λ v. get_or (row_of (entries ++ (k, j) ∷ []) v) i 0 < length (nets_of d v)) (sym q)
                 (let wk : i < length (row_of (entries ++ (k, j) ∷ []) k) = subst (λ v. i < length (row_of (entries ++ (k, j) ∷ []) v)) q w in
-                 let lw = ap length (row_new entries k j) in
-                 let la = length-append (row_of entries k) (j ∷ []) in
-                 elim (cases_lt i (length (row_of entries k))) [
-                   | inl l ↦ (let e = ap (λ v. get_or v i 0) (row_new entries k j) ∙ get_or_append_left (row_of entries k) (j ∷ []) 0 i l in let p = are.places k i l in omega (arith, e, p))
-                   | inr ge ↦ (let e = ap (λ v. get_or v i 0) (row_new entries k j) ∙ get_or_push (row_of entries k) j 0 i (omega (arith, wk, lw, la, ge)) in omega (arith, e, h))
-                 ])
+                let lw = ap length (row_new entries k j) in
+                let la = length-append (row_of entries k) (j ∷ []) in
+                elim (cases_lt i (length (row_of entries k))) [
+                  | inl l ↦ (let e = ap (λ v. get_or v i 0) (row_new entries k j) ∙ get_or_append_left (row_of entries k) (j ∷ []) 0 i l in let p = are.places k i l in omega (arith, e, p))
+                  | inr ge ↦ (let e = ap (λ v. get_or v i 0) (row_new entries k j) ∙ get_or_push (row_of entries k) j 0 i (omega (arith, wk, lw, la, ge)) in omega (arith, e, h))
+                ])
             | inr ne ↦ (let e = ap (λ v. get_or v i 0) (row_old entries k j c ne) in let l = ap length (row_old entries k j c ne) in let p = are.places c i (omega (arith, w, l)) in omega (arith, e, p))
           ];
           within = λ i z w. elim (cases_lt i (length entries)) [

@@ -17,7 +17,7 @@ use Rattle.fab_site.proofs.Swapping.{ready}
 use Rattle.fab_cost.specs.Cost.{net_box, net_cost, cost_of, cross_of}
 use Rattle.fab_cost.specs.Swapping.{blocks_of}
 use Rattle.fab_cost.specs.declared.records.Record.{Record}
-use Rattle.fab_cost.specs.Runs.{lanes_at, lanes_in, weight, table_of, seen_in, is_sized, is_large, nets_between, few_cost, few_all, nowhere4, AreRecords, AreWithin, IsStep}
+use Rattle.fab_cost.specs.Runs.{lanes_at, lanes_in, weight, table_of, seen_in, is_sized, is_large, nets_between, few_cost, few_all, no_lanes, AreRecords, AreWithin, IsStep}
 use Rattle.fab_cost.proofs.Bounds.{AreSides}
 use Rattle.fab_cost.proofs.Sited.{other_within, other_is_apart}
 use Rattle.fab_cost.proofs.Changes.{half_of_one}
@@ -108,7 +108,7 @@ lanes_sum g s v e cx cy =
     omega (arith, k, x, y)
 
 pub table_long : (g : GridShape) (sites : List Site) (n : ℕ) (table : List (List ℕ)) → n ≡ length sites → table ≡ table_of g sites → length table ≡ n + 1
-table_long g sites n table w e = omega (arith, ap length e, length-append (map (lanes_at g) sites) (nowhere4 ∷ []), length-map sites (lanes_at g), w)
+table_long g sites n table w e = omega (arith, ap length e, length-append (map (lanes_at g) sites) (no_lanes ∷ []), length-map sites (lanes_at g), w)
 
 -- the whole sum, by size and by step
 
@@ -234,5 +234,5 @@ pub table_more : (g : GridShape) (sites : List Site) (k : ℕ) (x : Site) (table
 table_more g sites k x table new v h et ex ev en =
     en ∙ (λ i. et i ++ (ev ∙ ap (lanes_at g) ex) i ∷ []) ∙ sym (ap (map (lanes_at g)) (take_more sites k nowhere h) ∙ map-append (lanes_at g) (take k sites) (site_of sites k ∷ []))
 
-pub table_done : (g : GridShape) (sites : List Site) (k : ℕ) (table new : List (List ℕ)) (v : List ℕ) → length sites ≤ k → table ≡ map (lanes_at g) (take k sites) → v ≡ nowhere4 → new ≡ table ++ v ∷ [] → new ≡ table_of g sites
+pub table_done : (g : GridShape) (sites : List Site) (k : ℕ) (table new : List (List ℕ)) (v : List ℕ) → length sites ≤ k → table ≡ map (lanes_at g) (take k sites) → v ≡ no_lanes → new ≡ table ++ v ∷ [] → new ≡ table_of g sites
 table_done g sites k table new v h et ev en = en ∙ (λ i. (et ∙ ap (map (lanes_at g)) (take_all k sites h)) i ++ ev i ∷ [])

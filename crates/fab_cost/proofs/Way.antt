@@ -57,10 +57,10 @@ one_more d g sites there s nets fnets ps fps qs old fkept kept was total is ef u
           elim (cases_lt 16 (length (blocks_of d n))) [
             | inl l ↦
                 (let m : 16 < length (get_or nets n []) = (let k = ap length row in omega (arith, l, k)) in
-                 seen_large nets qs kept n low m ∙ large_way d g sites there s nets fnets ps fps old fkept kept was n en ef up live c l same (is_on_swap d s n) refl (each n c))
+                seen_large nets qs kept n low m ∙ large_way d g sites there s nets fnets ps fps old fkept kept was n en ef up live c l same (is_on_swap d s n) refl (each n c))
             | inr h ↦
                 (let m : length (get_or nets n []) ≤ 16 = (let k = ap length row in omega (arith, h, k)) in
-                 seen_small nets qs kept n low m ∙ ap (counted_over qs) row ∙ over_is d g (swapped sites s) qs n is whole eq ∙ same_box d g (swapped sites s) there n same)
+                seen_small nets qs kept n low m ∙ ap (counted_over qs) row ∙ over_is d g (swapped sites s) qs n is whole eq ∙ same_box d g (swapped sites s) there n same)
           ];
       whole = whole;
     }

@@ -1,5 +1,5 @@
 -- Positions as vectors of lanes, the nets of a block as records of the other blocks on them, and what is kept so (our own).
-use Rattle.std.specs.Prelude.{ℕ, ◌≡◌, ◌+◌, ◌*◌, ◌^◌, Option, ◌-◌, ◌<◌, ◌≤◌, ◌==◌, ◌&&◌, ◌||◌, not, nat_lt, nat_le, min, if◌then◌else◌, Bool, true, List, [], ◌∷◌, ◌++◌, map, take, filter, length, slice_index, slice_index_or, slice_set, Some, None}
+use Rattle.std.specs.Prelude.{ℕ, ◌≡◌, ◌+◌, ◌*◌, ◌^◌, Option, ◌-◌, ◌<◌, ◌≤◌, ◌==◌, ◌&&◌, ◌||◌, not, nat_lt, nat_le, min, if◌then◌else◌, Bool, true, List, [], ◌∷◌, ◌++◌, map, take, filter, length, slice_index, slice_index_or, slice_set, Some, None, refl}
 use Rattle.std.specs.List.{sum_by, range_with_len}
 use lib.Lanes.{zip2, fold_l, sum_l}
 use Rattle.fab_arch.specs.declared.array.Site.{Site}
@@ -13,7 +13,7 @@ use Rattle.fab_cost.specs.declared.runs.Runs.{Runs}
 use Rattle.fab_cost.specs.declared.edge_counts.CountedBox.{CountedBox}
 use Rattle.fab_cost.specs.Cost.{cross_of, net_cost}
 use Rattle.fab_cost.specs.Boxes.{Counts}
-use Rattle.fab_cost.specs.Edges.{edges_of}
+use Rattle.fab_cost.specs.Edges.{edges_of, times}
 use Rattle.fab_cost.specs.Swapping.{Position, position_at, counted_blocks, counted_at, blocks_of}
 
 abbrev pub four : ℕ → ℕ → ℕ → ℕ → List ℕ
@@ -38,23 +38,23 @@ abbrev pub reach_lanes : GridShape → Swap → List ℕ
 reach_lanes g s = least_of (lanes_at g s.from) (lanes_at g s.to)
 
 -- where no block is
-abbrev pub nowhere4 : List ℕ
-nowhere4 = four 65535 65535 65535 65535
+abbrev pub no_lanes : List ℕ
+no_lanes = four 65535 65535 65535 65535
 
 -- the vectors of some sites by number, and past the last the one of no block
 abbrev pub lanes_in : GridShape → List Site → ℕ → List ℕ
-lanes_in g sites k = slice_index_or (map (lanes_at g) sites) k nowhere4
+lanes_in g sites k = slice_index_or (map (lanes_at g) sites) k no_lanes
 
 -- the table of a placement
 abbrev pub table_of : GridShape → List Site → List (List ℕ)
-table_of g sites = map (lanes_at g) sites ++ nowhere4 ∷ []
+table_of g sites = map (lanes_at g) sites ++ no_lanes ∷ []
 
 -- the positions by which a table is made: its last vector is that of no block
 abbrev pub positions_in : List (List ℕ) → List Position
 positions_in table = map (λ v. record { x = slice_index v 0; y = slice_index v 2 }) (take (length table - 1) table)
 
 abbrev pub table_from : List Position → List (List ℕ)
-table_from positions = map lanes_for positions ++ nowhere4 ∷ []
+table_from positions = map lanes_for positions ++ no_lanes ∷ []
 
 -- the positions with those of a swap's blocks after it
 abbrev pub positions_with : GridShape → List Position → Option BlockId → Site → List Position
@@ -66,11 +66,11 @@ positions_after g positions s = positions_with g (slice_set positions s.block.0 
 
 -- the vector of a block, where one block is seen at another place
 abbrev pub seen_in : List (List ℕ) → ℕ → List ℕ → ℕ → List ℕ
-seen_in table moved to k = if k == moved then to else slice_index_or table k nowhere4
+seen_in table moved to k = if k == moved then to else slice_index_or table k no_lanes
 
 -- the least of the vectors of some blocks
 abbrev pub least_among : (ℕ → List ℕ) → List ℕ → List ℕ
-least_among f ks = fold_l (λ v k. least_of v (f k)) nowhere4 ks
+least_among f ks = fold_l (λ v k. least_of v (f k)) no_lanes ks
 
 -- net n of block b as the other blocks on it, and its cross count; a number past the last block says nothing
 pub record IsRecord (d : Netlist) (b n : ℕ) (others : List ℕ) (q : ℕ) : Type 0 where
@@ -92,7 +92,7 @@ is_large d n = nat_lt 16 (length (blocks_of d n))
 
 -- what a record of a net brings to a sum, where its block stands at a vector and the others are seen so
 abbrev pub weight : {W : ℕ} → (ℕ → List ℕ) → List ℕ → Record W → ℕ
-weight f v r = r.q * sum_l (least_of (least_among f r.others) v)
+weight f v r = r.factor * sum_l (least_of (least_among f r.others) v)
 
 abbrev pub AreWithin : {W : ℕ} → ℕ → Record W → Type 0
 AreWithin k r = (i : ℕ) → i < length r.others → slice_index r.others i < k
@@ -100,7 +100,7 @@ AreWithin k r = (i : ℕ) → i < length r.others → slice_index r.others i < k
 -- these nets of a block, one record each
 pub record AreRecords {W : ℕ} (d : Netlist) (b : ℕ) (ns : List ℕ) (rs : List (Record W)) : Type 0 where
   pub long : length rs ≡ length ns
-  pub each : (i : ℕ) (z : Record W) → i < length ns → IsRecord d b (slice_index ns i) (slice_index_or rs i z).others (slice_index_or rs i z).q
+  pub each : (i : ℕ) (z : Record W) → i < length ns → IsRecord d b (slice_index ns i) (slice_index_or rs i z).others (slice_index_or rs i z).factor
 
 -- the places, among the nets of a block, of those with many terminals
 pub record AreLarge (d : Netlist) (b : ℕ) (is : List ℕ) : Type 0 where
@@ -147,7 +147,6 @@ pub record ArePacked {W : ℕ} (d : Netlist) (above most k j : ℕ) (entries : L
   pub within : (i : ℕ) (z : ℕ × Record W) → i < length entries → (slice_index_or entries i z).0 < length d.kinds
   pub few : length entries ≤ k * 65535 + j
 
-
 -- the places of the nets with many terminals among those of the blocks below one, and the first of that block
 pub record AreLarger (d : Netlist) (k j : ℕ) (entries : List (ℕ × ℕ)) : Type 0 where
   pub rows : (c : ℕ) → map (λ i. slice_index (nets_of d c) i) (row_of entries c) ≡ filter (is_large d) (nets_to d k j c)
@@ -190,3 +189,12 @@ pub record IsKept (table : List (List ℕ)) (r : Runs) (kept : List CountedBox) 
   pub long : length kept ≡ length r.terminals
   pub within : (n i : ℕ) → i < length (slice_index_or r.terminals n []) → slice_index (slice_index_or r.terminals n []) i < length (positions_in table)
   pub runs : (d : Netlist) → r.terminals ≡ counted_blocks d → length (positions_in table) ≡ length d.kinds → HasRecords r d
+
+-- the box of blocks in columns 1 and 3 of row 2 has 2004 less these lanes as its half perimeter: three columns and one row
+pub lanes_of_two_blocks : sum_l (least_of (lanes_for (record { x = 1; y = 2 })) (lanes_for (record { x = 3; y = 2 }))) + 4 ≡ 2004
+lanes_of_two_blocks = refl
+
+-- the box of two terminals of block 0 and one of block 1
+pub box_by_positions : counted_over (record { x = 1; y = 2 } ∷ record { x = 3; y = 2 } ∷ []) (0 ∷ 0 ∷ 1 ∷ []) ≡ record { x = record { least = record { at = 1; count = 2 }; greatest = record { at = 3; count = 1 } }; y = record { least = record { at = 2; count = 3 }; greatest = record { at = 2; count = 3 } } }
+unfolding counted_over edges_of times
+box_by_positions = refl

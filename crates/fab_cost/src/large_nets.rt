@@ -19,8 +19,8 @@ use crate::block_nets::{Shares, is_left_out, net_of, own_pins, partner_pins, sha
 use crate::counting::{counted_box, swapped_box};
 use crate::edge_boxes::{NO_TALLY, Tally, plus};
 use crate::edge_counts::{CountedBox, NOTHING};
-use crate::runs::{Runs, WIDE};
 use crate::lanes::{edge_lanes_of, reach_of, surrounds};
+use crate::runs::{Runs, WIDE};
 use crate::swap_change::change_of_many;
 use fab_arch::Grid;
 use fab_net::{BlockId, Design, NetId};
@@ -236,7 +236,16 @@ fn change_of_kept(
     if surrounds(large.edges_of(net), reach) {
         NO_TALLY
     } else {
-        change_of_many(large.kept(net), design, grid, placement, swap, block, but, i)
+        change_of_many(
+            large.kept(net),
+            design,
+            grid,
+            placement,
+            swap,
+            block,
+            but,
+            i,
+        )
     }
 }
 
@@ -414,9 +423,7 @@ pub(crate) fn renew_large(
     let _nx = grid.nx();
     let _ny = grid.ny();
     let _nets = design.nets();
-    let first = renew_larges(
-        large, runs, design, grid, placement, swap, swap.block, None,
-    );
+    let first = renew_larges(large, runs, design, grid, placement, swap, swap.block, None);
     match swap.other {
         None => first,
         Some(other) => {
@@ -440,12 +447,7 @@ fn take_nets(large: &mut LargeBoxes, from: &LargeBoxes, nets: &[NetId])
 }
 
 /// Copies the boxes of the nets of a swap's blocks from another list.
-pub(crate) fn take_boxes(
-    large: &mut LargeBoxes,
-    from: &LargeBoxes,
-    design: &Design,
-    swap: &Swap,
-)
+pub(crate) fn take_boxes(large: &mut LargeBoxes, from: &LargeBoxes, design: &Design, swap: &Swap)
     requires block { swap.now.block.0 < length design.now.kinds }
     requires other { (b : Block) → swap.now.other ≡ Some b → b.0 < length design.now.kinds }
     requires long { length large.old.boxes.items ≡ length design.now.terminals }

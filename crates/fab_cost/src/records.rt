@@ -14,12 +14,12 @@ use std::simd::prelude::*;
 #[derive(Clone, Copy)]
 pub struct Record<const W: usize> {
     pub others: [u16; W],
-    pub q: u16,
+    pub factor: u16,
 }
 
 #[inline(always)]
-/// The vector of a block, where one block is seen at another place. Two addresses are chosen from, and no branch is
-/// guessed.
+/// The lanes of a block, where one block is seen at another place. This chooses between two addresses, so that no branch is
+/// mispredicted.
 fn seen<'a>(table: &'a [u16x4], moved: u16, to: &'a u16x4, other: u16) -> &'a u16x4
     requires { other < length table.now }
     ensures { result.now ≡ seen_in table.now moved to.now other }
@@ -33,7 +33,7 @@ fn seen<'a>(table: &'a [u16x4], moved: u16, to: &'a u16x4, other: u16) -> &'a u1
 
 #[tactic(auto, using(crate::proofs::Mins::least_more, crate::proofs::Mins::least_all))]
 #[inline(always)]
-/// The least vector of the other blocks of a net.
+/// The lane-wise least of the other blocks of a net.
 fn around<const W: usize>(table: &[u16x4], moved: u16, to: &u16x4, net: &Record<W>) -> u16x4
     requires { AreWithin (length table.now) net.now }
     ensures { result ≡ least_among (seen_in table.now moved to.now) net.now.others }
@@ -48,15 +48,14 @@ fn around<const W: usize>(table: &[u16x4], moved: u16, to: &u16x4, net: &Record<
 
 #[tactic(auto, using(crate::proofs::Mins::total_le))]
 #[inline(always)]
-/// A cross count times the lanes of a net's least vector, where its block is at a place.
-fn weighed(q: u16, all: u16x4, at: u16x4) -> u64
+/// A cross count times the sum of a net's least lanes, where its block is at a place.
+fn weighed(factor: u16, all: u16x4, at: u16x4) -> u64
     requires { sum_l at ≤ 2002 }
-    ensures value { result ≡ q * sum_l (least_of all at) }
+    ensures value { result ≡ factor * sum_l (least_of all at) }
     ensures few { result < 2 ^ 27 }
 {
-    u64::from(q) * u64::from(total(joined(all, at)))
+    u64::from(factor) * u64::from(total(joined(all, at)))
 }
-
 
 #[tactic(auto, using(crate::proofs::Mins::weight_more, crate::proofs::Mins::weight_all))]
 #[inline(always)]
@@ -83,8 +82,8 @@ pub(crate) fn change_of_run<const W: usize>(
     'run: for i in 0..records.len() {
         let net = &records[i];
         let all = around(table, moved, to, net);
-        gained += weighed(net.q, all, base);
-        lost += weighed(net.q, all, target);
+        gained += weighed(net.factor, all, base);
+        lost += weighed(net.factor, all, target);
     }
     Tally { gained, lost }
 }

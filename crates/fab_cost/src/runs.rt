@@ -40,12 +40,13 @@ impl Drop for Runs {
 }
 
 const SMALL: usize = 4;
+
 const MIDDLE: usize = 8;
 /// Nets of up to this many terminals are looked at by the positions of their blocks; of larger ones the box is kept.
 pub(crate) const WIDE: usize = 16;
 
 #[tactic(auto, using(crate::proofs::Packs::filled_none, crate::proofs::Packs::filled_own, crate::proofs::Packs::filled_other, crate::proofs::Packs::place_within, crate::proofs::Packs::filled_all, crate::proofs::Packs::small_cross))]
-/// A net of a block as a record, from its terminals.
+/// The record of a net of a block; `none` is the number past the last block.
 fn record_of<const W: usize>(none: u16, block: BlockId, terminals: &[Terminal]) -> Record<W>
     requires some { 0 < length terminals.now }
     requires few { length terminals.now ≤ W + 1 }
@@ -54,9 +55,10 @@ fn record_of<const W: usize>(none: u16, block: BlockId, terminals: &[Terminal]) 
     requires blocks { All (λ t. t.block.0 < none) terminals.now }
     ensures each { (k : ℕ) → k < none → has_number k result.others ≡ (has_number k (map block_on terminals.now) && not (k == block.0)) }
     ensures within { (j : ℕ) → j < length result.others → slice_index result.others j ≤ none }
-    ensures factor { result.q ≡ cross_of (length terminals.now) }
+    ensures factor { result.factor ≡ cross_of (length terminals.now) }
 {
     let mut others = [none; W];
+    // One place less than terminals is enough, since the block itself is left out.
     let mut skip: usize = 0;
     'terminals: for i in 0..terminals.len() {
         let other = terminals[i].block.0;
@@ -66,8 +68,8 @@ fn record_of<const W: usize>(none: u16, block: BlockId, terminals: &[Terminal]) 
             others[i - skip] = other as u16;
         }
     }
-    let q = cross(terminals.len() as u32) as u16;
-    Record { others, q }
+    let factor = cross(terminals.len() as u32) as u16;
+    Record { others, factor }
 }
 
 #[tactic(auto, using(crate::proofs::Packs::packed_pushed, crate::proofs::Packs::packed_passed, crate::proofs::Packs::record_is, crate::proofs::Packs::sized_by, crate::proofs::Packs::unsized_by))]
@@ -142,7 +144,7 @@ fn records_between<const W: usize>(
     }
     let blank = Record {
         others: [0; W],
-        q: 0,
+        factor: 0,
     };
     gather(alloc, blocks, &entries, blank)
 }
@@ -201,14 +203,9 @@ fn large_nets(alloc: Global, design: &Design) -> Result<Rows<u32>, AllocError>
     gather(alloc, blocks, &entries, 0)
 }
 
-
 #[tactic(auto, using(crate::proofs::Listings::listing_none, crate::proofs::Listings::listing_more))]
 /// Adds the blocks of a net's terminals.
-fn push_blocks(
-    entries: &mut Vec<(u32, u16)>,
-    design: &Design,
-    net: NetId,
-) -> Result<(), AllocError>
+fn push_blocks(entries: &mut Vec<(u32, u16)>, design: &Design, net: NetId) -> Result<(), AllocError>
     requires net { Counts design.now net.0 }
     requires listed { AreListed design.now net.0 entries.old.items }
     ensures { OnOk result (AreListed design.now (net.0 + 1) entries.new.items) }

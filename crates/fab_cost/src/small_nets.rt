@@ -100,8 +100,9 @@ pub(crate) fn change_of_small(
     match swap.other {
         None => first,
         Some(other) => {
-            let second =
-                change_of_block(lanes, runs, design, grid, swap, other, swap.to, swap.from);
+            let second = change_of_block(
+                lanes, runs, design, grid, swap, other, swap.to, swap.from,
+            );
             plus(first, second)
         }
     }

@@ -6,7 +6,6 @@ use Rattle.fab_cost.proofs.Large.{lawful_large}
 use Rattle.fab_cost.proofs.Sited.{other_below}
 use Rattle.fab_cost.proofs.large_nets.change_of_large.Goals as goal
 
-
 pub change_of_larges-second-requires-clause-block : goal.change_of_larges-second-requires-clause-block
 change_of_larges-second-requires-clause-block c = other_below c.args.grid.now c.args.placement.now.sites c.args.swap.now c.in-Some.other _ c.requires.lawful c.in-Some.is c.requires.whole
 

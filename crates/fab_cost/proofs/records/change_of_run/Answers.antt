@@ -8,8 +8,8 @@ pub run-preserved : goal.run-preserved
 run-preserved g c =
     let f = seen_in c.args.table.now c.args.moved c.args.to.now in
     let r = c.index-records-i.result in
-    let eg : c.weighed-gained.result ≡ weight {W = g.row.W} f c.args.base r = c.weighed-gained.ensures.value ∙ ap (λ v. r.q * sum_l (least_of v c.args.base)) c.around-all.ensures in
-    let el : c.weighed-lost.result ≡ weight {W = g.row.W} f c.args.target r = c.weighed-lost.ensures.value ∙ ap (λ v. r.q * sum_l (least_of v c.args.target)) c.around-all.ensures in
+    let eg : c.weighed-gained.result ≡ weight {W = g.row.W} f c.args.base r = c.weighed-gained.ensures.value ∙ ap (λ v. r.factor * sum_l (least_of v c.args.base)) c.around-all.ensures in
+    let el : c.weighed-lost.result ≡ weight {W = g.row.W} f c.args.target r = c.weighed-lost.ensures.value ∙ ap (λ v. r.factor * sum_l (least_of v c.args.target)) c.around-all.ensures in
     let k = c.weighed-gained.ensures.few in
     let l = c.weighed-lost.ensures.few in
     let m = c.run.invariant.gained_few in

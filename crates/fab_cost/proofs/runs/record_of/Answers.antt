@@ -13,9 +13,9 @@ terminals-init g c = record {
 pub terminals-preserved : goal.terminals-preserved
 terminals-preserved g c = elim c.if-other-block.branch [
   | then-other-block w ↦ rw (w.others-is, w.skip-is) (record {
-      filled = filled_own c.args.none c.args.block.0 c.args.terminals.now _ c.terminals.i c.terminals.skip 1 _ c.terminals.others c.terminals-test.true refl w.if-other-block.true refl c.terminals.invariant.filled;
-      width = c.terminals.invariant.width;
-    })
+    filled = filled_own c.args.none c.args.block.0 c.args.terminals.now _ c.terminals.i c.terminals.skip 1 _ c.terminals.others c.terminals-test.true refl w.if-other-block.true refl c.terminals.invariant.filled;
+    width = c.terminals.invariant.width;
+  })
   | else-other-block w ↦
       let width = c.terminals.invariant.width in
       let p = place_within c.args.none c.args.block.0 g.row.W c.args.terminals.now _ c.terminals.i c.terminals.skip _ c.terminals.others c.terminals-test.true c.requires.few c.requires.on refl w.if-other-block.false c.terminals.invariant.filled in
