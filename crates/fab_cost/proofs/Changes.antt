@@ -8,20 +8,18 @@ use Rattle.std.proofs.lemmas.List.Sums.{sum_by_more, sum_by_more_le}
 use Rattle.fab_arch.specs.declared.array.Site.{Site}
 use Rattle.fab_arch.specs.Grid.{GridShape}
 use Rattle.fab_net.specs.declared.pieces.BlockId.{BlockId}
-use Rattle.fab_net.specs.declared.pieces.Terminal.{Terminal}
-use Rattle.fab_net.specs.Netlist.{Netlist, block_on, nets_of, IsLawful}
+use Rattle.fab_net.specs.Netlist.{Netlist, nets_of, IsLawful}
 use Rattle.fab_site.specs.declared.pieces.Swap.{Swap}
 use Rattle.fab_site.specs.Placement.{site_of, swapped, IsSwapOf}
 use Rattle.fab_site.proofs.Swapping.{ready}
-use Rattle.fab_cost.specs.declared.swap_change.Reach.{Reach}
 use Rattle.fab_cost.specs.declared.edge_counts.Edge.{Edge}
 use Rattle.fab_cost.specs.declared.edge_counts.Edges.{Edges}
 use Rattle.fab_cost.specs.declared.edge_counts.CountedBox.{CountedBox}
 use Rattle.fab_cost.specs.Boxes.{Counts}
-use Rattle.fab_cost.specs.Changes.{reach_between, Surrounds, IsLeastEnd, IsGreatestEnd, AreEndsAfter, IsPlainAfter, IsPlainSwapped, IsChange}
+use Rattle.fab_cost.specs.Changes.{Surrounds, IsLeastEnd, IsGreatestEnd, AreEndsAfter, IsPlainAfter, IsPlainSwapped, IsChange}
 use Rattle.fab_cost.specs.Cost.{Box, clip, least, greatest, xs_of, ys_of, box_on, net_box, net_cost, cost_of, cross_of, half_perimeter}
 use Rattle.fab_cost.specs.Edges.{times, edges_of, counted_on, counted_box, plain, Moved, AreEdgesAfter}
-use Rattle.fab_cost.specs.Swapping.{blocks_of, has_block, cost_unless, counted_at, times_other, IsBoxAfter, IsBoxSwapped, HaveBoxes}
+use Rattle.fab_cost.specs.Swapping.{blocks_of, has_block, cost_unless, times_other, IsBoxAfter, IsBoxSwapped}
 use Rattle.fab_cost.proofs.BoxMoves.{coordinates, sites_on as moved_on, sites_back as moved_back, length_xs, length_ys, swapped_still}
 use Rattle.fab_cost.proofs.Moves.{least_is, greatest_is, least_only, greatest_only, some_entry, least_given, greatest_given, least_kept, greatest_kept, edges_after, edges_same}
 use Rattle.fab_cost.proofs.Nets.{plain_is, sum_below}
@@ -174,8 +172,8 @@ edges_within e from to count a b c h = elim (cases_eq from to) [
 within : (e : Edges) (low high from to : ℕ) → low ≡ min from to → high ≡ max from to → e.least.at < low → high < e.greatest.at → ((e.least.at < from) × (e.least.at < to)) × ((from < e.greatest.at) × (to < e.greatest.at))
 within e low high from to el eh a b = ((omega arith, omega arith), (omega arith, omega arith))
 
-box_within : (g : GridShape) (b : CountedBox) (s : Swap) → Surrounds b (reach_between g s) → (count : ℕ) → IsBoxAfter g b s.from s.to count b × IsBoxAfter g b s.to s.from count b
-unfolding IsBoxAfter reach_between counted_on AreEdgesAfter
+box_within : (g : GridShape) (b : CountedBox) (s : Swap) → Surrounds g b s → (count : ℕ) → IsBoxAfter g b s.from s.to count b × IsBoxAfter g b s.to s.from count b
+unfolding IsBoxAfter counted_on AreEdgesAfter
 box_within g b s r count =
     let fx = clip g.nx s.from.x in
     let tx = clip g.nx s.to.x in
@@ -193,7 +191,7 @@ box_within g b s r count =
           λ i. record { x = ex i; y = ey i },
     )
 
-sites_within : (g k : GridShape) (b : CountedBox) (s : Swap) (sites : List Site) → IsSwapOf k sites s → Surrounds b (reach_between g s) → (bs : List ℕ) → b ≡ counted_on g (map (site_of sites) bs) → b ≡ counted_on g (map (site_of (swapped sites s)) bs)
+sites_within : (g k : GridShape) (b : CountedBox) (s : Swap) (sites : List Site) → IsSwapOf k sites s → Surrounds g b s → (bs : List ℕ) → b ≡ counted_on g (map (site_of sites) bs) → b ≡ counted_on g (map (site_of (swapped sites s)) bs)
 unfolding IsBoxAfter
 sites_within g k b s sites is r [] e = e
 sites_within g k b s sites is r (c ∷ cs) e =
@@ -220,10 +218,10 @@ unless_same d g before after but n e =
     let k : cond (has_block but (blocks_of d n)) 0 (net_cost d g after n) ≡ cond (has_block but (blocks_of d n)) 0 (net_cost d g before n) = ap (λ v. cond (has_block but (blocks_of d n)) 0 v) e in
     record { balance = omega (arith, k); gained_within = omega arith; lost_within = omega arith }
 
-pub passed : (d : Netlist) (g k : GridShape) (sites : List Site) (s : Swap) (but : Option BlockId) (n : ℕ) (b : CountedBox) (r : Reach) → IsSwapOf k sites s → r ≡ reach_between g s → Surrounds b r → b ≡ counted_box d g sites n → IsChange (cost_unless d g sites but n) (cost_unless d g (swapped sites s) but n) 0 0
+pub passed : (d : Netlist) (g k : GridShape) (sites : List Site) (s : Swap) (but : Option BlockId) (n : ℕ) (b : CountedBox) → IsSwapOf k sites s → Surrounds g b s → b ≡ counted_box d g sites n → IsChange (cost_unless d g sites but n) (cost_unless d g (swapped sites s) but n) 0 0
 unfolding counted_box
-passed d g k sites s but n b r is er around e =
-    unless_same d g sites (swapped sites s) but n (same_cost d g sites (swapped sites s) n b e (sites_within g k b s sites is (subst (λ v. Surrounds b v) er around) (blocks_of d n) e))
+passed d g k sites s but n b is around e =
+    unless_same d g sites (swapped sites s) but n (same_cost d g sites (swapped sites s) n b e (sites_within g k b s sites is around (blocks_of d n) e))
 
 pub still : (d : Netlist) (g k : GridShape) (sites : List Site) (s : Swap) (but : Option BlockId) (n mine others : ℕ) → IsSwapOf k sites s → mine ≡ times s.block.0 (blocks_of d n) → others ≡ times_other s.other (blocks_of d n) → mine ≡ others → IsLawful d → Counts d n → IsChange (cost_unless d g sites but n) (cost_unless d g (swapped sites s) but n) 0 0
 unfolding counted_box IsBoxSwapped
@@ -247,17 +245,11 @@ changed d g before after but n r gained lost e f eg el =
     record { balance = omega (arith, p, q, eg, el); gained_within = omega (arith, q, eg); lost_within = omega (arith, p, el) }
 
 -- a net of one terminal covers one column and one row wherever it is
-half_of_one : (g : GridShape) (f h : ℕ → Site) (bs : List ℕ) → length bs ≤ 1 → half_perimeter (box_on g (map f bs)) ≡ half_perimeter (box_on g (map h bs))
+pub half_of_one : (g : GridShape) (f h : ℕ → Site) (bs : List ℕ) → length bs ≤ 1 → half_perimeter (box_on g (map f bs)) ≡ half_perimeter (box_on g (map h bs))
 unfolding half_perimeter box_on
 half_of_one g f h [] few = refl
 half_of_one g f h (b ∷ []) few = omega arith
 half_of_one g f h (b ∷ c ∷ bs) few = absurd (omega arith)
-
-pub alone : (d : Netlist) (g : GridShape) (before after : List Site) (but : Option BlockId) (n : ℕ) (ts : List Terminal) → ts ≡ get_or d.terminals n [] → length ts ≤ 1 → IsChange (cost_unless d g before but n) (cost_unless d g after but n) 0 0
-unfolding net_cost net_box
-alone d g before after but n ts e few =
-    let l : length (blocks_of d n) ≤ 1 = omega (arith, ap length e, length-map (get_or d.terminals n []) block_on) in
-    unless_same d g before after but n (ap (λ v. cross_of (length (blocks_of d n)) * v) (half_of_one g (site_of after) (site_of before) (blocks_of d n) l))
 
 -- sums of changes
 
@@ -325,6 +317,3 @@ whole_some d g sites s c gained lost more less o one two =
     let k = one.balance in
     let l = two.balance in
     omega (arith, k, l, balance_some d g sites s c (sum_on d g (swapped sites s) s.block.0 None) (sum_on d g sites s.block.0 None) (sum_on d g (swapped sites s) c.0 (Some s.block)) (sum_on d g sites c.0 (Some s.block)) o refl refl refl refl)
-
-pub old_is : (boxes : List CountedBox) (d : Netlist) (g : GridShape) (sites : List Site) (n : ℕ) (b : CountedBox) → HaveBoxes boxes d g sites → Counts d n → b ≡ counted_at boxes n → b ≡ counted_box d g sites n
-old_is boxes d g sites n b have c e = e ∙ have.each n c

@@ -16,7 +16,7 @@ use Rattle.fab_cost.specs.Swapping.{change, blocks_of, has_block, cost_unless}
 use Rattle.fab_cost.proofs.Numbers.{has_first, has_later}
 use Rattle.fab_cost.proofs.Sited.{rest_kept}
 
-sum_filter : (p : ℕ → Bool) (f : ℕ → ℕ) (n : ℕ) (ns : List ℕ) → sum_by f (filter p (n ∷ ns)) ≡ cond (p n) (f n) 0 + sum_by f (filter p ns)
+pub sum_filter : (p : ℕ → Bool) (f : ℕ → ℕ) (n : ℕ) (ns : List ℕ) → sum_by f (filter p (n ∷ ns)) ≡ cond (p n) (f n) 0 + sum_by f (filter p ns)
 sum_filter p f n ns =
     let k : ℕ → ℕ = λ m. cond (p n) m 0 in
     let s = sum_by-cons f n (filter p ns) in
@@ -26,7 +26,7 @@ nothing : (b : Bool) (x : ℕ) → x ≡ 0 → cond b x 0 ≡ 0
 nothing true x h = h
 nothing false x h = refl
 
-split_one : (p : ℕ → Bool) (f g : ℕ → ℕ) → ((n : ℕ) → p n ≡ false → f n ≡ g n) → (ns : List ℕ) → sum_by f ns + sum_by g (filter p ns) ≡ sum_by g ns + sum_by f (filter p ns)
+pub split_one : (p : ℕ → Bool) (f g : ℕ → ℕ) → ((n : ℕ) → p n ≡ false → f n ≡ g n) → (ns : List ℕ) → sum_by f ns + sum_by g (filter p ns) ≡ sum_by g ns + sum_by f (filter p ns)
 split_one p f g same [] = refl
 split_one p f g same (n ∷ ns) =
     let rest = split_one p f g same ns in
@@ -118,7 +118,7 @@ pub plain_kept : (d : Netlist) (g : GridShape) (sites : List Site) (s : Swap) (n
 unfolding net_box
 plain_kept d g sites s n f h = ap (box_on g) (same_sites d sites s n f h)
 
-cost_kept : (d : Netlist) (g : GridShape) (sites : List Site) (s : Swap) (n : ℕ) → has_number s.block.0 (blocks_of d n) ≡ false → has_block s.other (blocks_of d n) ≡ false → net_cost d g (swapped sites s) n ≡ net_cost d g sites n
+pub cost_kept : (d : Netlist) (g : GridShape) (sites : List Site) (s : Swap) (n : ℕ) → has_number s.block.0 (blocks_of d n) ≡ false → has_block s.other (blocks_of d n) ≡ false → net_cost d g (swapped sites s) n ≡ net_cost d g sites n
 unfolding net_cost net_box
 cost_kept d g sites s n f h = ap (λ v. cross_of (length (blocks_of d n)) * half_perimeter (box_on g v)) (same_sites d sites s n f h)
 

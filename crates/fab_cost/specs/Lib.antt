@@ -3,3 +3,4 @@ pub mod Boxes
 pub mod Edges
 pub mod Swapping
 pub mod Changes
+pub mod Runs

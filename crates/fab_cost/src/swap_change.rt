@@ -1,7 +1,7 @@
-//! How a swap changes the cost, without renewing a box. Most judged moves are rejected, so this is what an annealer
-//! waits for. A net of few terminals is scanned terminal by terminal; most other nets are settled by one look at their box.
+//! How a swap changes the cost of a net whose box is kept, without renewing the box. Most judged moves are rejected, so this is
+//! what an annealer waits for. Most of these nets are settled by one look at their box.
 
-ghost use Rattle.std.specs.Prelude.{◌≡◌, ◌≢◌, ℕ, ◌<◌, ◌+◌, ◌^◌, List, [], Some, IsTrue, MatchOption, length, map, slice_index, slice_index_or};
+ghost use Rattle.std.specs.Prelude.{◌≡◌, ◌≢◌, ℕ, ◌<◌, ◌+◌, ◌^◌, List, [], Some, MatchOption, length, map, slice_index, slice_index_or};
 ghost use Rattle.std.specs.List.{sum_by};
 ghost use Rattle.fab_arch.specs.declared.array.Site.{Site as ArraySite};
 ghost use Rattle.fab_arch.specs.Grid.{GridShape};
@@ -10,59 +10,19 @@ ghost use Rattle.fab_net.specs.BlockNets.{net_id};
 ghost use Rattle.fab_net.specs.Netlist.{nets_of, has_number};
 ghost use Rattle.fab_site.specs.Placement.{swapped, IsSwapOf};
 ghost use Rattle.fab_cost.specs.Boxes.{Counts, box_of};
-ghost use Rattle.fab_cost.specs.Changes.{IsChange, IsPlainAfter, IsPlainSwapped, Surrounds, reach_between};
+ghost use Rattle.fab_cost.specs.Changes.{IsChange, IsPlainAfter, IsPlainSwapped};
 ghost use Rattle.fab_cost.specs.Cost.{cost_of, net_box, net_cost};
 ghost use Rattle.fab_cost.specs.Edges.{times, counted_box as box_counted};
 ghost use Rattle.fab_cost.specs.Swapping.{HaveBoxes, IsPart, blocks_of, cost_unless, has_block, times_other};
 
 use crate::block_nets::{Shares, is_left_out, net_of, own_pins, partner_pins, shares_with};
-use crate::edge_boxes::{NO_TALLY, Tally, kept_box, plus};
+use crate::edge_boxes::{NO_TALLY, Tally};
 use crate::edge_counts::{CountedBox, ends_after};
 use crate::net_box::{NetBox, clipped};
 use crate::whole_boxes::box_after;
 use fab_arch::{Grid, Site};
 use fab_net::{BlockId, Design, NetId, Terminal};
 use fab_site::{Placement, Swap};
-
-/// Nets of up to this many terminals are scanned terminal by terminal; for larger ones the edges of the box are used.
-const FEW: usize = 6;
-
-/// The clipped columns and rows from one site of a swap to the other.
-#[derive(Clone, Copy)]
-pub(crate) struct Reach {
-    x_low: u16,
-    x_high: u16,
-    y_low: u16,
-    y_high: u16,
-}
-
-#[tactic(auto, unfolding(crate::specs::Changes::reach_between))]
-#[inline]
-/// The clipped columns and rows from one site of the swap to the other.
-fn reach_of(grid: &Grid, swap: &Swap) -> Reach
-    ensures { result ≡ reach_between grid.now swap.now }
-{
-    let from_x = clipped(grid.nx(), swap.from.x);
-    let to_x = clipped(grid.nx(), swap.to.x);
-    let from_y = clipped(grid.ny(), swap.from.y);
-    let to_y = clipped(grid.ny(), swap.to.y);
-    Reach {
-        x_low: from_x.min(to_x),
-        x_high: from_x.max(to_x),
-        y_low: from_y.min(to_y),
-        y_high: from_y.max(to_y),
-    }
-}
-
-#[inline(always)]
-/// Whether both sites are strictly inside the box.
-fn surrounds(old: CountedBox, reach: Reach) -> bool
-    ensures { IsTrue result → Surrounds old reach }
-{
-    let x = old.x.least.at < reach.x_low && reach.x_high < old.x.greatest.at;
-    let y = old.y.least.at < reach.y_low && reach.y_high < old.y.greatest.at;
-    x && y
-}
 
 #[tactic(auto, using(crate::proofs::Changes::plain_after))]
 #[inline]
@@ -157,53 +117,9 @@ fn tally_of_boxes(
     }
 }
 
-#[tactic(auto, using(crate::proofs::Seen::left_out_none, crate::proofs::Seen::left_out_some))]
-#[inline(always)]
-/// Whether a net is left out because it is also a net of the block `but`; `on` says whether it is a net of the swap's first block.
-fn is_left_out_on(swap: &Swap, but: Option<BlockId>, on: bool) -> bool
-    requires first { (b : Block) → but ≡ Some b → b ≡ swap.now.block }
-    ensures { (bs : List ℕ) → on ≡ has_number swap.now.block.0 bs → result ≡ has_block but bs }
-{
-    match but {
-        None => false,
-        Some(_) => on,
-    }
-}
-
-#[tactic(auto, using(crate::proofs::Changes::left_out, crate::proofs::Changes::changed, crate::proofs::Making::net_box_from, crate::proofs::Making::net_cost_from, crate::proofs::Making::terminals_some, crate::proofs::Making::terminals_within, crate::proofs::Bounds::terminals_few, crate::proofs::Seen::seen_on))]
-/// How the swap changes the cost of a net of few terminals, which are all read; nothing if it is also a net of
-/// the block `but`.
-fn change_of_few(
-    design: &Design,
-    grid: &Grid,
-    placement: &Placement,
-    swap: &Swap,
-    but: Option<BlockId>,
-    net: NetId,
-    terminals: &[Terminal],
-) -> Tally
-    requires net { Counts design.now net.0 }
-    requires terminals { terminals.now ≡ slice_index_or design.now.terminals net.0 [] }
-    requires first { (b : Block) → but ≡ Some b → b ≡ swap.now.block }
-    requires lawful { IsSwapOf grid.now placement.now.sites swap.now }
-    requires whole { length design.now.kinds ≡ length placement.now.sites }
-    ensures { IsChange (cost_unless design.now grid.now placement.now.sites but net.0) (cost_unless design.now grid.now (swapped placement.now.sites swap.now) but net.0) result.gained result.lost }
-{
-    let _nets = design.nets();
-    let (before, after, on) = NetBox::around_both(placement, swap, grid, terminals);
-    if is_left_out_on(swap, but, on) {
-        return NO_TALLY;
-    }
-    let count = terminals.len() as u32;
-    Tally {
-        gained: after.cost(count),
-        lost: before.cost(count),
-    }
-}
-
 #[tactic(auto, using(crate::proofs::Changes::left_out, crate::proofs::Changes::still, crate::proofs::Changes::changed))]
 /// How the swap changes the cost of net `i` of a block; nothing if it is also a net of the block `but`.
-fn change_of_many(
+pub(crate) fn change_of_many(
     old: CountedBox,
     design: &Design,
     grid: &Grid,
@@ -234,130 +150,4 @@ fn change_of_many(
     }
     let new = new_box(old, design, grid, placement, swap, net, shares);
     tally_of_boxes(design, net, design.terminals(net), old, new)
-}
-
-#[tactic(auto, using(crate::proofs::Nets::net_number, crate::proofs::Nets::net_counts, crate::proofs::Nets::net_within))]
-#[inline(always)]
-/// Net `i` of a block, where `nets` are all of the block's nets.
-fn net_among(design: &Design, block: BlockId, nets: &[NetId], i: usize) -> NetId
-    requires nets { nets.now ≡ map net_id (nets_of design.now block.0) }
-    requires within { i < length (nets_of design.now block.0) }
-    ensures number { result.0 ≡ slice_index (nets_of design.now block.0) i }
-    ensures counts { Counts design.now result.0 }
-{
-    nets[i]
-}
-
-#[tactic(auto, using(crate::proofs::Changes::passed, crate::proofs::Changes::alone, crate::proofs::Changes::old_is, crate::proofs::Seen::first_of_part))]
-#[inline(always)]
-/// How the swap changes the cost of net `i` of a block; nothing if it is also a net of the block `but`.
-fn change_of_net(
-    boxes: &Vec<CountedBox>,
-    design: &Design,
-    grid: &Grid,
-    placement: &Placement,
-    swap: &Swap,
-    reach: Reach,
-    block: BlockId,
-    but: Option<BlockId>,
-    nets: &[NetId],
-    i: usize,
-) -> Tally
-    requires nets { nets.now ≡ map net_id (nets_of design.now block.0) }
-    requires have { HaveBoxes boxes.now.items design.now grid.now placement.now.sites }
-    requires reach { reach ≡ reach_between grid.now swap.now }
-    requires part { IsPart swap.now block but }
-    requires block { block.0 < length design.now.kinds }
-    requires left_out { (b : Block) → but ≡ Some b → b.0 < length design.now.kinds }
-    requires within { i < length (nets_of design.now block.0) }
-    requires lawful { IsSwapOf grid.now placement.now.sites swap.now }
-    requires whole { length design.now.kinds ≡ length placement.now.sites }
-    ensures { IsChange (cost_unless design.now grid.now placement.now.sites but (slice_index (nets_of design.now block.0) i)) (cost_unless design.now grid.now (swapped placement.now.sites swap.now) but (slice_index (nets_of design.now block.0) i)) result.gained result.lost }
-{
-    let _nets = design.nets();
-    let net = net_among(design, block, nets, i);
-    let terminals = design.terminals(net);
-    if terminals.len() <= 1 {
-        NO_TALLY
-    } else if terminals.len() <= FEW {
-        change_of_few(design, grid, placement, swap, but, net, terminals)
-    } else {
-        let old = kept_box(boxes, net);
-        if surrounds(old, reach) {
-            NO_TALLY
-        } else {
-            change_of_many(old, design, grid, placement, swap, block, but, i)
-        }
-    }
-}
-
-#[tactic(auto, using(crate::proofs::Changes::none, crate::proofs::Changes::more, crate::proofs::Changes::all, crate::proofs::Seen::inside, crate::proofs::Seen::past, crate::proofs::Changes::gained_fits, crate::proofs::Changes::lost_fits))]
-/// How the swap changes the cost of the nets of a block, without those of the block `but`.
-fn change_of_nets(
-    boxes: &Vec<CountedBox>,
-    design: &Design,
-    grid: &Grid,
-    placement: &Placement,
-    swap: &Swap,
-    reach: Reach,
-    block: BlockId,
-    but: Option<BlockId>,
-) -> Tally
-    requires have { HaveBoxes boxes.now.items design.now grid.now placement.now.sites }
-    requires reach { reach ≡ reach_between grid.now swap.now }
-    requires part { IsPart swap.now block but }
-    requires block { block.0 < length design.now.kinds }
-    requires left_out { (b : Block) → but ≡ Some b → b.0 < length design.now.kinds }
-    requires lawful { IsSwapOf grid.now placement.now.sites swap.now }
-    requires whole { length design.now.kinds ≡ length placement.now.sites }
-    ensures { IsChange (sum_by (cost_unless design.now grid.now placement.now.sites but) (nets_of design.now block.0)) (sum_by (cost_unless design.now grid.now (swapped placement.now.sites swap.now) but) (nets_of design.now block.0)) result.gained result.lost }
-{
-    let _nx = grid.nx();
-    let _ny = grid.ny();
-    let _nets = design.nets();
-    let nets = design.nets_of(block);
-    let mut gained: u64 = 0;
-    let mut lost: u64 = 0;
-    'nets: for i in 0..nets.len() {
-        let one = change_of_net(
-            boxes, design, grid, placement, swap, reach, block, but, nets, i,
-        );
-        gained += one.gained;
-        lost += one.lost;
-    }
-    Tally { gained, lost }
-}
-
-#[tactic(auto, using(crate::proofs::Sited::block_below, crate::proofs::Sited::none_within, crate::proofs::Sited::some_within, crate::proofs::Changes::whole_none, crate::proofs::Changes::whole_some, crate::proofs::Changes::gained_low, crate::proofs::Changes::lost_low, crate::proofs::Nets::cost_low))]
-/// How the swap changes the cost of the nets of its blocks, each net once.
-pub(crate) fn whole_change(
-    boxes: &Vec<CountedBox>,
-    design: &Design,
-    grid: &Grid,
-    placement: &Placement,
-    swap: &Swap,
-) -> Tally
-    requires have { HaveBoxes boxes.now.items design.now grid.now placement.now.sites }
-    requires lawful { IsSwapOf grid.now placement.now.sites swap.now }
-    requires whole { length design.now.kinds ≡ length placement.now.sites }
-    ensures balance { cost_of design.now grid.now (swapped placement.now.sites swap.now) + result.lost ≡ cost_of design.now grid.now placement.now.sites + result.gained }
-    ensures gained { result.gained < 2 ^ 43 }
-    ensures lost { result.lost < 2 ^ 43 }
-    ensures below { (sites : List ArraySite) → cost_of design.now grid.now sites < 2 ^ 42 }
-{
-    let _nx = grid.nx();
-    let _ny = grid.ny();
-    let _nets = design.nets();
-    let reach = reach_of(grid, swap);
-    let first = change_of_nets(
-        boxes, design, grid, placement, swap, reach, swap.block, None,
-    );
-    match swap.other {
-        None => first,
-        Some(other) => {
-            let but = Some(swap.block);
-            let second = change_of_nets(boxes, design, grid, placement, swap, reach, other, but);
-            plus(first, second)
-        }
-    }
 }

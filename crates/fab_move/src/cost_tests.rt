@@ -390,7 +390,15 @@ fn drawn(state: u64, count: u16) -> u16
     ((state >> 33) % u64::from(count)) as u16
 }
 
-// Makes `wanted` swaps of randomly drawn blocks and sites. Returns whether both kinds of cost agree with the whole sums at each.
+// How many blocks and columns a test draws from, and how many swaps it makes.
+#[derive(Clone, Copy)]
+struct Draws {
+    blocks: u16,
+    columns: u16,
+    wanted: u32,
+}
+
+// Makes swaps of randomly drawn blocks and sites. Returns whether both kinds of cost agree with the whole sums at each.
 fn agree_at_each(
     alloc: Global,
     boxes: &mut Boxes,
@@ -398,13 +406,15 @@ fn agree_at_each(
     design: &Design,
     grid: &Grid,
     placement: &mut Placement,
-    wanted: u32,
+    draws: Draws,
 ) -> Result<bool, AllocError>
+    requires some { (0 < draws.blocks) × (0 < draws.columns) }
     requires boxes { StandsFor boxes.old design.now grid.now placement.old.sites }
     requires edges { CountedStandsFor edges.old design.now grid.now placement.old.sites }
     requires grid { placement.old.grid ≡ grid.now }
+    ensures edges { CountedStandsFor edges.new design.now grid.now placement.new.sites }
 {
-    let mut left = wanted;
+    let mut left = draws.wanted;
     let mut state = 1;
     'draws: for _ in 0..u64::MAX {
         if left == 0 {
@@ -414,8 +424,12 @@ fn agree_at_each(
         let second = next(first);
         let third = next(second);
         state = next(third);
-        let block = BlockId(u32::from(drawn(first, 10)));
-        let to = site(drawn(second, 6), drawn(third, 6), drawn(state, 2));
+        let block = BlockId(u32::from(drawn(first, draws.blocks)));
+        let to = site(
+            drawn(second, draws.columns),
+            drawn(third, draws.columns),
+            drawn(state, 2),
+        );
         if let Some(swap) = swap_to(&*placement, grid, block, to) {
             if !agree(alloc, boxes, edges, design, grid, placement, &swap)? {
                 return Ok(false);
@@ -426,30 +440,33 @@ fn agree_at_each(
     Ok(false)
 }
 
-// The same from these sites; `None` if they are not legal.
+// The same from these sites, and whether each net has the edge counts of a new value at the end; `None` if the sites are not legal.
 fn both_agree(
     alloc: Global,
     design: &Design,
     grid: &Grid,
     sites: &[Site],
-    wanted: u32,
-) -> Result<Option<bool>, AllocError> {
+    draws: Draws,
+) -> Result<Option<bool>, AllocError>
+    requires { (0 < draws.blocks) × (0 < draws.columns) }
+{
     if !is_legal(design, grid, sites) {
         return Ok(None);
     }
     let mut placement = Placement::of_sites(alloc, design, grid, sites)?;
     let mut boxes = Boxes::new(alloc, design, grid, &placement)?;
     let mut edges = EdgeBoxes::new(alloc, design, grid, &placement)?;
-    agree_at_each(
+    let agree = agree_at_each(
         alloc,
         &mut boxes,
         &mut edges,
         design,
         grid,
         &mut placement,
-        wanted,
-    )
-    .map(Some)
+        draws,
+    )?;
+    let anew = EdgeBoxes::new(alloc, design, grid, &placement)?;
+    Ok(Some(agree && have_same_counts(design, &edges, &anew)))
 }
 
 // Has nets on both blocks of a swap, nets on two and three pins of a block, nets with one terminal, nets on pads, and a global net.
@@ -478,12 +495,85 @@ fn agree_over(alloc: Global, wanted: u32) -> Result<Option<bool>, Fail> {
         site(2, 3, 0),
     ];
     let design = read_net(alloc, TEN_BLOCKS, &arch)?;
-    Ok(both_agree(alloc, &design, &grid, &sites, wanted)?)
+    let draws = Draws {
+        blocks: 10,
+        columns: 6,
+        wanted,
+    };
+    Ok(both_agree(alloc, &design, &grid, &sites, draws)?)
 }
 
 #[test]
 fn both_kinds_agree_with_whole_sums(rt: HostRuntime) -> Result<(), Fail> {
     assert_eq!(rt; agree_over(rt.alloc(), 10000)?, Some(true));
+    Ok(())
+}
+
+// The terminals of nets on both sides of each size at which a change of cost is found otherwise. Block `i` drives net `i`.
+const SIZES: [u16; 15] = [2, 2, 4, 4, 5, 5, 8, 8, 9, 9, 16, 16, 17, 17, 500];
+
+const BLOCKS: u16 = 24;
+
+const PINS: u16 = 48;
+
+// The block of sink `k` of a net: each block in turn, or each twice in turn.
+fn sink_block(net: u64, k: u16) -> u16 {
+    let step = if net % 2 == 0 { k } else { k / 2 };
+    (net.wrapping_mul(5).wrapping_add(u64::from(step)) % u64::from(BLOCKS)) as u16
+}
+
+// Adds the lines of a block.
+fn push_block(alloc: Global, text: &mut Vec<u8>, block: u16) -> Result<(), Fail> {
+    text.extend_from_slice(format!(in alloc; ".clb b{block}\npinlist:")?.as_bytes())?;
+    let mut pins: u16 = 0;
+    let mut net: u64 = 0;
+    for size in SIZES {
+        for k in 1..size {
+            if sink_block(net, k) == block {
+                text.extend_from_slice(format!(in alloc; " n{net}")?.as_bytes())?;
+                pins = pins.wrapping_add(1);
+            }
+        }
+        net = net.wrapping_add(1);
+    }
+    for _ in pins..PINS {
+        text.extend_from_slice(b" open")?;
+    }
+    if (block as usize) < SIZES.len() {
+        text.extend_from_slice(format!(in alloc; " n{block}\n")?.as_bytes())?;
+    } else {
+        text.extend_from_slice(b" open\n")?;
+    }
+    Ok(())
+}
+
+// Whether both kinds of cost agree over `wanted` swaps of blocks with nets of these sizes; `None` if the blocks have no legal sites.
+fn agree_over_sizes(alloc: Global, wanted: u32) -> Result<Option<bool>, Fail> {
+    let mut arch = Vec::from_slice(alloc, b"io_rat 1\n")?;
+    for _ in 0..PINS {
+        arch.extend_from_slice(b"inpin class: 0 left\n")?;
+    }
+    arch.extend_from_slice(b"outpin class: 1 right\n")?;
+    let arch = read_arch(alloc, &arch)?;
+    let grid = Grid::new(6, 6, arch.io_rat)?;
+    let mut net = Vec::new(alloc);
+    let mut sites = Vec::new(alloc);
+    for block in 0..BLOCKS {
+        push_block(alloc, &mut net, block)?;
+        sites.push(site(1 + block % 6, 1 + block / 6, 0))?;
+    }
+    let design = read_net(alloc, &net, &arch)?;
+    let draws = Draws {
+        blocks: BLOCKS,
+        columns: 8,
+        wanted,
+    };
+    Ok(both_agree(alloc, &design, &grid, &sites, draws)?)
+}
+
+#[test]
+fn both_kinds_agree_at_each_size_of_nets(rt: HostRuntime) -> Result<(), Fail> {
+    assert_eq!(rt; agree_over_sizes(rt.alloc(), 10000)?, Some(true));
     Ok(())
 }
 
@@ -517,7 +607,7 @@ fn caught_up(
     let mut copy = edges.copy()?;
     let before = WireCost::cost(&copy);
     let (_, cost) = made(&mut edges, design, grid, placement, swap);
-    copy.take_over(design, swap, &edges);
+    copy.take_over(design, grid, swap, &edges);
     let after = WireCost::cost(&copy);
     Ok((
         before,

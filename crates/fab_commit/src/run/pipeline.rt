@@ -185,8 +185,8 @@ fn make_moves<'a, 'g, W: Words + Sync + Drop, G: Gate, J: Naming, R: Threads + W
     workers.collect(rt, given.alloc)
 }
 
-/// Makes the older placement the same as the live one, by the swaps that were accepted since. No bounding box is computed again: the
-/// boxes of the nets that the swaps touched are taken over from the live cost.
+/// Makes the older placement the same as the live one, by the swaps that were accepted since. No bounding box is computed again: what
+/// the live cost keeps of the nets that the swaps touched is taken over.
 fn catch_up<W: Words>(given: &Given<'_, W>, older: &mut State, live: &State, swaps: &[Accepted])
     requires older { IsSound (run_for W.moves given.now) older.old }
     requires live { IsSound (run_for W.moves given.now) live.now }
@@ -197,7 +197,7 @@ fn catch_up<W: Words>(given: &Given<'_, W>, older: &mut State, live: &State, swa
     for accepted in swaps {
         older
             .cost
-            .take_over(given.design, &accepted.swap, &live.cost);
+            .take_over(given.design, given.grid, &accepted.swap, &live.cost);
         older.placement.apply(&accepted.swap);
     }
     older.stage = live.stage;

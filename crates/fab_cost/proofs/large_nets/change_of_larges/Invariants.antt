@@ -1,0 +1,11 @@
+use Rattle.std.proofs.Common.{take}
+use Rattle.std.specs.List.{sum_by}
+use Rattle.fab_net.specs.Netlist.{nets_of}
+use Rattle.fab_site.specs.Placement.{swapped}
+use Rattle.fab_cost.specs.Changes.{IsChange}
+use Rattle.fab_cost.specs.Runs.{large_of}
+use Rattle.fab_cost.specs.Swapping.{cost_unless}
+use Rattle.fab_cost.proofs.large_nets.change_of_larges.Given as goal
+
+abbrev pub invariant-places : goal.invariant-places
+invariant-places l = IsChange (sum_by (cost_unless (large_of l.design) l.grid l.placement.sites l.but) (take l.k (nets_of (large_of l.design) l.block.0))) (sum_by (cost_unless (large_of l.design) l.grid (swapped l.placement.sites l.swap) l.but) (take l.k (nets_of (large_of l.design) l.block.0))) l.gained l.lost

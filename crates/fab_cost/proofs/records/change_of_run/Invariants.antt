@@ -1,0 +1,12 @@
+use Rattle.std.proofs.Common.{◌≡◌, ◌≤◌, ◌*◌, ◌^◌, take}
+use Rattle.std.specs.List.{sum_by}
+use Rattle.fab_cost.specs.Runs.{seen_in, weight}
+use Rattle.fab_cost.proofs.records.change_of_run.Given as goal
+
+abbrev pub invariant-run : goal.invariant-run
+invariant-run g l = record {
+  gained : l.gained ≡ sum_by (weight (seen_in l.table l.moved l.to) l.base) (take l.i l.records);
+  lost : l.lost ≡ sum_by (weight (seen_in l.table l.moved l.to) l.target) (take l.i l.records);
+  gained_few : l.gained ≤ l.i * 2 ^ 27;
+  lost_few : l.lost ≤ l.i * 2 ^ 27;
+}

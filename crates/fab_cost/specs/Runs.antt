@@ -1,0 +1,200 @@
+-- Positions as vectors of lanes, the nets of a block as records of the other blocks on them, and what is kept so (our own).
+use Rattle.std.specs.Prelude.{ℕ, ◌≡◌, ◌+◌, ◌*◌, ◌^◌, Option, ◌-◌, ◌<◌, ◌≤◌, ◌==◌, ◌&&◌, ◌||◌, not, nat_lt, nat_le, min, if◌then◌else◌, Bool, true, List, [], ◌∷◌, ◌++◌, map, take, filter, length, slice_index, slice_index_or, slice_set, Some, None, refl}
+use Rattle.std.specs.List.{sum_by, range_with_len}
+use lib.Lanes.{zip2, fold_l, sum_l}
+use Rattle.fab_arch.specs.declared.array.Site.{Site}
+use Rattle.fab_arch.specs.Grid.{GridShape}
+use Rattle.fab_net.specs.Rows.{row_of}
+use Rattle.fab_net.specs.Netlist.{Netlist, net_at, nets_of, counted, has_number}
+use Rattle.fab_net.specs.declared.pieces.BlockId.{BlockId}
+use Rattle.fab_site.specs.declared.pieces.Swap.{Swap}
+use Rattle.fab_cost.specs.declared.records.Record.{Record}
+use Rattle.fab_cost.specs.declared.runs.Runs.{Runs}
+use Rattle.fab_cost.specs.declared.edge_counts.CountedBox.{CountedBox}
+use Rattle.fab_cost.specs.Cost.{cross_of, net_cost}
+use Rattle.fab_cost.specs.Boxes.{Counts}
+use Rattle.fab_cost.specs.Edges.{edges_of, times}
+use Rattle.fab_cost.specs.Swapping.{Position, position_at, counted_blocks, counted_at, blocks_of}
+
+abbrev pub four : ℕ → ℕ → ℕ → ℕ → List ℕ
+four a b c d = a ∷ b ∷ c ∷ d ∷ []
+
+-- the clipped column and row, and how far each is from the far end
+abbrev pub lanes_for : Position → List ℕ
+lanes_for p = four p.x (1001 - p.x) p.y (1001 - p.y)
+
+abbrev pub lanes_at : GridShape → Site → List ℕ
+lanes_at g s = lanes_for (position_at g s)
+
+abbrev pub least_of : List ℕ → List ℕ → List ℕ
+least_of a b = zip2 (λ x y. min x y) a b
+
+-- the edges of a box as lanes: the least column and row, and how far the greatest is from the far end
+abbrev pub edge_lanes : CountedBox → List ℕ
+edge_lanes b = four b.x.least.at (1001 - b.x.greatest.at) b.y.least.at (1001 - b.y.greatest.at)
+
+-- the lanes of both sites of a swap
+abbrev pub reach_lanes : GridShape → Swap → List ℕ
+reach_lanes g s = least_of (lanes_at g s.from) (lanes_at g s.to)
+
+-- where no block is
+abbrev pub no_lanes : List ℕ
+no_lanes = four 65535 65535 65535 65535
+
+-- the vectors of some sites by number, and past the last the one of no block
+abbrev pub lanes_in : GridShape → List Site → ℕ → List ℕ
+lanes_in g sites k = slice_index_or (map (lanes_at g) sites) k no_lanes
+
+-- the table of a placement
+abbrev pub table_of : GridShape → List Site → List (List ℕ)
+table_of g sites = map (lanes_at g) sites ++ no_lanes ∷ []
+
+-- the positions by which a table is made: its last vector is that of no block
+abbrev pub positions_in : List (List ℕ) → List Position
+positions_in table = map (λ v. record { x = slice_index v 0; y = slice_index v 2 }) (take (length table - 1) table)
+
+abbrev pub table_from : List Position → List (List ℕ)
+table_from positions = map lanes_for positions ++ no_lanes ∷ []
+
+-- the positions with those of a swap's blocks after it
+abbrev pub positions_with : GridShape → List Position → Option BlockId → Site → List Position
+positions_with g positions None s = positions
+positions_with g positions (Some b) s = slice_set positions b.0 (position_at g s)
+
+abbrev pub positions_after : GridShape → List Position → Swap → List Position
+positions_after g positions s = positions_with g (slice_set positions s.block.0 (position_at g s.to)) s.other s.from
+
+-- the vector of a block, where one block is seen at another place
+abbrev pub seen_in : List (List ℕ) → ℕ → List ℕ → ℕ → List ℕ
+seen_in table moved to k = if k == moved then to else slice_index_or table k no_lanes
+
+-- the least of the vectors of some blocks
+abbrev pub least_among : (ℕ → List ℕ) → List ℕ → List ℕ
+least_among f ks = fold_l (λ v k. least_of v (f k)) no_lanes ks
+
+-- net n of block b as the other blocks on it, and its cross count; a number past the last block says nothing
+pub record IsRecord (d : Netlist) (b n : ℕ) (others : List ℕ) (q : ℕ) : Type 0 where
+  pub counts : Counts d n
+  pub on : has_number b (blocks_of d n) ≡ true
+  pub factor : q ≡ cross_of (length (blocks_of d n))
+  pub each : (k : ℕ) → k < length d.kinds → has_number k others ≡ (has_number k (blocks_of d n) && not (k == b))
+  pub within : (i : ℕ) → i < length others → slice_index others i ≤ length d.kinds
+
+abbrev pub is_sized : Netlist → ℕ → ℕ → ℕ → Bool
+is_sized d above most n = nat_lt above (length (blocks_of d n)) && nat_le (length (blocks_of d n)) most
+
+-- the nets of a block with more terminals than the one, and no more than the other
+abbrev pub nets_between : Netlist → ℕ → ℕ → ℕ → List ℕ
+nets_between d above most b = filter (is_sized d above most) (nets_of d b)
+
+abbrev pub is_large : Netlist → ℕ → Bool
+is_large d n = nat_lt 16 (length (blocks_of d n))
+
+-- what a record of a net brings to a sum, where its block stands at a vector and the others are seen so
+abbrev pub weight : {W : ℕ} → (ℕ → List ℕ) → List ℕ → Record W → ℕ
+weight f v r = r.factor * sum_l (least_of (least_among f r.others) v)
+
+abbrev pub AreWithin : {W : ℕ} → ℕ → Record W → Type 0
+AreWithin k r = (i : ℕ) → i < length r.others → slice_index r.others i < k
+
+-- these nets of a block, one record each
+pub record AreRecords {W : ℕ} (d : Netlist) (b : ℕ) (ns : List ℕ) (rs : List (Record W)) : Type 0 where
+  pub long : length rs ≡ length ns
+  pub each : (i : ℕ) (z : Record W) → i < length ns → IsRecord d b (slice_index ns i) (slice_index_or rs i z).others (slice_index_or rs i z).factor
+
+-- the places, among the nets of a block, of those with many terminals
+pub record AreLarge (d : Netlist) (b : ℕ) (is : List ℕ) : Type 0 where
+  pub within : (k : ℕ) → k < length is → slice_index is k < length (nets_of d b)
+  pub nets : map (λ i. slice_index (nets_of d b) i) is ≡ filter (is_large d) (nets_of d b)
+
+-- of each block the nets with more terminals than the one, and no more than the other
+pub record HasRows {W : ℕ} (d : Netlist) (above most : ℕ) (rows : List (List (Record W))) : Type 0 where
+  pub long : length rows ≡ length d.kinds
+  pub each : (b : ℕ) → b < length d.kinds → AreRecords d b (nets_between d above most b) (slice_index_or rows b [])
+
+pub record HasLarge (d : Netlist) (rows : List (List ℕ)) : Type 0 where
+  pub long : length rows ≡ length d.kinds
+  pub each : (b : ℕ) → b < length d.kinds → AreLarge d b (slice_index_or rows b [])
+
+-- the nets of each block of a design
+pub record HasRecords (p : Runs) (d : Netlist) : Type 0 where
+  pub small : HasRows {W = 3} d 1 4 p.small
+  pub middle : HasRows {W = 7} d 4 8 p.middle
+  pub wide : HasRows {W = 15} d 8 16 p.wide
+  pub large : HasLarge d p.large
+
+-- the costs of these nets with few terminals
+abbrev pub few_cost : Netlist → GridShape → List Site → List ℕ → ℕ
+few_cost d g sites ns = sum_by (net_cost d g sites) (filter (λ n. not (is_large d n)) ns)
+
+-- and of all nets that count
+abbrev pub few_all : Netlist → GridShape → List Site → ℕ
+few_all d g sites = few_cost d g sites (counted d)
+
+-- gained less lost is the one less the other
+pub record IsStep (before after gained lost : ℕ) : Type 0 where
+  pub balance : after + lost ≡ before + gained
+  pub gained_few : gained < 2 ^ 46
+  pub lost_few : lost < 2 ^ 46
+
+-- the nets of the blocks below one, and the first of that block
+
+abbrev pub nets_to : Netlist → ℕ → ℕ → ℕ → List ℕ
+nets_to d k j c = if nat_lt c k then nets_of d c else (if c == k then take j (nets_of d c) else [])
+
+pub record ArePacked {W : ℕ} (d : Netlist) (above most k j : ℕ) (entries : List (ℕ × Record W)) : Type 0 where
+  pub rows : (c : ℕ) → AreRecords d c (filter (is_sized d above most) (nets_to d k j c)) (row_of entries c)
+  pub within : (i : ℕ) (z : ℕ × Record W) → i < length entries → (slice_index_or entries i z).0 < length d.kinds
+  pub few : length entries ≤ k * 65535 + j
+
+-- the places of the nets with many terminals among those of the blocks below one, and the first of that block
+pub record AreLarger (d : Netlist) (k j : ℕ) (entries : List (ℕ × ℕ)) : Type 0 where
+  pub rows : (c : ℕ) → map (λ i. slice_index (nets_of d c) i) (row_of entries c) ≡ filter (is_large d) (nets_to d k j c)
+  pub places : (c i : ℕ) → i < length (row_of entries c) → slice_index (row_of entries c) i < length (nets_of d c)
+  pub within : (i : ℕ) (z : ℕ × ℕ) → i < length entries → (slice_index_or entries i z).0 < length d.kinds
+  pub few : length entries ≤ k * 65535 + j
+
+-- the blocks of the terminals of the nets below one that count
+pub record AreListed (d : Netlist) (n : ℕ) (entries : List (ℕ × ℕ)) : Type 0 where
+  pub rows : (c : ℕ) → row_of entries c ≡ (if nat_lt c n then slice_index_or (counted_blocks d) c [] else [])
+  pub within : (i : ℕ) (z : ℕ × ℕ) → i < length entries → (slice_index_or entries i z).0 < length d.terminals
+  pub few : length entries ≤ sum_by length (take n d.terminals)
+
+-- the design whose counting nets are those with many terminals: all others are global
+abbrev pub large_of : Netlist → Netlist
+large_of d = record d { globals = map (λ n. not (is_large d n) || (net_at d n).global) (range_with_len 0 (length d.terminals)) }
+
+abbrev pub no_position : Position
+no_position = record { x = 0; y = 0 }
+
+-- the box of some blocks by their positions, with how many of them are on each edge
+unfoldable pub counted_over : List Position → List ℕ → CountedBox
+counted_over positions blocks =
+    record {
+      x = edges_of (map (λ k. (slice_index_or positions k no_position).x) blocks);
+      y = edges_of (map (λ k. (slice_index_or positions k no_position).y) blocks);
+    }
+
+-- the box of a net: by the positions of its blocks, or the one that is kept, if it has many terminals
+abbrev pub box_seen : List (List ℕ) → List Position → List CountedBox → ℕ → CountedBox
+box_seen nets positions kept n = if nat_lt 16 (length (slice_index_or nets n [])) then counted_at kept n else counted_over positions (slice_index_or nets n [])
+
+unfoldable pub boxes_seen : List (List ℕ) → List Position → List CountedBox → List CountedBox
+boxes_seen nets positions kept = map (box_seen nets positions kept) (range_with_len 0 (length nets))
+
+-- what is kept fits together: whatever the design of these nets and blocks, the runs are its nets
+pub record IsKept (table : List (List ℕ)) (r : Runs) (kept : List CountedBox) (total : ℕ) : Type 0 where
+  pub below : total < 2 ^ 43
+  pub vectors : table ≡ table_from (positions_in table)
+  pub long : length kept ≡ length r.terminals
+  pub within : (n i : ℕ) → i < length (slice_index_or r.terminals n []) → slice_index (slice_index_or r.terminals n []) i < length (positions_in table)
+  pub runs : (d : Netlist) → r.terminals ≡ counted_blocks d → length (positions_in table) ≡ length d.kinds → HasRecords r d
+
+-- the box of blocks in columns 1 and 3 of row 2 has 2004 less these lanes as its half perimeter: three columns and one row
+pub lanes_of_two_blocks : sum_l (least_of (lanes_for (record { x = 1; y = 2 })) (lanes_for (record { x = 3; y = 2 }))) + 4 ≡ 2004
+lanes_of_two_blocks = refl
+
+-- the box of two terminals of block 0 and one of block 1
+pub box_by_positions : counted_over (record { x = 1; y = 2 } ∷ record { x = 3; y = 2 } ∷ []) (0 ∷ 0 ∷ 1 ∷ []) ≡ record { x = record { least = record { at = 1; count = 2 }; greatest = record { at = 3; count = 1 } }; y = record { least = record { at = 2; count = 3 }; greatest = record { at = 2; count = 3 } } }
+unfolding counted_over edges_of times
+box_by_positions = refl

@@ -1,0 +1,462 @@
+//! The nets with many terminals, whose boxes are kept with edge counts: how a swap changes their cost, and their boxes after it.
+
+ghost use Rattle.std.specs.Prelude.{◌≡◌, ◌≢◌, ℕ, ◌<◌, ◌≤◌, ◌+◌, ◌^◌, ◌||◌, ◌==◌, true, false, if◌then◌else◌, List, length, map, take, IfOk, Some, slice_index, slice_set};
+ghost use Rattle.std.specs.List.{All, list_any, sum_by};
+ghost use Rattle.fab_arch.specs.declared.array.Site.{Site as ArraySite};
+ghost use Rattle.fab_arch.specs.Grid.{GridShape};
+ghost use Rattle.fab_net.specs.declared.pieces.BlockId.{BlockId as Block};
+ghost use Rattle.fab_net.specs.declared.pieces.NetId.{NetId as Net};
+ghost use Rattle.fab_net.specs.Netlist.{nets_of, has_number};
+ghost use Rattle.fab_site.specs.Placement.{swapped, IsSwapOf};
+ghost use Rattle.fab_cost.specs.Boxes.{Counts};
+ghost use Rattle.fab_cost.specs.Changes.{IsChange};
+ghost use Rattle.fab_cost.specs.Cost.{cost_of, net_cost};
+ghost use Rattle.fab_cost.specs.Edges.{times, counted_box as box_counted};
+ghost use Rattle.fab_cost.specs.Runs.{AreLarge, HasRecords, edge_lanes, large_of, reach_lanes};
+ghost use Rattle.fab_cost.specs.Swapping.{AreRenewed, HaveBoxes, IsPart, blocks_of, cost_unless, counted_at, has_block, is_on_swap, times_other};
+
+use crate::block_nets::{Shares, is_left_out, net_of, own_pins, partner_pins, shares_with};
+use crate::counting::{counted_box, swapped_box};
+use crate::edge_boxes::{NO_TALLY, Tally, plus};
+use crate::edge_counts::{CountedBox, NOTHING};
+use crate::lanes::{edge_lanes_of, reach_of, surrounds};
+use crate::runs::{Runs, WIDE};
+use crate::swap_change::change_of_many;
+use fab_arch::Grid;
+use fab_net::{BlockId, Design, NetId};
+use fab_site::{Placement, Swap};
+use std::alloc::{AllocError, Global};
+use std::simd::prelude::*;
+
+/// By net number the box of each large net, and its edges as lanes.
+pub(crate) struct LargeBoxes {
+    pub(crate) boxes: Vec<CountedBox>,
+    pub(crate) edges: Vec<u16x4>,
+    ghost alike: { edges.items ≡ map edge_lanes boxes.items },
+}
+
+impl Drop for LargeBoxes {
+    // A written `drop` is one step of a proof wherever a value goes out of scope; a derived one is proved again each time.
+    fn drop(self) {
+        let LargeBoxes { boxes: _, edges: _ } = self;
+    }
+}
+
+/// Gives the boxes their edges.
+fn with_edges(alloc: Global, boxes: Vec<CountedBox>) -> Result<LargeBoxes, AllocError>
+    ensures { IfOk result (λ large. large.boxes.items ≡ boxes.items) }
+{
+    let mut edges = Vec::with_capacity(alloc, boxes.len())?;
+    'boxes: for i in 0..boxes.len() {
+        edges.push(edge_lanes_of(boxes[i]))?;
+    }
+    Ok(LargeBoxes { boxes, edges })
+}
+
+impl LargeBoxes {
+    /// A copy.
+    pub(crate) fn copy(&self) -> Result<LargeBoxes, AllocError>
+        ensures { IfOk result (λ large. large.boxes.items ≡ self.now.boxes.items) }
+    {
+        Ok(LargeBoxes {
+            boxes: self.boxes.clone()?,
+            edges: self.edges.clone()?,
+        })
+    }
+
+    #[tactic(auto, unfolding(crate::specs::Swapping::counted_at))]
+    /// The box of the net.
+    pub(crate) fn kept(&self, net: NetId) -> CountedBox
+        requires { net.0 < length self.now.boxes.items }
+        ensures { result ≡ counted_at self.now.boxes.items net.0 }
+    {
+        self.boxes[net.0 as usize]
+    }
+
+    #[inline(always)]
+    /// The edges of the box of the net.
+    fn edges_of(&self, net: NetId) -> u16x4
+        requires { net.0 < length self.now.boxes.items }
+        ensures { result ≡ edge_lanes (counted_at self.now.boxes.items net.0) }
+    {
+        self.edges[net.0 as usize]
+    }
+
+    /// Renews the box of the net.
+    fn set(&mut self, net: NetId, new: CountedBox)
+        requires { net.0 < length self.old.boxes.items }
+        ensures { self.new.boxes.items ≡ slice_set self.old.boxes.items net.0 new }
+    {
+        self.boxes[net.0 as usize] = new;
+        self.edges[net.0 as usize] = edge_lanes_of(new);
+    }
+}
+
+#[tactic(auto, using(crate::proofs::Nets::counted_from, crate::proofs::Making::terminals_some, crate::proofs::Making::terminals_within, crate::proofs::Bounds::terminals_few))]
+/// The box of the net at the blocks' sites.
+fn first_box(design: &Design, grid: &Grid, placement: &Placement, net: NetId) -> CountedBox
+    requires net { Counts design.now net.0 }
+    requires whole { length design.now.kinds ≡ length placement.now.sites }
+    ensures { result ≡ box_counted design.now grid.now placement.now.sites net.0 }
+{
+    let _nets = design.nets();
+    let terminals = design.terminals(net);
+    counted_box(grid, placement, None, terminals)
+}
+
+#[tactic(auto, using(crate::proofs::Nets::counted_from, crate::proofs::Nets::counted_to, crate::proofs::Nets::times_to, crate::proofs::Nets::times_other_to, crate::proofs::Making::terminals_some, crate::proofs::Making::terminals_within, crate::proofs::Bounds::terminals_few))]
+/// The box of the net after the swap.
+fn renewed(
+    old: CountedBox,
+    design: &Design,
+    grid: &Grid,
+    placement: &Placement,
+    swap: &Swap,
+    net: NetId,
+    shares: Shares,
+) -> CountedBox
+    requires old { old ≡ box_counted design.now grid.now placement.now.sites net.0 }
+    requires net { Counts design.now net.0 }
+    requires mine { shares.mine ≡ times swap.now.block.0 (blocks_of design.now net.0) }
+    requires others { shares.others ≡ times_other swap.now.other (blocks_of design.now net.0) }
+    requires lawful { IsSwapOf grid.now placement.now.sites swap.now }
+    requires whole { length design.now.kinds ≡ length placement.now.sites }
+    ensures { result ≡ box_counted design.now grid.now (swapped placement.now.sites swap.now) net.0 }
+{
+    let _nets = design.nets();
+    let terminals = design.terminals(net);
+    swapped_box(
+        old,
+        terminals,
+        grid,
+        placement,
+        swap,
+        shares.mine,
+        shares.others,
+    )
+}
+
+#[tactic(auto, using(crate::proofs::Nets::counted_cost_from, crate::proofs::Making::terminals_some, crate::proofs::Bounds::terminals_few))]
+/// What a net with this box costs, in ten-thousandths.
+pub(crate) fn cost_of_counted(design: &Design, net: NetId, kept: CountedBox) -> u64
+    requires { Counts design.now net.0 }
+    ensures { (g : GridShape) (sites : List ArraySite) → kept ≡ box_counted design.now g sites net.0 → result ≡ net_cost design.now g sites net.0 }
+{
+    let _nets = design.nets();
+    let terminals = design.terminals(net);
+    kept.cost(terminals.len() as u32)
+}
+
+/// What the net costs with the box after the swap, and with the box before it.
+fn tally_between(design: &Design, net: NetId, old: CountedBox, new: CountedBox) -> Tally
+    requires { Counts design.now net.0 }
+    ensures gained { (g : GridShape) (sites : List ArraySite) → new ≡ box_counted design.now g sites net.0 → result.gained ≡ net_cost design.now g sites net.0 }
+    ensures lost { (g : GridShape) (sites : List ArraySite) → old ≡ box_counted design.now g sites net.0 → result.lost ≡ net_cost design.now g sites net.0 }
+{
+    Tally {
+        gained: cost_of_counted(design, net, new),
+        lost: cost_of_counted(design, net, old),
+    }
+}
+
+#[tactic(auto, using(crate::proofs::Large::not_large))]
+/// The box, if the net is a large one.
+fn if_large(design: &Design, net: NetId, made: CountedBox) -> CountedBox
+    requires { Counts design.now net.0 }
+    ensures { Counts (large_of design.now) net.0 → result ≡ made }
+{
+    let _nets = design.nets();
+    if WIDE < design.terminals(net).len() {
+        made
+    } else {
+        NOTHING
+    }
+}
+
+/// The boxes of the large nets, and the cost of all nets.
+pub(crate) fn boxes_for(
+    alloc: Global,
+    design: &Design,
+    grid: &Grid,
+    placement: &Placement,
+) -> Result<(LargeBoxes, u64), AllocError>
+    requires { length design.now.kinds ≡ length placement.now.sites }
+    ensures have { IfOk result (λ b. HaveBoxes b.0.boxes.items (large_of design.now) grid.now placement.now.sites) }
+    ensures sum { IfOk result (λ b. b.1 ≡ cost_of design.now grid.now placement.now.sites) }
+    ensures below { IfOk result (λ b. b.1 < 2 ^ 43) }
+{
+    let _nx = grid.nx();
+    let _ny = grid.ny();
+    let nets = design.nets();
+    let mut boxes = Vec::with_capacity(alloc, nets)?;
+    let mut total: u64 = 0;
+    'nets: for number in 0..nets {
+        let net = NetId(number as u32);
+        if design.is_global(net) {
+            boxes.push(NOTHING)?;
+        } else {
+            let made = first_box(design, grid, placement, net);
+            let cost = cost_of_counted(design, net, made);
+            boxes.push(if_large(design, net, made))?;
+            total += cost;
+        }
+    }
+    Ok((with_edges(alloc, boxes)?, total))
+}
+
+#[tactic(auto, using(crate::proofs::Large::row_within, crate::proofs::Changes::passed))]
+#[inline(always)]
+/// How the swap changes the cost of large net `k` of a block, of which `row` has the places; nothing if it is also a net of the
+/// block `but`.
+fn change_of_kept(
+    large: &LargeBoxes,
+    design: &Design,
+    grid: &Grid,
+    placement: &Placement,
+    swap: &Swap,
+    reach: u16x4,
+    block: BlockId,
+    but: Option<BlockId>,
+    row: &[u32],
+    k: usize,
+) -> Tally
+    requires have { HaveBoxes large.now.boxes.items (large_of design.now) grid.now placement.now.sites }
+    requires reach { reach ≡ reach_lanes grid.now swap.now }
+    requires part { IsPart swap.now block but }
+    requires block { block.0 < length design.now.kinds }
+    requires large { AreLarge design.now block.0 row.now }
+    requires within { k < length row.now }
+    requires lawful { IsSwapOf grid.now placement.now.sites swap.now }
+    requires whole { length design.now.kinds ≡ length placement.now.sites }
+    ensures { IsChange (cost_unless (large_of design.now) grid.now placement.now.sites but (slice_index (nets_of (large_of design.now) block.0) k)) (cost_unless (large_of design.now) grid.now (swapped placement.now.sites swap.now) but (slice_index (nets_of (large_of design.now) block.0) k)) result.gained result.lost }
+{
+    let _nets = design.nets();
+    let i = row[k] as usize;
+    let net = net_of(design, block, i);
+    if surrounds(large.edges_of(net), reach) {
+        NO_TALLY
+    } else {
+        change_of_many(
+            large.kept(net),
+            design,
+            grid,
+            placement,
+            swap,
+            block,
+            but,
+            i,
+        )
+    }
+}
+
+#[tactic(auto, using(crate::proofs::Changes::none, crate::proofs::Changes::more, crate::proofs::Changes::all))]
+#[inline(always)]
+/// How the swap changes the cost of the large nets of a block, without those of the block `but`.
+fn change_of_larges(
+    large: &LargeBoxes,
+    runs: &Runs,
+    design: &Design,
+    grid: &Grid,
+    placement: &Placement,
+    swap: &Swap,
+    reach: u16x4,
+    block: BlockId,
+    but: Option<BlockId>,
+) -> Tally
+    requires records { HasRecords runs.now design.now }
+    requires have { HaveBoxes large.now.boxes.items (large_of design.now) grid.now placement.now.sites }
+    requires reach { reach ≡ reach_lanes grid.now swap.now }
+    requires part { IsPart swap.now block but }
+    requires block { block.0 < length design.now.kinds }
+    requires lawful { IsSwapOf grid.now placement.now.sites swap.now }
+    requires whole { length design.now.kinds ≡ length placement.now.sites }
+    ensures { IsChange (sum_by (cost_unless (large_of design.now) grid.now placement.now.sites but) (nets_of (large_of design.now) block.0)) (sum_by (cost_unless (large_of design.now) grid.now (swapped placement.now.sites swap.now) but) (nets_of (large_of design.now) block.0)) result.gained result.lost }
+{
+    let _nx = grid.nx();
+    let _ny = grid.ny();
+    let _nets = design.nets();
+    let row = runs.large.row(block.0 as usize);
+    let mut gained: u64 = 0;
+    let mut lost: u64 = 0;
+    'places: for k in 0..row.len() {
+        let one = change_of_kept(
+            large, design, grid, placement, swap, reach, block, but, row, k,
+        );
+        gained += one.gained;
+        lost += one.lost;
+    }
+    Tally { gained, lost }
+}
+
+#[tactic(auto, using(crate::proofs::Sited::block_below, crate::proofs::Changes::whole_none, crate::proofs::Changes::whole_some))]
+/// How the swap changes the cost of the large nets.
+pub(crate) fn change_of_large(
+    large: &LargeBoxes,
+    runs: &Runs,
+    design: &Design,
+    grid: &Grid,
+    placement: &Placement,
+    swap: &Swap,
+) -> Tally
+    requires records { HasRecords runs.now design.now }
+    requires have { HaveBoxes large.now.boxes.items (large_of design.now) grid.now placement.now.sites }
+    requires lawful { IsSwapOf grid.now placement.now.sites swap.now }
+    requires whole { length design.now.kinds ≡ length placement.now.sites }
+    ensures balance { cost_of (large_of design.now) grid.now (swapped placement.now.sites swap.now) + result.lost ≡ cost_of (large_of design.now) grid.now placement.now.sites + result.gained }
+    ensures gained { result.gained < 2 ^ 43 }
+    ensures lost { result.lost < 2 ^ 43 }
+{
+    let _nx = grid.nx();
+    let _ny = grid.ny();
+    let _nets = design.nets();
+    let reach = reach_of(grid, swap);
+    let first = change_of_larges(
+        large, runs, design, grid, placement, swap, reach, swap.block, None,
+    );
+    match swap.other {
+        None => first,
+        Some(other) => {
+            let but = Some(swap.block);
+            let second = change_of_larges(
+                large, runs, design, grid, placement, swap, reach, other, but,
+            );
+            plus(first, second)
+        }
+    }
+}
+
+#[tactic(auto)]
+/// Renews the box of large net `k` of a block, of which `row` has the places, unless it is also a net of the block `but`. Returns
+/// the net's cost after and before.
+fn renew_net(
+    large: &mut LargeBoxes,
+    design: &Design,
+    grid: &Grid,
+    placement: &Placement,
+    swap: &Swap,
+    block: BlockId,
+    but: Option<BlockId>,
+    row: &[u32],
+    k: usize,
+) -> Tally
+    requires left { AreRenewed large.old.boxes.items (large_of design.now) grid.now placement.now.sites (swapped placement.now.sites swap.now) (λ n. has_block but (blocks_of design.now n) || has_number n (take k (nets_of (large_of design.now) block.0))) }
+    requires part { IsPart swap.now block but }
+    requires block { block.0 < length design.now.kinds }
+    requires large { AreLarge design.now block.0 row.now }
+    requires within { k < length row.now }
+    requires lawful { IsSwapOf grid.now placement.now.sites swap.now }
+    requires whole { length design.now.kinds ≡ length placement.now.sites }
+    ensures boxes { AreRenewed large.new.boxes.items (large_of design.now) grid.now placement.now.sites (swapped placement.now.sites swap.now) (λ n. has_block but (blocks_of design.now n) || has_number n (take (k + 1) (nets_of (large_of design.now) block.0))) }
+    ensures gained { result.gained ≡ cost_unless (large_of design.now) grid.now (swapped placement.now.sites swap.now) but (slice_index (nets_of (large_of design.now) block.0) k) }
+    ensures lost { result.lost ≡ cost_unless (large_of design.now) grid.now placement.now.sites but (slice_index (nets_of (large_of design.now) block.0) k) }
+{
+    let i = row[k] as usize;
+    let net = net_of(design, block, i);
+    let own = own_pins(design, block, i);
+    let beside = partner_pins(design, swap, block, but, i);
+    let shares = shares_with(swap, block, but, own, beside);
+    if is_left_out(but, shares) {
+        return NO_TALLY;
+    }
+    let old = large.kept(net);
+    let new = renewed(old, design, grid, placement, swap, net, shares);
+    large.set(net, new);
+    tally_between(design, net, old, new)
+}
+
+#[tactic(auto, using(crate::proofs::Renewals::started, crate::proofs::Nets::sum_all))]
+/// Renews the boxes of a block's large nets, except those of the block `but`, which are renewed already. Returns the nets' cost
+/// after and before.
+fn renew_larges(
+    large: &mut LargeBoxes,
+    runs: &Runs,
+    design: &Design,
+    grid: &Grid,
+    placement: &Placement,
+    swap: &Swap,
+    block: BlockId,
+    but: Option<BlockId>,
+) -> Tally
+    requires records { HasRecords runs.now design.now }
+    requires left { AreRenewed large.old.boxes.items (large_of design.now) grid.now placement.now.sites (swapped placement.now.sites swap.now) (λ n. has_block but (blocks_of design.now n)) }
+    requires part { IsPart swap.now block but }
+    requires block { block.0 < length design.now.kinds }
+    requires lawful { IsSwapOf grid.now placement.now.sites swap.now }
+    requires whole { length design.now.kinds ≡ length placement.now.sites }
+    ensures boxes { AreRenewed large.new.boxes.items (large_of design.now) grid.now placement.now.sites (swapped placement.now.sites swap.now) (λ n. has_block but (blocks_of design.now n) || has_number block.0 (blocks_of design.now n)) }
+    ensures gained { result.gained ≡ sum_by (cost_unless (large_of design.now) grid.now (swapped placement.now.sites swap.now) but) (nets_of (large_of design.now) block.0) }
+    ensures lost { result.lost ≡ sum_by (cost_unless (large_of design.now) grid.now placement.now.sites but) (nets_of (large_of design.now) block.0) }
+{
+    let _nx = grid.nx();
+    let _ny = grid.ny();
+    let _nets = design.nets();
+    let row = runs.large.row(block.0 as usize);
+    let mut gained: u64 = 0;
+    let mut lost: u64 = 0;
+    'places: for k in 0..row.len() {
+        let one = renew_net(large, design, grid, placement, swap, block, but, row, k);
+        gained += one.gained;
+        lost += one.lost;
+    }
+    Tally { gained, lost }
+}
+
+#[tactic(auto, using(crate::proofs::Sited::block_below, crate::proofs::Renewals::untouched, crate::proofs::Renewals::first_done))]
+/// Renews the boxes of the large nets of the swap's blocks. Returns how the cost of these nets changes.
+pub(crate) fn renew_large(
+    large: &mut LargeBoxes,
+    runs: &Runs,
+    design: &Design,
+    grid: &Grid,
+    placement: &Placement,
+    swap: &Swap,
+) -> Tally
+    requires records { HasRecords runs.now design.now }
+    requires have { HaveBoxes large.old.boxes.items (large_of design.now) grid.now placement.now.sites }
+    requires lawful { IsSwapOf grid.now placement.now.sites swap.now }
+    requires whole { length design.now.kinds ≡ length placement.now.sites }
+    ensures have { HaveBoxes large.new.boxes.items (large_of design.now) grid.now (swapped placement.now.sites swap.now) }
+    ensures balance { cost_of (large_of design.now) grid.now (swapped placement.now.sites swap.now) + result.lost ≡ cost_of (large_of design.now) grid.now placement.now.sites + result.gained }
+    ensures gained { result.gained < 2 ^ 43 }
+    ensures lost { result.lost < 2 ^ 43 }
+{
+    let _nx = grid.nx();
+    let _ny = grid.ny();
+    let _nets = design.nets();
+    let first = renew_larges(large, runs, design, grid, placement, swap, swap.block, None);
+    match swap.other {
+        None => first,
+        Some(other) => {
+            let but = Some(swap.block);
+            let second = renew_larges(large, runs, design, grid, placement, swap, other, but);
+            plus(first, second)
+        }
+    }
+}
+
+/// Copies the boxes of these nets from another list.
+fn take_nets(large: &mut LargeBoxes, from: &LargeBoxes, nets: &[NetId])
+    requires within { All (λ (n : Net). n.0 < length large.old.boxes.items) nets.now }
+    requires from { length from.now.boxes.items ≡ length large.old.boxes.items }
+    ensures length { length large.new.boxes.items ≡ length large.old.boxes.items }
+    ensures each { (k : ℕ) → counted_at large.new.boxes.items k ≡ (if list_any (λ (n : Net). k == n.0) nets.now then counted_at from.now.boxes.items k else counted_at large.old.boxes.items k) }
+{
+    for net in nets {
+        large.set(*net, from.kept(*net));
+    }
+}
+
+/// Copies the boxes of the nets of a swap's blocks from another list.
+pub(crate) fn take_boxes(large: &mut LargeBoxes, from: &LargeBoxes, design: &Design, swap: &Swap)
+    requires block { swap.now.block.0 < length design.now.kinds }
+    requires other { (b : Block) → swap.now.other ≡ Some b → b.0 < length design.now.kinds }
+    requires long { length large.old.boxes.items ≡ length design.now.terminals }
+    requires from_long { length from.now.boxes.items ≡ length design.now.terminals }
+    ensures long { length large.new.boxes.items ≡ length large.old.boxes.items }
+    ensures each { (n : ℕ) → Counts design.now n → counted_at large.new.boxes.items n ≡ counted_at (if is_on_swap design.now swap.now n then from.now.boxes.items else large.old.boxes.items) n }
+{
+    take_nets(large, from, design.nets_of(swap.block));
+    if let Some(other) = swap.other {
+        take_nets(large, from, design.nets_of(other));
+    }
+}

@@ -1,0 +1,264 @@
+//! The nets of each block in one run: of each net with few terminals the other blocks on it, so that a change of cost looks
+//! at positions alone; of each net with many terminals its place among the block's nets.
+
+ghost use Rattle.std.specs.Prelude.{◌≡◌, ℕ, ◌<◌, ◌≤◌, ◌+◌, ◌&&◌, ◌==◌, not, true, IfOk, OnOk, map, length, slice_index};
+ghost use Rattle.std.specs.List.{All};
+ghost use Rattle.fab_net.specs.Netlist.{block_on, has_number, nets_of};
+ghost use Rattle.fab_cost.specs.Cost.{cross_of};
+ghost use Rattle.fab_cost.specs.Boxes.{Counts};
+ghost use Rattle.fab_cost.specs.Runs.{AreLarger, AreListed, ArePacked, HasLarge, HasRecords, HasRows};
+ghost use Rattle.fab_cost.specs.Swapping.{counted_blocks};
+
+use crate::block_nets::{count_of_nets, net_of};
+use crate::crossings::cross;
+use crate::records::Record;
+use fab_net::rows::{Rows, gather};
+use fab_net::{BlockId, Design, NetId, Terminal};
+use std::alloc::{AllocError, Global};
+
+/// Of each block its nets with 2 to 4, 5 to 8 and 9 to 16 terminals, and the places, among the block's nets, of those with
+/// more. Of each net that is not global the block of each terminal. Nets of one terminal cost the same everywhere.
+pub struct Runs {
+    pub(crate) small: Rows<Record<3>>,
+    pub(crate) middle: Rows<Record<7>>,
+    pub(crate) wide: Rows<Record<15>>,
+    pub(crate) large: Rows<u32>,
+    pub(crate) terminals: Rows<u16>,
+}
+
+impl Drop for Runs {
+    // A written `drop` is one step of a proof wherever a value goes out of scope; a derived one is proved again each time.
+    fn drop(self) {
+        let Runs {
+            small: _,
+            middle: _,
+            wide: _,
+            large: _,
+            terminals: _,
+        } = self;
+    }
+}
+
+const SMALL: usize = 4;
+
+const MIDDLE: usize = 8;
+/// Nets of up to this many terminals are looked at by the positions of their blocks; of larger ones the box is kept.
+pub(crate) const WIDE: usize = 16;
+
+#[tactic(auto, using(crate::proofs::Packs::filled_none, crate::proofs::Packs::filled_own, crate::proofs::Packs::filled_other, crate::proofs::Packs::place_within, crate::proofs::Packs::filled_all, crate::proofs::Packs::small_cross))]
+/// The record of a net of a block; `none` is the number past the last block.
+fn record_of<const W: usize>(none: u16, block: BlockId, terminals: &[Terminal]) -> Record<W>
+    requires some { 0 < length terminals.now }
+    requires few { length terminals.now ≤ W + 1 }
+    requires small { length terminals.now ≤ 16 }
+    requires on { has_number block.0 (map block_on terminals.now) ≡ true }
+    requires blocks { All (λ t. t.block.0 < none) terminals.now }
+    ensures each { (k : ℕ) → k < none → has_number k result.others ≡ (has_number k (map block_on terminals.now) && not (k == block.0)) }
+    ensures within { (j : ℕ) → j < length result.others → slice_index result.others j ≤ none }
+    ensures factor { result.factor ≡ cross_of (length terminals.now) }
+{
+    let mut others = [none; W];
+    // One place less than terminals is enough, since the block itself is left out.
+    let mut skip: usize = 0;
+    'terminals: for i in 0..terminals.len() {
+        let other = terminals[i].block.0;
+        if other == block.0 {
+            skip = 1;
+        } else {
+            others[i - skip] = other as u16;
+        }
+    }
+    let factor = cross(terminals.len() as u32) as u16;
+    Record { others, factor }
+}
+
+#[tactic(auto, using(crate::proofs::Packs::packed_pushed, crate::proofs::Packs::packed_passed, crate::proofs::Packs::record_is, crate::proofs::Packs::sized_by, crate::proofs::Packs::unsized_by))]
+/// Adds net `i` of a block, if it has more terminals than the one, and no more than the other.
+fn push_record<const W: usize>(
+    entries: &mut Vec<(u32, Record<W>)>,
+    design: &Design,
+    block: BlockId,
+    i: usize,
+    above: usize,
+    most: usize,
+) -> Result<(), AllocError>
+    requires block { block.0 < length design.now.kinds }
+    requires within { i < length (nets_of design.now block.0) }
+    requires narrow { W ≤ 15 }
+    requires width { most ≤ W + 1 }
+    requires small { most ≤ 16 }
+    requires packed { ArePacked design.now above most block.0 i entries.old.items }
+    ensures { OnOk result (ArePacked design.now above most block.0 (i + 1) entries.new.items) }
+{
+    let none = design.blocks() as u16;
+    let _nets = design.nets();
+    let net = net_of(design, block, i);
+    let terminals = design.terminals(net);
+    if above < terminals.len() && terminals.len() <= most {
+        entries.push((block.0, record_of(none, block, terminals)))?;
+    }
+    Ok(())
+}
+
+#[tactic(auto, using(crate::proofs::Packs::packed_next, crate::proofs::Steps::nets_few))]
+/// Adds the nets of a block.
+fn push_records<const W: usize>(
+    entries: &mut Vec<(u32, Record<W>)>,
+    design: &Design,
+    block: BlockId,
+    above: usize,
+    most: usize,
+) -> Result<(), AllocError>
+    requires block { block.0 < length design.now.kinds }
+    requires narrow { W ≤ 15 }
+    requires width { most ≤ W + 1 }
+    requires small { most ≤ 16 }
+    requires packed { ArePacked design.now above most block.0 0 entries.old.items }
+    ensures { OnOk result (ArePacked design.now above most (block.0 + 1) 0 entries.new.items) }
+{
+    let _nets = design.nets();
+    let nets = count_of_nets(design, block);
+    'nets: for i in 0..nets {
+        push_record(entries, design, block, i, above, most)?;
+    }
+    Ok(())
+}
+
+#[tactic(auto, using(crate::proofs::Packs::packed_none, crate::proofs::Packs::packed_all, crate::proofs::Packs::packed_few, crate::proofs::Packs::packed_within))]
+/// Of each block the nets with more terminals than the one, and no more than the other.
+fn records_between<const W: usize>(
+    alloc: Global,
+    design: &Design,
+    above: usize,
+    most: usize,
+) -> Result<Rows<Record<W>>, AllocError>
+    requires narrow { W ≤ 15 }
+    requires width { most ≤ W + 1 }
+    requires small { most ≤ 16 }
+    ensures { IfOk result (λ rows. HasRows design.now above most rows) }
+{
+    let mut entries = Vec::new(alloc);
+    let blocks = design.blocks();
+    'blocks: for number in 0..blocks {
+        push_records(&mut entries, design, BlockId(number as u32), above, most)?;
+    }
+    let blank = Record {
+        others: [0; W],
+        factor: 0,
+    };
+    gather(alloc, blocks, &entries, blank)
+}
+
+#[tactic(auto, using(crate::proofs::Packs::larger_pushed, crate::proofs::Packs::larger_passed, crate::proofs::Packs::large_by, crate::proofs::Packs::not_large_by))]
+/// Adds net `i` of a block, if it has many terminals.
+fn push_large(
+    entries: &mut Vec<(u32, u32)>,
+    design: &Design,
+    block: BlockId,
+    i: usize,
+) -> Result<(), AllocError>
+    requires block { block.0 < length design.now.kinds }
+    requires within { i < length (nets_of design.now block.0) }
+    requires few { i < 65536 }
+    requires larger { AreLarger design.now block.0 i entries.old.items }
+    ensures { OnOk result (AreLarger design.now block.0 (i + 1) entries.new.items) }
+{
+    let _nets = design.nets();
+    let net = net_of(design, block, i);
+    if WIDE < design.terminals(net).len() {
+        entries.push((block.0, i as u32))?;
+    }
+    Ok(())
+}
+
+#[tactic(auto, using(crate::proofs::Packs::larger_next, crate::proofs::Steps::nets_few))]
+/// Adds the nets of a block with many terminals.
+fn push_larges(
+    entries: &mut Vec<(u32, u32)>,
+    design: &Design,
+    block: BlockId,
+) -> Result<(), AllocError>
+    requires block { block.0 < length design.now.kinds }
+    requires larger { AreLarger design.now block.0 0 entries.old.items }
+    ensures { OnOk result (AreLarger design.now (block.0 + 1) 0 entries.new.items) }
+{
+    let _nets = design.nets();
+    let nets = count_of_nets(design, block);
+    'nets: for i in 0..nets {
+        push_large(entries, design, block, i)?;
+    }
+    Ok(())
+}
+
+#[tactic(auto, using(crate::proofs::Packs::larger_none, crate::proofs::Packs::larger_all, crate::proofs::Packs::larger_few, crate::proofs::Packs::larger_within))]
+/// Of each block the places of its nets with many terminals.
+fn large_nets(alloc: Global, design: &Design) -> Result<Rows<u32>, AllocError>
+    ensures { IfOk result (λ rows. HasLarge design.now rows) }
+{
+    let mut entries = Vec::new(alloc);
+    let blocks = design.blocks();
+    'blocks: for number in 0..blocks {
+        push_larges(&mut entries, design, BlockId(number as u32))?;
+    }
+    gather(alloc, blocks, &entries, 0)
+}
+
+#[tactic(auto, using(crate::proofs::Listings::listing_none, crate::proofs::Listings::listing_more))]
+/// Adds the blocks of a net's terminals.
+fn push_blocks(entries: &mut Vec<(u32, u16)>, design: &Design, net: NetId) -> Result<(), AllocError>
+    requires net { Counts design.now net.0 }
+    requires listed { AreListed design.now net.0 entries.old.items }
+    ensures { OnOk result (AreListed design.now (net.0 + 1) entries.new.items) }
+{
+    let _nets = design.nets();
+    let terminals = design.terminals(net);
+    'terminals: for i in 0..terminals.len() {
+        entries.push((net.0, terminals[i].block.0 as u16))?;
+    }
+    Ok(())
+}
+
+#[tactic(auto, using(crate::proofs::Listings::listed_none, crate::proofs::Listings::listed_passed, crate::proofs::Listings::listed_all, crate::proofs::Listings::listed_few, crate::proofs::Listings::listed_within))]
+/// Of each net that is not global the block of each terminal, and of a global net none.
+fn blocks_by_net(alloc: Global, design: &Design) -> Result<Rows<u16>, AllocError>
+    ensures { IfOk result (λ rows. rows ≡ counted_blocks design.now) }
+{
+    let mut entries = Vec::new(alloc);
+    let nets = design.nets();
+    'nets: for number in 0..nets {
+        let net = NetId(number as u32);
+        if !design.is_global(net) {
+            push_blocks(&mut entries, design, net)?;
+        }
+    }
+    gather(alloc, nets, &entries, 0)
+}
+
+/// The nets of each block of a design.
+pub(crate) fn runs_of(alloc: Global, design: &Design) -> Result<Runs, AllocError>
+    ensures records { IfOk result (λ runs. HasRecords runs design.now) }
+    ensures terminals { IfOk result (λ runs. runs.terminals ≡ counted_blocks design.now) }
+{
+    Ok(Runs {
+        small: records_between(alloc, design, 1, SMALL)?,
+        middle: records_between(alloc, design, SMALL, MIDDLE)?,
+        wide: records_between(alloc, design, MIDDLE, WIDE)?,
+        large: large_nets(alloc, design)?,
+        terminals: blocks_by_net(alloc, design)?,
+    })
+}
+
+impl Runs {
+    /// A copy.
+    pub(crate) fn copy(&self) -> Result<Runs, AllocError>
+        ensures { IfOk result (λ runs. runs ≡ self.now) }
+    {
+        Ok(Runs {
+            small: self.small.copy()?,
+            middle: self.middle.copy()?,
+            wide: self.wide.copy()?,
+            large: self.large.copy()?,
+            terminals: self.terminals.copy()?,
+        })
+    }
+}

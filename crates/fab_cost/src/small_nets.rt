@@ -1,0 +1,144 @@
+//! What a swap makes of the nets with few terminals: two steps of one block each, where the second sees the first at its new
+//! site. The others' box of a net is the lane-wise least of their positions, and grows by the block's own.
+
+ghost use Rattle.std.specs.Prelude.{◌≡◌, ℕ, ◌<◌, ◌≤◌, ◌+◌, ◌^◌, List, IfOk, Some, length, slice_set};
+ghost use Rattle.fab_net.specs.declared.pieces.BlockId.{BlockId as Block};
+ghost use Rattle.std.specs.List.{All};
+ghost use Rattle.fab_arch.specs.declared.array.Site.{Site as ArraySite};
+ghost use Rattle.fab_net.specs.Netlist.{nets_of};
+ghost use Rattle.fab_site.specs.Placement.{swapped, IsSwapOf};
+ghost use Rattle.fab_cost.specs.Runs.{HasRecords, IsStep, counted_over, few_all, few_cost, positions_after, positions_in, table_from, table_of};
+ghost use Rattle.fab_cost.specs.Swapping.{Position};
+
+use crate::edge_boxes::{Tally, plus};
+use crate::edge_counts::{CountedBox, Edges, NOTHING};
+use crate::lanes::{lanes_of, nowhere};
+use crate::records::change_of_run;
+use crate::runs::Runs;
+use fab_arch::{Grid, Site};
+use fab_net::{BlockId, Design};
+use fab_site::{Placement, Swap};
+use std::alloc::{AllocError, Global};
+use std::simd::prelude::*;
+
+#[tactic(auto, using(crate::proofs::Steps::table_start, crate::proofs::Steps::table_more, crate::proofs::Steps::table_done))]
+/// The position of each block as a vector, and at the end that of no block.
+pub(crate) fn lanes_for(
+    alloc: Global,
+    grid: &Grid,
+    placement: &Placement,
+) -> Result<Vec<u16x4>, AllocError>
+    requires { length placement.now.sites ≤ 65535 }
+    ensures { IfOk result (λ t. t.items ≡ table_of grid.now placement.now.sites) }
+{
+    let mut lanes = Vec::with_capacity(alloc, placement.blocks() + 1)?;
+    'blocks: for number in 0..placement.blocks() {
+        let site = placement.site_of(BlockId(number as u32));
+        lanes.push(lanes_of(grid, site))?;
+    }
+    lanes.push(nowhere())?;
+    Ok(lanes)
+}
+
+#[tactic(auto, using(crate::proofs::Steps::rows_few, crate::proofs::Steps::rows_within, crate::proofs::Steps::lanes_sum))]
+#[inline(always)]
+/// How the cost of the small nets of a block of the swap changes when it goes from one site to another, where the swap's
+/// first block is seen at its new site.
+fn change_of_block(
+    lanes: &[u16x4],
+    runs: &Runs,
+    design: &Design,
+    grid: &Grid,
+    swap: &Swap,
+    block: BlockId,
+    standing: Site,
+    going: Site,
+) -> Tally
+    requires records { HasRecords runs.now design.now }
+    requires table { length lanes.now ≡ length design.now.kinds + 1 }
+    requires block { block.0 < length design.now.kinds }
+    requires moved { swap.now.block.0 < length design.now.kinds }
+    ensures step { (sites : List ArraySite) → length design.now.kinds ≡ length sites → lanes.now ≡ table_of grid.now sites → IsStep (few_cost design.now grid.now (slice_set (slice_set sites swap.now.block.0 swap.now.to) block.0 standing) (nets_of design.now block.0)) (few_cost design.now grid.now (slice_set (slice_set sites swap.now.block.0 swap.now.to) block.0 going) (nets_of design.now block.0)) result.gained result.lost }
+    ensures gained { result.gained < 2 ^ 46 }
+    ensures lost { result.lost < 2 ^ 46 }
+{
+    let _nx = grid.nx();
+    let _ny = grid.ny();
+    let _blocks = design.blocks();
+    let moved = swap.block.0 as u16;
+    let to = lanes_of(grid, swap.to);
+    let base = lanes_of(grid, standing);
+    let target = lanes_of(grid, going);
+    let row = block.0 as usize;
+    let one = change_of_run(lanes, moved, &to, base, target, runs.small.row(row));
+    let two = change_of_run(lanes, moved, &to, base, target, runs.middle.row(row));
+    let three = change_of_run(lanes, moved, &to, base, target, runs.wide.row(row));
+    plus(one, plus(two, three))
+}
+
+#[tactic(auto, using(crate::proofs::Sited::block_below, crate::proofs::Steps::few_none, crate::proofs::Steps::few_some))]
+/// How the swap changes the cost of the small nets: first its block goes, then the other.
+pub(crate) fn change_of_small(
+    lanes: &[u16x4],
+    runs: &Runs,
+    design: &Design,
+    grid: &Grid,
+    placement: &Placement,
+    swap: &Swap,
+) -> Tally
+    requires records { HasRecords runs.now design.now }
+    requires table { lanes.now ≡ table_of grid.now placement.now.sites }
+    requires lawful { IsSwapOf grid.now placement.now.sites swap.now }
+    requires whole { length design.now.kinds ≡ length placement.now.sites }
+    ensures balance { few_all design.now grid.now (swapped placement.now.sites swap.now) + result.lost ≡ few_all design.now grid.now placement.now.sites + result.gained }
+    ensures gained { result.gained < 2 ^ 47 }
+    ensures lost { result.lost < 2 ^ 47 }
+{
+    let first = change_of_block(
+        lanes, runs, design, grid, swap, swap.block, swap.from, swap.to,
+    );
+    match swap.other {
+        None => first,
+        Some(other) => {
+            let second = change_of_block(
+                lanes, runs, design, grid, swap, other, swap.to, swap.from,
+            );
+            plus(first, second)
+        }
+    }
+}
+
+/// Gives the swap's blocks their new positions.
+pub(crate) fn renew_lanes(lanes: &mut Vec<u16x4>, grid: &Grid, swap: &Swap)
+    requires block { swap.now.block.0 + 1 < length lanes.old.items }
+    requires other { (b : Block) → swap.now.other ≡ Some b → b.0 + 1 < length lanes.old.items }
+    ensures swapped { (sites : List ArraySite) → IsSwapOf grid.now sites swap.now → lanes.old.items ≡ table_of grid.now sites → lanes.new.items ≡ table_of grid.now (swapped sites swap.now) }
+    ensures table { (positions : List Position) → lanes.old.items ≡ table_from positions → lanes.new.items ≡ table_from (positions_after grid.now positions swap.now) }
+{
+    lanes[swap.block.0 as usize] = lanes_of(grid, swap.to);
+    if let Some(other) = swap.other {
+        lanes[other.0 as usize] = lanes_of(grid, swap.from);
+    }
+}
+
+#[tactic(auto, using(crate::proofs::Over::table_low, crate::proofs::Over::edges_few, crate::proofs::Over::box_whole))]
+/// The box of some blocks, with the number of them on each edge.
+pub(crate) fn box_over(lanes: &[u16x4], blocks: &[u16]) -> CountedBox
+    requires table { lanes.now ≡ table_from (positions_in lanes.now) }
+    requires within { All (λ k. k < length (positions_in lanes.now)) blocks.now }
+    requires few { length blocks.now ≤ 16 }
+    ensures { result ≡ counted_over (positions_in lanes.now) blocks.now }
+{
+    if blocks.is_empty() {
+        return NOTHING;
+    }
+    let first = lanes[blocks[0] as usize].to_array();
+    let mut x = Edges::one(first[0]);
+    let mut y = Edges::one(first[2]);
+    'blocks: for i in 1..blocks.len() {
+        let one = lanes[blocks[i] as usize].to_array();
+        x = x.with(one[0]);
+        y = y.with(one[2]);
+    }
+    CountedBox { x, y }
+}
