@@ -1,4 +1,4 @@
-// The board and its seats: one word, to which each claim adds 1.
+//! The board and its seats: one word, to which each claim adds 1.
 ghost use Rattle.std.specs.Prelude.{◌≡◌, ℕ, ◌+◌, ◌^◌, ◌<◌, ◌≤◌, List, [], ◌∷◌, ◌++◌, Bool, true, false, cond, length, sum_by, All, Any, IfOk, IfSome, IfNone, None, IsPermutation};
 ghost use Rattle.std.specs.List.{range_with_len};
 ghost use Rattle.fab_board.specs.Counts.{times};

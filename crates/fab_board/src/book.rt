@@ -1,4 +1,4 @@
-// The list of everything that was posted, which only grows, and prefixes of it that threads carry. No thread keeps the list itself.
+//! The list of everything that was posted, which only grows, and prefixes of it that threads carry. No thread keeps the list itself.
 ghost use Rattle.std.specs.Prelude.{◌≡◌, ◌+◌, ◌<◌, ◌^◌, ◌++◌, ◌∷◌, [], length, true, MatchBool};
 ghost use Rattle.fab_board.specs.Posts.{head_of};
 
@@ -26,7 +26,7 @@ impl<E> Rule<E, u64> for Law {
     ghost moves = { λ ask before after answer. Unit {0} };
 }
 
-/// Callers trade nothing.
+/// A step gives its caller nothing in exchange.
 pub struct Nothing;
 
 impl<E> Gain<E, u64> for Nothing {
@@ -53,8 +53,8 @@ impl<E> Plain<E, E, u64> for Add {
     ghost state = { λ entry. None };
 }
 
-/// Names a book. The name is part of a crew's type, so its threads cannot take the book of another crew. Each call of a program
-/// picks it.
+/// Names a book. The name is part of a crew's type, so its threads cannot take the book of another crew. Each call that
+/// makes a crew picks its own.
 pub trait Naming {
     ghost use Rattle.logbook.specs.Pages.{Book};
 
@@ -65,7 +65,7 @@ impl Naming for Brand {
     ghost book = { record { number = 0; log_name = 0; cells_name = 0 } };
 }
 
-/// An empty book that has no name yet. A crew is founded on it. Contracts see it as that book.
+/// An empty book that has no name yet. A crew is made from it. Contracts see it as that book.
 pub struct Opened<E> {
     head: Word<E, u64, Law>,
     seen: Seen<E, u64, Law>,
@@ -93,7 +93,7 @@ impl<E> Opened<E> {
         }
     }
 
-    /// The book's word under a name, and a front that has seen nothing.
+    /// Gives the book a name. Returns its word, and a front that has seen nothing.
     pub fn named<J: Naming>(self) -> (Book<E, J>, Front<E, J>)
         requires { self ≡ J.book }
         ensures { result.1 ≡ [] }

@@ -1,5 +1,5 @@
-// A crew of threads that lasts from turn to turn. Its owner posts a job, does something else while the crew judges the job's
-// numbers, and collects an answer for each.
+//! A crew of threads that judges one job after another. Its owner posts a job, does something else while the crew judges the job's
+//! numbers, and collects an answer for each.
 ghost use Rattle.std.specs.Prelude.{◌≡◌, ℕ, ◌<◌, ◌≤◌, [], length, true, Option, Some, None, IfOk, OnOk, OnErr, IfSome};
 ghost use Rattle.std.specs.Arc.{arc_value};
 ghost use Rattle.fab_board.specs.Posts.{latest};

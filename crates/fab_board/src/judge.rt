@@ -1,4 +1,4 @@
-// A batch of numbers that threads judge with one borrowed closure.
+//! A batch of numbers that threads judge with one borrowed closure.
 ghost use Rattle.std.specs.Prelude.{◌≡◌, ℕ, ◌+◌, ◌^◌, ◌<◌, ◌≤◌, [], true, length, Ok, IfOk, slice_index_or, All};
 ghost use Rattle.fab_board.specs.Judged.{numbers, Answered, IsWorked};
 
@@ -38,7 +38,8 @@ type Worked<T> = (ClaimSeat, Result<Vec<(u64, T)>, AllocError>);
 /// threads that claim the numbers one by one. A single worker takes them in order, in the caller's thread. A worker calls `judge` for a
 /// number between the gate's two calls, and all workers have ended when this returns. Entry j is an answer for `first + j`.
 ///
-/// An error means that memory ran out, in `judge` or here. A worker that the system refuses to start leaves its numbers to the others.
+/// An error means that memory ran out, in `judge` or here. If the system starts no thread for a worker, that worker runs later in the
+/// thread that tried to start it.
 pub fn judge_batch<
     T: Send + Drop,
     G: Gate,
@@ -117,7 +118,7 @@ fn spread<
     ensures len { IfOk result (λ v. length v.items ≡ length seats.items) }
     ensures each { IfOk result (λ v. All (λ w. IsWorked board.now.name (λ k x. F.post by.now.judge.now (first + k) (Ok x)) w.0 w.1) v.items) }
 {
-    // A thread's closure does not support a struct that borrows, so it captures the fields.
+    // A thread's closure cannot capture a struct that borrows, so it captures the fields.
     let gate = by.gate;
     let judge = by.judge;
     let worker = |seat: ClaimSeat| -> Worked<T>

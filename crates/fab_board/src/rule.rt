@@ -1,4 +1,4 @@
-// The invariant of the board's one word and of what its seats know, and the names of the steps that keep it.
+//! The invariant of the board's one word and of what its seats know, and the names of the steps that keep it.
 use atomic_table::{Join, Play, Split, TableRule};
 use std::collections::LinkedList;
 

@@ -1,5 +1,5 @@
-//! Annealing: moves are judged and committed, and lead to a placement. `run` is what a run of the program executes. `model` and
-//! `laws` are executed by tests alone: contracts speak of them, and whoever builds another scheduler can.
+//! Annealing: moves are judged and committed, and lead to a placement. `run` is what a run of the program executes. `model` is
+//! executed by tests alone: contracts speak of it, and another scheduler can be built on it. `laws` are theorems for callers.
 #![tactic(auto)]
 
 #[cfg(test)]

@@ -1,4 +1,4 @@
--- What a piece of a run shows on a dial: how far it has come, once for each answered turn that made moves (our own).
+-- What a piece of a run shows on a dial: how far it has come, once for each turn that succeeds and made moves (our own).
 use Rattle.std.specs.Prelude.{ℕ, ◌≡◌, ◌+◌, ◌-◌, ◌≤◌, ◌⊎◌, List, ◌++◌, Option}
 use Rattle.fab_dial.specs.declared.readings.Reading.{Reading}
 use Rattle.fab_commit.specs.Serial.{Run, Standing, from}

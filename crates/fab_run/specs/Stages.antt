@@ -44,7 +44,8 @@ pub record AreCut (r : Run) (x : Standing) (stop : Option ℕ) (old new : Option
   pub begun : (n : ℕ) × (k : ℕ) × IsWithin r x stop n × Appends old new (take k (stage_lines r x n))
   pub short : e ≡ Report → (n : ℕ) × IsWithin r x stop n × IsCut (stage_lines r x n) old new
 
--- an annealer made the moves of a piece with a crew, reported and shown; or it was cut off, and a beginning was reported and shown
+-- an annealer made the moves of a piece with a crew, and reported and showed them; or it was cut short, and reported and showed a
+-- beginning of them
 pub record IsMadeBeside {W : Type 0} (moves : W → ℕ → List ℕ) (stop : Option ℕ) (batch : ℕ) (a b : AnnealOf W) (costs0 costs1 : List ℕ) (shown0 shown1 : List Reading) (old new : Option (List ℕ)) (failed0 failed1 : ℕ) (answer : Result (Unit {0}) RunFault) : Type 0 where
   pub same : IsSameRun a b
   pub made : OnOk answer (AreMade moves stop batch a b costs0 costs1 old new)

@@ -1,5 +1,5 @@
 -- What the watchers of a dial read, where only turns and pieces of runs showed readings (our own).
-use Rattle.std.specs.Prelude.{ℕ, ◌≡◌, ◌+◌, ◌<◌, ◌⊎◌, List, [], ◌∷◌, ◌++◌, map, All, Result, refl}
+use Rattle.std.specs.Prelude.{ℕ, ◌≡◌, ◌<◌, ◌⊎◌, List, [], ◌∷◌, ◌++◌, map, All, Result, refl}
 use Rattle.std.specs.declared.alloc.AllocError.{AllocError}
 use Rattle.fab_dial.specs.declared.readings.Reading.{Reading}
 use Rattle.fab_dial.specs.Shown.{StartsWith}
@@ -76,7 +76,7 @@ pub record IsAfter (s : Source) (q : Reading) : Type 0 where
   pub made : AreMadeAll s.run s.start count
   pub reading : q ≡ reading_at s.run (from s.run s.start count)
 
--- the reading is one of these sources
+-- the reading is one after moves of one of these sources
 abbrev pub IsAfterOne : List Source → Reading → Type 0
 IsAfterOne [] q = ⊥
 IsAfterOne (s ∷ sources) q = IsAfter s q ⊎ IsAfterOne sources q
@@ -92,10 +92,10 @@ WatchersReadInOrder moves =
     (first : Reading) (s : Source) (shown seen : List Reading) → Showed moves s (first ∷ []) shown → StartsWith shown seen
     → (seen ≡ []) ⊎ ((rest : List Reading) × (seen ≡ first ∷ rest) × AreOf s.run s.start rest)
 
--- no turn shows nothing
+-- where no turn is made, nothing is shown
 no_turn : {W : Type 0} (moves : W → ℕ → List ℕ) (a : AnnealOf W) (old : List Reading) → HaveTurned moves [] a a old old
 no_turn moves a old = (refl, refl)
 
--- nobody showed anything
+-- where no source shows, the list stays as it was
 nobody : {W : Type 0} (moves : W → ℕ → List ℕ) (old : List Reading) → OnlyShowed moves [] old old
 nobody moves old = refl

@@ -74,8 +74,8 @@ fn begin<'a>(
 /// at the end of the last one. Turns have `batch` moves, counted from the first move of each stage; the last one of a stage or of a
 /// stopped run may be shorter. The shower must be one of this dial.
 ///
-/// The gate is called before and after each judgement of a worker, and before each commit. The placement and the output are those of
-/// `place_run`, whatever the gate does, if its calls return.
+/// The gate is called before and after each judgement that is made ahead, and before each commit. The placement and the output are
+/// those of `place_run`, whatever the gate does, if its calls return.
 pub fn place_run_shown<G: Gate, R: AllocGlobal + Threads + Wait + Sync, W: Sink, P: Sink>(
     rt: &R,
     inputs: &Inputs,

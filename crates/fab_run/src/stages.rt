@@ -28,7 +28,7 @@ use std::thread::Threads;
 pub(crate) struct Pace {
     /// How many moves a stage has.
     pub(crate) moves: u64,
-    /// How many moves a turn commits.
+    /// How many moves a turn commits at most.
     pub(crate) batch: u64,
     /// How many workers judge ahead.
     pub(crate) workers: u64,

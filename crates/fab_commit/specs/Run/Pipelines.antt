@@ -40,14 +40,14 @@ pub record IsBehind (r : Run) (t : LastTurn) (s : Pipeline) : Type 0 where
   pub before : AreBefore s.owner.state.done log
   pub recent : filter (since t.start.done) log ≡ accepted_from r t.start t.made
 
--- a turn after turn t, which made `made` moves and judged `ahead` moves ahead
+-- after turn t came a turn that made `made` moves and judged `ahead` moves ahead
 pub record HasTurned (r : Run) (t : LastTurn) (s : Pipeline) (made ahead : ℕ) (now : Pipeline) : Type 0 where
   pub behind : IsBehind r (record { start = stands r t; made = made; ahead = ahead }) now
   pub accepted : now.owner.state.accepted.items ≡ s.owner.state.accepted.items ++ accepted_among r (stands r t) made
   pub redone : now.owner.redone ≡ s.owner.redone + count_by (is_redone_behind r t) (range_with_len (stands r t).done made)
 
 -- a turn of at most `batch` moves, whatever turn led to it: it made its moves and judged the next batch; or it was cut short, because memory
--- ran out, and nothing is judged ahead
+-- ran out, and nothing is judged ahead; memory runs out only if moves were left
 pub record TurnsOn {A : Type 0} (r : Run) (batch : ℕ) (s now : Pipeline) (answer : Result A AllocError) : Type 0 where
   pub within : (s.owner.state.done ≤ now.owner.state.done) × (now.owner.state.done ≤ s.owner.state.done + min batch (moves_left r (standing_of s.owner.state)))
   pub ok : OnOk answer ((t : LastTurn) → IsBehind r t s → HasTurned r t s (next_turn r batch t).made (next_turn r batch t).ahead now)

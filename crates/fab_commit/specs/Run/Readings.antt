@@ -1,4 +1,4 @@
--- What annealing shows on a dial (our own): how far a run has come, once for each answered turn that made moves.
+-- What annealing shows on a dial (our own): how far a run has come, once for each turn that succeeds and made moves.
 use Rattle.std.specs.Prelude.{ℕ, ◌≡◌, zero, suc, ◌+◌, ◌<◌, ◌≤◌, ◌==◌, Bool, List, [], ◌∷◌, ◌++◌, map, Result, OnOk, OnErr, refl}
 use Rattle.std.specs.List.{filter, range_with_len}
 use Rattle.std.specs.declared.alloc.AllocError.{AllocError}
@@ -36,7 +36,8 @@ readings r x batch n = map (λ k. reading_at r (from r x k)) (shown_after r.plan
 abbrev pub IsCutAfter : ℕ → ℕ → ℕ → ℕ → Type 0
 IsCutAfter moves start batch n = cut_of moves start batch (start + n) ≡ start + n
 
--- turns of this batch led from x to y, and what is shown now are the readings before and then those of the turns
+-- turns of this batch led from x to y, where the next one would begin; what is shown now is what was shown before, and then
+-- their readings
 pub record HasShown (r : Run) (batch : ℕ) (x : Standing) (before : List Reading) (y : Standing) (now : List Reading) : Type 0 where
   pub count : ℕ
   pub done : y.done ≡ x.done + count

@@ -37,7 +37,8 @@ pub fn found_crew<E: Task<T>, T: Drop, J: Naming>(
     Ok((Crew { shared, workers }, lead))
 }
 
-/// Runs `make` on the owner while the crew works, and waits until all workers have gone home.
+/// Runs `make` on the owner while the crew works, and returns when all workers have ended. They end when the crew's `Lead` is dropped,
+/// so `make` must drop it: otherwise this call never returns.
 // The owner's type is a parameter, since the threads' closures do not support a type that both borrows and has parameters.
 pub fn beside<
     E: Task<T> + Send + Sync,

@@ -58,9 +58,9 @@ fn stamp<W: Words>(given: &Given<'_, W>, stamps: &mut Stamps, number: u64, decis
     }
 }
 
-/// How the next move is made, which was judged on the placement after `base` moves; and whether it was judged again for that. If a
-/// move accepted since has touched what the verdict rests on, the move is decided on the live placement. Otherwise it is made as it was
-/// judged. Allocates nothing.
+/// Decides the next move, whose verdict was judged on the placement after `base` moves. Returns the decision, and whether the move was
+/// judged again: it is, on the live placement, if a move accepted since has touched what the verdict rests on. Otherwise the verdict is
+/// taken. Allocates nothing.
 fn decided<W: Words>(
     given: &Given<'_, W>,
     owner: &Owner,

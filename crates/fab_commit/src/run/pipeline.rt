@@ -102,7 +102,7 @@ fn reserve(owner: &mut Owner, moves: u64) -> Result<(), AllocError>
     Ok(())
 }
 
-/// Judges moves of the running stage on the older placement. None need no worker and no memory.
+/// Judges moves of the running stage on the older placement. If there are none, this takes no worker and no memory.
 fn judge_missing<'a, 'g, W: Words + Sync + Drop, G: Gate, J: Naming, R: Threads + Wait + Sync>(
     rt: &R,
     given: &Arc<Given<'a, W>>,

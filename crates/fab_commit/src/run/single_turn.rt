@@ -94,7 +94,8 @@ impl<'a, W: Words + Send + Sync + Drop> Anneal<'a, W> {
     /// While these moves are committed in order of number, `workers` workers, from 1 to 64, judge the next batch of the stage on the
     /// placement at the turn's start, which does not change meanwhile. Verdicts beyond this batch are discarded, and moves of this batch
     /// that have no verdict are judged first. A move is judged again if a move accepted since has touched what its verdict rests on. The
-    /// gate is called before and after each judgement of a worker, and before each commit.
+    /// gate is called before and after each judgement that is made ahead, and before each commit. Once the calling thread has committed
+    /// its moves, it judges too; if there is no memory for a crew, it judges alone.
     ///
     /// An error means that memory ran out. Then the moves that were committed stay, as `done` tells, all workers have ended, nothing is
     /// judged ahead, and another turn can go on.

@@ -118,6 +118,7 @@ impl Stamps {
     }
 }
 
+/// The stamp at an index; 0 beyond the end.
 fn stamp_at(stamps: &[u64], index: usize) -> u64
     ensures { result ≡ slice_index stamps.now index }
 {

@@ -1,4 +1,4 @@
-//! Who judges moves ahead: a crew that lasts from turn to turn or, if there is none, the owner alone.
+//! Who judges moves ahead: a crew or, if there is none, the owner alone.
 
 ghost use Rattle.std.specs.Prelude.{◌≡◌, ◌^◌, ◌<◌, ◌≤◌, false, length, Some, IfOk, OnOk};
 ghost use Rattle.std.specs.Arc.{arc_value};
@@ -83,7 +83,8 @@ impl<'a, 'g, W: Words + Drop, G: Gate, J: Naming> Workers<'a, 'g, W, G, J> {
         self.crew = None;
     }
 
-    /// Has these moves judged on the older placement, by the crew from now on. An error means that memory ran out.
+    /// Hands out these moves, to be judged on the older placement. A crew begins at once; without one, `collect` judges them. An error
+    /// means that memory ran out.
     pub(crate) fn post<R: Wait>(
         &mut self,
         rt: &R,

@@ -29,5 +29,5 @@ loop-accepted-preserved g c =
       ap (λ (p : PlacementOf). p.grid) moved ∙ c.loop-accepted.invariant.0,
       subst (λ v. IsCatchingUp d grid c.take_over.new.self v (drop (i + 1) c.args.swaps.now) live.placement.sites) (sym (ap (λ (p : PlacementOf). p.sites) moved))
           (goes_on d grid older.cost c.take_over.new.self live.cost older.placement.sites _ (drop (i + 1) c.args.swaps.now) live.placement.sites up c.requires.live.cost c.take_over.ensures.total
-            (c.take_over.ensures.way older.placement.sites live.placement.sites up.way c.requires.live.cost up.leads.0)),
+          (c.take_over.ensures.way older.placement.sites live.placement.sites up.way c.requires.live.cost up.leads.0)),
     )
