@@ -1,8 +1,8 @@
 #!/bin/sh
-# How long a `delta` takes on designs of 200 and of 9,583 blocks, with whole boxes and with edge counts, and the ratio of the two designs.
-# The swaps are of two random blocks, on the stored placements of examples. Since the blocks of the larger design have more nets, the time
-# for each net of the two blocks is printed too.
-# usage: bench/delta.sh
+# How long a change of cost takes, for far swaps and near ones, with whole boxes and with edge counts, on the stored placements of four
+# examples and of each further /PATH/NAME.arch, .net and .place. A far swap is of two random blocks; a near one leads to a site at
+# most three columns and three rows away. Each figure is the least of nine rounds, less the time of the draws alone.
+# usage: bench/delta.sh [/PATH/NAME ..]
 set -eu
 here=$(cd "$(dirname "$0")" && pwd)
 . "$here/scratch.sh"
@@ -10,10 +10,10 @@ scratch_with bench_delta "fab_arch fab_net fab_site fab_file fab_cost anyhow" <<
 //! Times changes of cost on the designs with the given names.
 #![tactic(auto)]
 
-ghost use Rattle.std.specs.Prelude.{◌≡◌, IfOk, IfSome, Some, length, slice_get};
+ghost use Rattle.std.specs.Prelude.{◌≡◌, IfSome, Some, length, slice_get};
 ghost use Rattle.fab_site.specs.Placement.{IsSwapOf};
 
-use fab_arch::{Grid, read_arch};
+use fab_arch::{Grid, Site, read_arch};
 use fab_cost::{Boxes, EdgeBoxes, WireCost};
 use fab_file::{place_size, read_place};
 use fab_net::{BlockId, Design, read_net};
@@ -22,10 +22,20 @@ use std::alloc::Global;
 use std::time::{Clock, Instant};
 use std::{env, fs, io};
 
-const DRAWS: u32 = 1_000_000;
+const DRAWS: u32 = 200_000;
+const ROUNDS: u32 = 9;
+
+// Where a block that is drawn goes.
+#[derive(Clone, Copy)]
+enum Reach {
+    // To the site of another block.
+    Far,
+    // To a site at most three columns and three rows away.
+    Near,
+}
 
 // The site of the block with this number, if there is one.
-fn site_of_block(placement: &Placement, block: BlockId) -> Option<fab_arch::Site>
+fn site_of_block(placement: &Placement, block: BlockId) -> Option<Site>
     ensures { IfSome result (λ s. slice_get placement.now.sites block.0 ≡ Some s) }
 {
     if (block.0 as usize) < placement.blocks() {
@@ -35,14 +45,13 @@ fn site_of_block(placement: &Placement, block: BlockId) -> Option<fab_arch::Site
     }
 }
 
-// The swap of two blocks of one kind.
-fn swap_of(placement: &Placement, grid: &Grid, block: BlockId, other: BlockId) -> Option<Swap>
-    requires { placement.now.grid ≡ grid.now }
-    ensures { IfSome result (λ s. IsSwapOf placement.now.grid placement.now.sites s) }
+// The swap that takes a block to a site of the same kind as its own.
+fn swap_to(placement: &Placement, grid: &Grid, block: BlockId, to: Site) -> Option<Swap>
+    ensures { IfSome result (λ s. IsSwapOf grid.now placement.now.sites s) }
 {
     let from = site_of_block(placement, block)?;
-    let to = site_of_block(placement, other)?;
-    if from == to || grid.has_site(from) != grid.has_site(to) {
+    let kind = grid.has_site(from);
+    if from == to || kind.is_none() || grid.has_site(to) != kind {
         return None;
     }
     let other = placement.at(to);
@@ -58,72 +67,129 @@ fn block_from(state: u64, blocks: usize) -> BlockId {
     BlockId(((state >> 33) % (blocks as u64).max(1)) as u32)
 }
 
-// The nanoseconds of only the draws, and a result of them, so that they are computed.
-fn drawing<R: Clock>(rt: &R, grid: &Grid, placement: &Placement) -> io::Result<(u128, u64)>
-    requires { placement.now.grid ≡ grid.now }
-{
-    let blocks = placement.blocks();
-    let begun = Instant::now(rt)?;
-    let mut state = 1;
-    let mut sum: u64 = 0;
-    for _ in 0..DRAWS {
-        let first = next(state);
-        state = next(first);
-        if let Some(swap) = swap_of(placement, grid, block_from(first, blocks), block_from(state, blocks)) {
-            sum = sum.wrapping_add(u64::from(swap.to.x));
-        }
-    }
-    Ok((begun.elapsed(rt)?.as_nanos(), sum))
+// A number from -3 to 3, wrapped.
+fn step(bits: u64) -> u16 {
+    ((bits % 7) as u16).wrapping_sub(3)
 }
 
-// The time of the draws and of the changes of cost of the swaps that they give.
+fn target(placement: &Placement, block: BlockId, state: u64, reach: Reach) -> Option<Site> {
+    match reach {
+        Reach::Far => site_of_block(placement, block_from(state, placement.blocks())),
+        Reach::Near => {
+            let from = site_of_block(placement, block)?;
+            let x = from.x.wrapping_add(step(state >> 20));
+            let y = from.y.wrapping_add(step(state >> 40));
+            Some(Site { x, y, sub: from.sub })
+        }
+    }
+}
+
+// A swap that two numbers draw.
+fn drawn(placement: &Placement, grid: &Grid, first: u64, second: u64, reach: Reach) -> Option<Swap>
+    ensures { IfSome result (λ s. IsSwapOf grid.now placement.now.sites s) }
+{
+    let block = block_from(first, placement.blocks());
+    let to = target(placement, block, second, reach)?;
+    swap_to(placement, grid, block, to)
+}
+
+// The time of the draws, and of what was done for each swap that they gave.
 #[derive(Clone, Copy)]
 struct Timed {
     nanoseconds: u128,
-    changes: u64,
-    // A sum of all changes, so that they are computed.
+    swaps: u64,
+    // A sum of all that was done, so that it is done.
     sum: i64,
 }
 
+// The draws only.
+fn drawing<R: Clock>(rt: &R, grid: &Grid, placement: &Placement, reach: Reach) -> io::Result<Timed>
+{
+    let begun = Instant::now(rt)?;
+    let mut state = 1;
+    let mut swaps: u64 = 0;
+    let mut sum: i64 = 0;
+    for _ in 0..DRAWS {
+        let first = next(state);
+        state = next(first);
+        if let Some(swap) = drawn(placement, grid, first, state, reach) {
+            swaps = swaps.wrapping_add(1);
+            sum = sum.wrapping_add(i64::from(swap.to.x));
+        }
+    }
+    let nanoseconds = begun.elapsed(rt)?.as_nanos();
+    Ok(Timed { nanoseconds, swaps, sum })
+}
+
+// The draws, and the change of cost of each swap.
 fn changing<R: Clock, W: WireCost>(
     rt: &R,
     wire: &W,
     design: &Design,
     grid: &Grid,
     placement: &Placement,
+    reach: Reach,
 ) -> io::Result<Timed>
     requires stands { W.StandsFor wire.now design.now grid.now placement.now.sites }
-    requires grid { placement.now.grid ≡ grid.now }
 {
-    let blocks = placement.blocks();
     let begun = Instant::now(rt)?;
     let mut state = 1;
-    let mut changes: u64 = 0;
+    let mut swaps: u64 = 0;
     let mut sum: i64 = 0;
     for _ in 0..DRAWS {
         let first = next(state);
         state = next(first);
-        if let Some(swap) = swap_of(placement, grid, block_from(first, blocks), block_from(state, blocks)) {
-            changes = changes.wrapping_add(1);
+        if let Some(swap) = drawn(placement, grid, first, state, reach) {
+            swaps = swaps.wrapping_add(1);
             sum = sum.wrapping_add(wire.delta(design, grid, placement, &swap));
         }
     }
     let nanoseconds = begun.elapsed(rt)?.as_nanos();
-    Ok(Timed { nanoseconds, changes, sum })
-}
-
-// How many nets the blocks have on average, in hundredths, for two of them.
-fn nets_of_two(design: &Design) -> u64 {
-    let mut nets: u64 = 0;
-    for block in 0..design.blocks() {
-        nets = nets.saturating_add(design.nets_of(BlockId(block as u32)).len() as u64);
-    }
-    nets.saturating_mul(200) / (design.blocks() as u64).max(1)
+    Ok(Timed { nanoseconds, swaps, sum })
 }
 
 // The picoseconds of one change of cost.
-fn picoseconds(timed: Timed, drawing: u128) -> u128 {
-    timed.nanoseconds.saturating_sub(drawing).saturating_mul(1000) / u128::from(timed.changes).max(1)
+fn picoseconds(timed: Timed, alone: Timed) -> u128 {
+    timed.nanoseconds.saturating_sub(alone.nanoseconds).saturating_mul(1000) / u128::from(timed.swaps).max(1)
+}
+
+fn compare<R: Clock + Print, B: WireCost, E: WireCost>(
+    rt: &R,
+    boxes: &B,
+    edges: &E,
+    design: &Design,
+    grid: &Grid,
+    placement: &Placement,
+    reach: Reach,
+    name: &str,
+) -> anyhow::Result<()>
+    requires boxes { B.StandsFor boxes.now design.now grid.now placement.now.sites }
+    requires edges { E.StandsFor edges.now design.now grid.now placement.now.sites }
+{
+    let blocks = design.blocks();
+    for _ in 0..ROUNDS {
+        let alone = drawing(rt, grid, placement, reach)?;
+        let whole = changing(rt, boxes, design, grid, placement, reach)?;
+        let counted = changing(rt, edges, design, grid, placement, reach)?;
+        println!(rt; "{blocks} {name} whole {} {} {}", picoseconds(whole, alone), whole.swaps, whole.sum)?;
+        println!(rt; "{blocks} {name} counted {} {} {}", picoseconds(counted, alone), counted.swaps, counted.sum)?;
+    }
+    Ok(())
+}
+
+fn compare_both<R: Clock + Print, B: WireCost, E: WireCost>(
+    rt: &R,
+    boxes: &B,
+    edges: &E,
+    design: &Design,
+    grid: &Grid,
+    placement: &Placement,
+) -> anyhow::Result<()>
+    requires boxes { B.StandsFor boxes.now design.now grid.now placement.now.sites }
+    requires edges { E.StandsFor edges.now design.now grid.now placement.now.sites }
+{
+    compare(rt, boxes, edges, design, grid, placement, Reach::Far, "far")?;
+    compare(rt, boxes, edges, design, grid, placement, Reach::Near, "near")
 }
 
 fn measure<R: Clock + Print>(
@@ -133,23 +199,14 @@ fn measure<R: Clock + Print>(
     grid: &Grid,
     placement: &Placement,
 ) -> anyhow::Result<()>
-    requires grid { placement.now.grid ≡ grid.now }
-    requires whole { length design.now.kinds ≡ length placement.now.sites }
+    requires { length design.now.kinds ≡ length placement.now.sites }
 {
-    let boxes = Boxes::new(alloc, design, grid, placement)?;
     let edges = EdgeBoxes::new(alloc, design, grid, placement)?;
-    let drawing = drawing(rt, grid, placement)?;
-    let whole = changing(rt, &boxes, design, grid, placement)?;
-    let counted = changing(rt, &edges, design, grid, placement)?;
-    let nets = nets_of_two(design);
-    let blocks = design.blocks();
-    println!(rt; "{blocks} whole {} ps {nets} nets {} {}", picoseconds(whole, drawing.0), whole.sum, drawing.1)?;
-    println!(rt; "{blocks} counted {} ps {nets} nets {}", picoseconds(counted, drawing.0), counted.sum)?;
-    Ok(())
+    let boxes = Boxes::new(alloc, design, grid, placement)?;
+    compare_both(rt, &boxes, &edges, design, grid, placement)
 }
 
 fn read_place_of(alloc: Global, place: &[u8], design: &Design, io_rat: u16) -> anyhow::Result<(Grid, Placement)>
-    ensures { IfOk result (λ r. r.1.grid ≡ r.0) }
 {
     let (nx, ny) = place_size(alloc, place)?;
     let grid = Grid::new(nx, ny, io_rat)?;
@@ -182,19 +239,14 @@ fn main(rt: HostRuntime) -> anyhow::Result<()> {
     Ok(())
 }
 MAIN
-few=$top/examples/c880_ble
-many=$top/examples/duo_ble
 cd "$work/repo/crates/bench_delta"
-rt run -- "$few" "$many" "$few" "$many" "$few" "$many" 2>> "$work/log" > "$work/times" || { tail -n 40 "$work/log"; exit 1; }
-awk '{
-         name = $1 " " $2
-         if (!(name in best) || $3 < best[name]) best[name] = $3
-         nets[name] = $5 / 100
-     }
-     END {
-         kinds["whole"] = "whole boxes"; kinds["counted"] = "edge counts"
-         for (kind in kinds) {
-             few = best["200 " kind] / 1000; many = best["9583 " kind] / 1000
-             printf "%s: %.0f ns at 200 blocks, %.0f ns at 9,583, ratio %.2f; for each net of the two blocks %.1f and %.1f ns, ratio %.2f\n", kinds[kind], few, many, many / few, few / nets["200 " kind], many / nets["9583 " kind], (many / nets["9583 " kind]) / (few / nets["200 " kind])
-         }
-     }' "$work/times"
+rt run -- "$top/examples/c880_ble" "$top/examples/grom_ble" "$top/examples/picorv32_cl4" "$top/examples/duo_ble" "$@" 2>> "$work/log" > "$work/times" || { tail -n 40 "$work/log"; exit 1; }
+sort -s -n -k 1,1 -k 4,4 "$work/times" | awk '
+    { name = $1 " blocks, " $2; if (!(name in seen)) { seen[name] = 1; order[++n] = name } }
+    !((name, $3) in best) { best[name, $3] = $4 / 1000 }
+    sums[name] == "" { sums[name] = $6 }
+    $6 != sums[name] { print name ": the sums of changes differ"; bad = 1 }
+    END {
+        for (i = 1; i <= n; i++) printf "%s: %.0f ns with whole boxes, %.0f with edge counts\n", order[i], best[order[i], "whole"], best[order[i], "counted"]
+        exit bad
+    }'

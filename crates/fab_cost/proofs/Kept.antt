@@ -114,7 +114,7 @@ large_have d g sites nets ps kept e long have = record {
       sym (seen_large nets ps kept n low many) ∙ have.each n p.0 ∙ sym (box_large d g sites n);
 }
 
-map_each : (f h : ℕ → ℕ) (ks : List ℕ) → ((i : ℕ) → i < length ks → f (get_or ks i 0) ≡ h (get_or ks i 0)) → map f ks ≡ map h ks
+pub map_each : (f h : ℕ → ℕ) (ks : List ℕ) → ((i : ℕ) → i < length ks → f (get_or ks i 0) ≡ h (get_or ks i 0)) → map f ks ≡ map h ks
 map_each f h [] same = refl
 map_each f h (k ∷ ks) same =
     let rest = map_each f h ks (λ i l. same (suc i) (omega (arith, l))) in

@@ -1,20 +1,21 @@
 -- A value whose placement is on its way to another: one more swap.
-use Rattle.std.proofs.Common.{◌≡◌, ℕ, ◌<◌, ◌≤◌, Bool, true, false, cond, List, [], length, get_or, map, refl, sym, ap, ◌∙◌, arith, inl, inr}
-use Rattle.std.proofs.lemmas.Bool.{cases_lt}
+use Rattle.std.proofs.Common.{◌≢◌, zero, suc, eqb, set, ◌∷◌, Option, Some, None, get_or-set_other, ◌≡◌, ℕ, ◌<◌, ◌≤◌, Bool, true, false, cond, List, [], length, get_or, map, refl, sym, ap, ◌∙◌, arith, inl, inr}
+use Rattle.std.proofs.lemmas.Bool.{cases_lt, eq-eqb, false≢true}
 use Rattle.std.proofs.lemmas.List.{length-map}
 use Rattle.fab_arch.specs.declared.array.Site.{Site}
 use Rattle.fab_arch.specs.Grid.{GridShape}
 use Rattle.fab_net.specs.Netlist.{Netlist, has_number, IsLawful}
+use Rattle.fab_net.specs.declared.pieces.BlockId.{BlockId}
 use Rattle.fab_site.specs.declared.pieces.Swap.{Swap}
 use Rattle.fab_site.specs.Placement.{swapped}
 use Rattle.fab_site.proofs.Swaps.{length-swapped}
 use Rattle.fab_cost.specs.declared.edge_counts.CountedBox.{CountedBox}
 use Rattle.fab_cost.specs.Boxes.{Counts}
 use Rattle.fab_cost.specs.Cost.{cost_of, sites_on}
-use Rattle.fab_cost.specs.Edges.{counted_box, counted_on}
+use Rattle.fab_cost.specs.Edges.{counted_box, counted_on, edges_of}
 use Rattle.fab_cost.specs.Swapping.{CountedBoxesOf, CountedStandsFor, HaveBoxes, IsOnTheWay, Position, position_at, blocks_of, counted_at, counted_blocks, has_block, is_on_swap}
-use Rattle.fab_cost.specs.Runs.{boxes_seen, counted_over}
-use Rattle.fab_cost.proofs.Kept.{nets_long, over_is, row_counted, seen_large, seen_long, seen_small}
+use Rattle.fab_cost.specs.Runs.{boxes_seen, counted_over, no_position, positions_after, positions_with}
+use Rattle.fab_cost.proofs.Kept.{nets_long, over_is, row_counted, seen_large, seen_long, seen_small, map_each}
 use Rattle.fab_cost.proofs.Renewals.{none_left}
 use Rattle.fab_cost.proofs.Split.{same_sites}
 
@@ -64,6 +65,40 @@ one_more d g sites there s nets fnets ps fps qs old fkept kept was total is ef u
           ];
       whole = whole;
     }
+
+-- a net of no block of the swap is left as it was
+
+with_stays : (g : GridShape) (ps : List Position) (o : Option BlockId) (s : Site) (k : ℕ) → ((b : BlockId) → o ≡ Some b → k ≢ b.0) → get_or (positions_with g ps o s) k no_position ≡ get_or ps k no_position
+with_stays g ps None s k ne = refl
+with_stays g ps (Some b) s k ne = get_or-set_other ps b.0 k (position_at g s) no_position (ne b refl)
+
+position_stays : (g : GridShape) (ps : List Position) (s : Swap) (k : ℕ) → k ≢ s.block.0 → ((b : BlockId) → s.other ≡ Some b → k ≢ b.0) → get_or (positions_after g ps s) k no_position ≡ get_or ps k no_position
+position_stays g ps s k one other = with_stays g (set ps s.block.0 (position_at g s.to)) s.other s.from k other ∙ get_or-set_other ps s.block.0 k (position_at g s.to) no_position one
+
+each_apart : (v : ℕ) (xs : List ℕ) → has_number v xs ≡ false → (i : ℕ) → i < length xs → get_or xs i 0 ≢ v
+each_apart v [] f i h = absurd (omega arith)
+each_apart v (x ∷ xs) f zero h = λ e. false≢true (sym (none_left (eqb v x) (has_number v xs) f).0 ∙ eq-eqb v x (sym e))
+each_apart v (x ∷ xs) f (suc i) h = each_apart v xs (none_left (eqb v x) (has_number v xs) f).1 i (omega (arith, h))
+
+over_stays : (g : GridShape) (ps : List Position) (s : Swap) (bs : List ℕ) → has_number s.block.0 bs ≡ false → has_block s.other bs ≡ false → counted_over (positions_after g ps s) bs ≡ counted_over ps bs
+unfolding counted_over
+over_stays g ps s bs one other =
+    let at : (i : ℕ) → i < length bs → get_or (positions_after g ps s) (get_or bs i 0) no_position ≡ get_or ps (get_or bs i 0) no_position =
+    λ i h. position_stays g ps s (get_or bs i 0) (each_apart s.block.0 bs one i h) (λ b e. each_apart b.0 bs (ap (λ o. has_block o bs) (sym e) ∙ other) i h) in
+    let xs = map_each (λ k. (get_or (positions_after g ps s) k no_position).x) (λ k. (get_or ps k no_position).x) bs (λ i h. ap (λ (p : Position). p.x) (at i h)) in
+    let ys = map_each (λ k. (get_or (positions_after g ps s) k no_position).y) (λ k. (get_or ps k no_position).y) bs (λ i h. ap (λ (p : Position). p.y) (at i h)) in
+    λ j. record { x = edges_of (xs j); y = edges_of (ys j) }
+
+pub left_as_it_was : (d : Netlist) (g : GridShape) (s : Swap) (nets : List (List ℕ)) (ps qs : List Position) (old fkept kept : List CountedBox) (n : ℕ) → nets ≡ counted_blocks d → qs ≡ positions_after g ps s → Counts d n → is_on_swap d s n ≡ false
+    → counted_at kept n ≡ counted_at (cond (is_on_swap d s n) fkept old) n → counted_at (boxes_seen nets qs kept) n ≡ counted_at (boxes_seen nets ps old) n
+left_as_it_was d g s nets ps qs old fkept kept n en eq c off each =
+    let low : n < length nets = (let w = c.within in let l = nets_long d nets en in omega (arith, w, l)) in
+    let row = row_counted d nets n en c in
+    let p = none_left (has_number s.block.0 (blocks_of d n)) (has_block s.other (blocks_of d n)) off in
+    elim (cases_lt 16 (length (get_or nets n []))) [
+      | inl l ↦ seen_large nets qs kept n low l ∙ each ∙ (λ i. counted_at (cond (off i) fkept old) n) ∙ sym (seen_large nets ps old n low l)
+      | inr h ↦ seen_small nets qs kept n low h ∙ ap (counted_over qs) row ∙ ap (λ v. counted_over v (blocks_of d n)) eq ∙ over_stays g ps s (blocks_of d n) p.0 p.1 ∙ ap (counted_over ps) (sym row) ∙ sym (seen_small nets ps old n low h)
+    ]
 
 -- at the start, and where it has arrived
 
