@@ -2,7 +2,7 @@ use Rattle.std.proofs.Common.{◌≡◌, ap, subst, rules}
 use Rattle.std.specs.Arc.{arc_value}
 use Rattle.fab_commit.specs.Run.Commits.{run_for}
 use Rattle.fab_commit.specs.Run.Pipelines.{TurnsOn}
-use Rattle.fab_commit.proofs.run.pipeline.make_turn_beside.Goals as goal
+use Rattle.fab_commit.proofs.run.single_turn.make_turn_beside.Goals as goal
 
 pub returns : goal.returns
 returns g c =
