@@ -83,7 +83,7 @@ pub record IsRecord (d : Netlist) (b n : ℕ) (others : List ℕ) (q : ℕ) : Ty
 abbrev pub is_sized : Netlist → ℕ → ℕ → ℕ → Bool
 is_sized d above most n = nat_lt above (length (blocks_of d n)) && nat_le (length (blocks_of d n)) most
 
--- the nets of a block with more terminals than the one, and no more than the other
+-- the nets of a block with more than `above` terminals, and at most `most`
 abbrev pub nets_between : Netlist → ℕ → ℕ → ℕ → List ℕ
 nets_between d above most b = filter (is_sized d above most) (nets_of d b)
 
@@ -107,7 +107,7 @@ pub record AreLarge (d : Netlist) (b : ℕ) (is : List ℕ) : Type 0 where
   pub within : (k : ℕ) → k < length is → slice_index is k < length (nets_of d b)
   pub nets : map (λ i. slice_index (nets_of d b) i) is ≡ filter (is_large d) (nets_of d b)
 
--- of each block the nets with more terminals than the one, and no more than the other
+-- of each block the nets with more than `above` terminals, and at most `most`
 pub record HasRows {W : ℕ} (d : Netlist) (above most : ℕ) (rows : List (List (Record W))) : Type 0 where
   pub long : length rows ≡ length d.kinds
   pub each : (b : ℕ) → b < length d.kinds → AreRecords d b (nets_between d above most b) (slice_index_or rows b [])
@@ -131,14 +131,13 @@ few_cost d g sites ns = sum_by (net_cost d g sites) (filter (λ n. not (is_large
 abbrev pub few_all : Netlist → GridShape → List Site → ℕ
 few_all d g sites = few_cost d g sites (counted d)
 
--- gained less lost is the one less the other
+-- gained less lost is the one less the other, and both are below 2^46
 pub record IsStep (before after gained lost : ℕ) : Type 0 where
   pub balance : after + lost ≡ before + gained
   pub gained_few : gained < 2 ^ 46
   pub lost_few : lost < 2 ^ 46
 
--- the nets of the blocks below one, and the first of that block
-
+-- of block c the nets, if it is below k; of block k the first j
 abbrev pub nets_to : Netlist → ℕ → ℕ → ℕ → List ℕ
 nets_to d k j c = if nat_lt c k then nets_of d c else (if c == k then take j (nets_of d c) else [])
 
@@ -190,7 +189,8 @@ pub record IsKept (table : List (List ℕ)) (r : Runs) (kept : List CountedBox) 
   pub within : (n i : ℕ) → i < length (slice_index_or r.terminals n []) → slice_index (slice_index_or r.terminals n []) i < length (positions_in table)
   pub runs : (d : Netlist) → r.terminals ≡ counted_blocks d → length (positions_in table) ≡ length d.kinds → HasRecords r d
 
--- the box of blocks in columns 1 and 3 of row 2 has 2004 less these lanes as its half perimeter: three columns and one row
+-- two blocks at (1, 2) and (3, 2): their box has three columns and one line of sites, so its half perimeter is 2004 less the sum of
+-- these lanes
 pub lanes_of_two_blocks : sum_l (least_of (lanes_for (record { x = 1; y = 2 })) (lanes_for (record { x = 3; y = 2 }))) + 4 ≡ 2004
 lanes_of_two_blocks = refl
 

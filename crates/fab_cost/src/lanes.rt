@@ -14,7 +14,7 @@ use fab_arch::{Grid, Site};
 use fab_site::Swap;
 use std::simd::prelude::*;
 
-/// Where there is no block: no box is smaller for it.
+/// The lanes of no block: no box grows by it.
 pub(crate) fn nowhere() -> u16x4
     ensures { result ≡ four 65535 65535 65535 65535 }
 {
@@ -22,7 +22,7 @@ pub(crate) fn nowhere() -> u16x4
 }
 
 #[tactic(auto, unfolding(crate::specs::Cost::clip))]
-/// The clipped column and row, and how far each is from the far end.
+/// The clipped column and row, and 1001 less each.
 pub(crate) fn lanes_of(grid: &Grid, site: Site) -> u16x4
     ensures { result ≡ lanes_at grid.now site }
 {
@@ -48,7 +48,7 @@ pub(crate) fn total(one: u16x4) -> u16
     one.strict_reduce_sum()
 }
 
-/// The edges of a box, and how far the greatest are from the far end.
+/// The least column and row of a box, and 1001 less the greatest column and row.
 pub(crate) fn edge_lanes_of(edges: CountedBox) -> u16x4
     ensures { result ≡ edge_lanes edges }
 {
@@ -61,7 +61,7 @@ pub(crate) fn edge_lanes_of(edges: CountedBox) -> u16x4
 }
 
 #[inline(always)]
-/// Both sites of a swap at one look: the least columns and rows, and how far the greatest are from the far end.
+/// Both sites of a swap at one look: the least column and row, and 1001 less the greatest column and row.
 pub(crate) fn reach_of(grid: &Grid, swap: &Swap) -> u16x4
     ensures { result ≡ reach_lanes grid.now swap.now }
 {

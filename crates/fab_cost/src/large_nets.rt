@@ -28,7 +28,7 @@ use fab_site::{Placement, Swap};
 use std::alloc::{AllocError, Global};
 use std::simd::prelude::*;
 
-/// By net number the box of each large net, and its edges as lanes.
+/// By net number the box of each large net, and its edges as lanes; a placeholder for every other net.
 pub(crate) struct LargeBoxes {
     pub(crate) boxes: Vec<CountedBox>,
     pub(crate) edges: Vec<u16x4>,
@@ -42,7 +42,7 @@ impl Drop for LargeBoxes {
     }
 }
 
-/// Gives the boxes their edges.
+/// Adds to each box its edges as lanes.
 fn with_edges(alloc: Global, boxes: Vec<CountedBox>) -> Result<LargeBoxes, AllocError>
     ensures { IfOk result (λ large. large.boxes.items ≡ boxes.items) }
 {

@@ -9,8 +9,8 @@ use crate::edge_boxes::Tally;
 use crate::lanes::{joined, nowhere, total};
 use std::simd::prelude::*;
 
-/// A net of a block with few terminals: the other blocks on it, filled up with the number past the last block, and its
-/// cross count.
+/// A net with few terminals, as one of its blocks sees it: the other blocks on it, filled up with the number past the last block, and
+/// its cross count.
 #[derive(Clone, Copy)]
 pub struct Record<const W: usize> {
     pub others: [u16; W],
@@ -59,7 +59,8 @@ fn weighed(factor: u16, all: u16x4, at: u16x4) -> u64
 
 #[tactic(auto, using(crate::proofs::Mins::weight_more, crate::proofs::Mins::weight_all))]
 #[inline(always)]
-/// What the nets of some records bring to a sum with their block at the one place, and at the other.
+/// How the cost of some records' nets changes when their block goes from `base` to `target`. A lane sum falls as a box grows, so
+/// `gained` is the weighted sum at `base`, and `lost` the one at `target`.
 pub(crate) fn change_of_run<const W: usize>(
     table: &[u16x4],
     moved: u16,

@@ -1,5 +1,5 @@
-//! The nets of each block in one run: of each net with few terminals the other blocks on it, so that a change of cost looks
-//! at positions alone; of each net with many terminals its place among the block's nets.
+//! The nets of each block by size: up to 16 terminals as records of the other blocks on them, in three tables; larger ones as places
+//! among the block's nets.
 
 ghost use Rattle.std.specs.Prelude.{◌≡◌, ℕ, ◌<◌, ◌≤◌, ◌+◌, ◌&&◌, ◌==◌, not, true, IfOk, OnOk, map, length, slice_index};
 ghost use Rattle.std.specs.List.{All};
@@ -73,7 +73,7 @@ fn record_of<const W: usize>(none: u16, block: BlockId, terminals: &[Terminal]) 
 }
 
 #[tactic(auto, using(crate::proofs::Packs::packed_pushed, crate::proofs::Packs::packed_passed, crate::proofs::Packs::record_is, crate::proofs::Packs::sized_by, crate::proofs::Packs::unsized_by))]
-/// Adds net `i` of a block, if it has more terminals than the one, and no more than the other.
+/// Adds net `i` of a block, if it has more than `above` terminals, and at most `most`.
 fn push_record<const W: usize>(
     entries: &mut Vec<(u32, Record<W>)>,
     design: &Design,
@@ -125,7 +125,7 @@ fn push_records<const W: usize>(
 }
 
 #[tactic(auto, using(crate::proofs::Packs::packed_none, crate::proofs::Packs::packed_all, crate::proofs::Packs::packed_few, crate::proofs::Packs::packed_within))]
-/// Of each block the nets with more terminals than the one, and no more than the other.
+/// Of each block the nets with more than `above` terminals, and at most `most`.
 fn records_between<const W: usize>(
     alloc: Global,
     design: &Design,

@@ -1,5 +1,5 @@
 //! What a swap makes of the nets with few terminals: two steps of one block each, where the second sees the first at its new
-//! site. The others' box of a net is the lane-wise least of their positions, and grows by the block's own.
+//! site. The lane-wise least of the other blocks' lanes is their box; the block's own lanes extend it.
 
 ghost use Rattle.std.specs.Prelude.{◌≡◌, ℕ, ◌<◌, ◌≤◌, ◌+◌, ◌^◌, List, IfOk, Some, length, slice_set};
 ghost use Rattle.fab_net.specs.declared.pieces.BlockId.{BlockId as Block};

@@ -1,5 +1,4 @@
-//! How a swap changes the cost of a net whose box is kept, without renewing the box. Most judged moves are rejected, so this is
-//! what an annealer waits for. Most of these nets are settled by one look at their box.
+//! How a swap changes the cost of a large net that one look at its box did not settle, without renewing the box.
 
 ghost use Rattle.std.specs.Prelude.{◌≡◌, ◌≢◌, ℕ, ◌<◌, ◌+◌, ◌^◌, List, [], Some, MatchOption, length, map, slice_index, slice_index_or};
 ghost use Rattle.std.specs.List.{sum_by};
