@@ -1,0 +1,122 @@
+//! `fab_bench`: whole runs of the library on designs of real shape, for `bench/run` to time. Each job prints a digest of all that its runs
+//! answered, and no times. A job is given by words:
+//!
+//! - `place NAME SEED MOVES WORKERS` places the circuit in `NAME.arch` and `NAME.net`;
+//! - `grown LOGIC HUBS SEED MOVES WORKERS` places a circuit of so many logic blocks that is grown from the seed, in which one input of
+//!   `HUBS` hangs on one of a few nets;
+//! - `suite LOGIC SEED DESIGNS MOVES` places so many grown circuits in turn with few moves, and checks each placement.
+//!
+//! A stage has `MOVES` moves.
+#![tactic(auto)]
+
+mod circuits;
+mod digest;
+mod draws;
+mod jobs;
+mod words;
+
+use jobs::{Answer, Circuit, Pace, checked, placed};
+use std::alloc::Global;
+use std::fs;
+use std::rt::{Env, Files};
+use std::sync::Wait;
+use std::thread::Threads;
+use words::{Words, given};
+
+// The line that tells what a job answered.
+fn told(alloc: Global, answer: &Answer) -> anyhow::Result<String> {
+    Ok(format!(in alloc;
+        "cost {} accepted {} judged again {} digest {}\n",
+        answer.cost, answer.accepted, answer.again, answer.digest
+    )?)
+}
+
+// Places a circuit from two files.
+fn place<R: AllocGlobal + Files + Threads + Wait + Sync>(
+    rt: &R,
+    words: &Words,
+) -> anyhow::Result<String> {
+    let alloc = rt.alloc();
+    let Some(name) = words.text(1) else {
+        return Ok(String::new(alloc));
+    };
+    let arch = fs::read(rt, format!(in alloc; "{name}.arch")?.as_str())?;
+    let net = fs::read(rt, format!(in alloc; "{name}.net")?.as_str())?;
+    let circuit = Circuit {
+        arch: &arch,
+        net: &net,
+    };
+    let pace = Pace {
+        seed: words.number(2),
+        moves: words.number(3),
+        workers: words.number(4),
+    };
+    match placed(rt, &circuit, &pace) {
+        Some(run) => told(alloc, &run.answer),
+        None => Ok(String::from_str(alloc, "refused\n")?),
+    }
+}
+
+// Places a circuit that is grown from the seed.
+fn grown<R: AllocGlobal + Threads + Wait + Sync>(rt: &R, words: &Words) -> anyhow::Result<String> {
+    let alloc = rt.alloc();
+    let net = circuits::grown(alloc, words.number(1), words.number(2), words.number(3))?;
+    let circuit = Circuit {
+        arch: circuits::ARCH,
+        net: &net,
+    };
+    let pace = Pace {
+        seed: words.number(3),
+        moves: words.number(4),
+        workers: words.number(5),
+    };
+    match placed(rt, &circuit, &pace) {
+        Some(run) => told(alloc, &run.answer),
+        None => Ok(String::from_str(alloc, "refused\n")?),
+    }
+}
+
+// Places and checks several grown circuits.
+fn suite<R: AllocGlobal + Threads + Wait + Sync>(rt: &R, words: &Words) -> anyhow::Result<String> {
+    let alloc = rt.alloc();
+    let mut text = String::new(alloc);
+    let first = words.number(2);
+    for design in 0..words.number(3) {
+        let seed = first.wrapping_mul(1000).wrapping_add(design);
+        let net = circuits::grown(alloc, words.number(1), 40, seed)?;
+        let circuit = Circuit {
+            arch: circuits::ARCH,
+            net: &net,
+        };
+        let pace = Pace {
+            seed,
+            moves: words.number(4),
+            workers: 1,
+        };
+        let Some(run) = placed(rt, &circuit, &pace) else {
+            return Ok(String::from_str(alloc, "refused\n")?);
+        };
+        text.push_str(told(alloc, &run.answer)?.as_str())?;
+        match checked(alloc, &circuit, &run.place) {
+            Some(cost) => text.push_str(format!(in alloc; "checked {cost}\n")?.as_str())?,
+            None => text.push_str("not legal\n")?,
+        }
+    }
+    Ok(text)
+}
+
+fn answer<R: AllocGlobal + Env + Files + Threads + Wait + Sync>(rt: &R) -> anyhow::Result<String> {
+    let words = given(rt)?;
+    match words.text(0) {
+        Some("place") => place(rt, &words),
+        Some("grown") => grown(rt, &words),
+        Some("suite") => suite(rt, &words),
+        _ => Ok(String::from_str(rt.alloc(), "the jobs are place, grown and suite\n")?),
+    }
+}
+
+fn main(rt: HostRuntime) -> anyhow::Result<()> {
+    let text = answer(&rt)?;
+    print!(rt; "{text}")?;
+    Ok(())
+}
