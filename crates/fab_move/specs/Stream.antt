@@ -1,7 +1,7 @@
 -- The random words of a seed: two streams of the ChaCha cipher with eight rounds (which words a move and a start use is our own).
 use Rattle.std.specs.Prelude.{ℕ, ◌+◌, ◌*◌, List, [], ◌∷◌, ◌++◌, replicate}
 use Rattle.std.specs.Int.{w64, to_le_bytes}
-use Rattle.rand_chacha.specs.ChaCha.{word_at, key_of}
+use Rattle.rand_chacha.specs.ChaCha.{ChaCha, word_at, key_of}
 
 -- the seed of the cipher: the eight bytes of a number, the lowest first, and 24 zeros
 abbrev pub cipher_seed : ℕ → List ℕ
@@ -19,3 +19,8 @@ stream_moves seed k =
 -- the start words: those of stream 1
 abbrev pub stream_starts : ℕ → ℕ → ℕ
 stream_starts seed i = stream_word seed 1 i
+
+-- four words of a stream, from a place on
+abbrev pub words_from : ChaCha → ℕ → List ℕ
+words_from g place =
+    word_at 4 g.key g.stream place ∷ word_at 4 g.key g.stream (place + 1) ∷ word_at 4 g.key g.stream (place + 2) ∷ word_at 4 g.key g.stream (place + 3) ∷ []

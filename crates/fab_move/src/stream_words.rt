@@ -1,7 +1,7 @@
 //! The random words of a seed, from the ChaCha cipher.
 
-ghost use Rattle.std.specs.Prelude.{◌≡◌, ℕ, ◌+◌, ◌*◌, ◌<◌, ◌^◌};
-ghost use Rattle.fab_move.specs.Stream.{cipher_seed, stream_moves, stream_starts, stream_word};
+ghost use Rattle.std.specs.Prelude.{◌≡◌, ℕ, ◌+◌, ◌*◌, ◌<◌, ◌^◌, [], length, slice_index_or};
+ghost use Rattle.fab_move.specs.Stream.{cipher_seed, stream_moves, stream_starts, stream_word, words_from};
 
 use fab_site::Words;
 use rand_chacha::ChaCha8Rng;
@@ -47,12 +47,14 @@ impl Words for StreamWords {
     fn move_words(&self, k: u64) -> [u32; 4] {
         let mut stream = ChaCha8Rng::from_seed(self.cipher_seed);
         stream.set_word_pos(16 * u128::from(k));
-        [
-            stream.next_word(),
-            stream.next_word(),
-            stream.next_word(),
-            stream.next_word(),
-        ]
+        next_four(&mut stream)
+    }
+
+    // One cipher serves all the moves: it makes the blocks of four moves at once.
+    fn fill_words(&self, first: u64, out: &mut [[u32; 4]]) {
+        let mut stream = ChaCha8Rng::from_seed(self.cipher_seed);
+        stream.set_word_pos(16 * u128::from(first));
+        fill_from(&mut stream, out);
     }
 
     fn start_word(&self, i: u32) -> u32 {
@@ -72,4 +74,41 @@ fn cipher_seed_of(seed: u64) -> [u8; 32]
         low[0], low[1], low[2], low[3], low[4], low[5], low[6], low[7], 0, 0, 0, 0, 0, 0, 0, 0, 0,
         0, 0, 0, 0, 0, 0, 0, 0, 0, 0, 0, 0, 0, 0, 0,
     ]
+}
+
+/// Writes the first four words of each block, one entry of `out` for each block.
+fn fill_from(stream: &mut ChaCha8Rng, out: &mut [[u32; 4]])
+    requires { stream.old.word_pos + 16 * length out.old < 2 ^ 68 }
+    ensures { (i : ℕ) → i < length out.new → slice_index_or out.new i [] ≡ words_from stream.old (stream.old.word_pos + 16 * i) }
+{
+    'entries: for i in 0..out.len() {
+        out[i] = next_four(stream);
+        pass_twelve(stream);
+    }
+}
+
+#[inline(always)]
+/// The next four words.
+fn next_four(stream: &mut ChaCha8Rng) -> [u32; 4]
+    requires { stream.old.word_pos + 4 < 2 ^ 68 }
+    ensures words { result ≡ words_from stream.old stream.old.word_pos }
+    ensures later { stream.new ≡ record stream.old { word_pos = stream.old.word_pos + 4 } }
+{
+    [
+        stream.next_word(),
+        stream.next_word(),
+        stream.next_word(),
+        stream.next_word(),
+    ]
+}
+
+#[inline(always)]
+/// Passes over twelve words.
+fn pass_twelve(stream: &mut ChaCha8Rng)
+    requires { stream.old.word_pos + 12 < 2 ^ 68 }
+    ensures { stream.new ≡ record stream.old { word_pos = stream.old.word_pos + 12 } }
+{
+    'words: for _n in 0..12_u32 {
+        let _word = stream.next_word();
+    }
 }

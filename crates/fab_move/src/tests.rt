@@ -1,4 +1,4 @@
-ghost use Rattle.std.specs.Prelude.{◌≡◌, [], IfOk};
+ghost use Rattle.std.specs.Prelude.{◌≡◌, ◌<◌, [], IfOk};
 ghost use Rattle.fab_site.specs.Placement.{IsLegal};
 
 use crate::move_tables::wanted_lines;
@@ -493,6 +493,36 @@ fn words_of_moves(rt: HostRuntime) {
             "move {k} of seed {seed}"
         );
     }
+}
+
+// Whether the words of nine moves at once are those of each.
+fn agree<W: Words>(words: &W, first: u64) -> bool
+    requires { first < 1000 }
+{
+    let mut run = [[1; 4]; 9];
+    words.fill_words(first, &mut run);
+    words.fill_words(first, &mut run[..0]);
+    let mut is_so = true;
+    for (i, four) in run.iter().enumerate() {
+        is_so = is_so && *four == words.move_words(first + i as u64);
+    }
+    is_so
+}
+
+#[test]
+fn words_of_nine_moves_at_once(rt: HostRuntime) -> Result<(), Fail> {
+    let alloc = rt.alloc();
+    let mut moves = Vec::new(alloc);
+    for k in 0..9 {
+        moves.push([k, 10 * k, 7, HALF])?;
+    }
+    let listed = ListWords {
+        starts: Vec::new(alloc),
+        moves,
+    };
+    assert!(rt; agree(&StreamWords::new(3), 5));
+    assert!(rt; agree(&listed, 5));
+    Ok(())
 }
 
 // Computed by the same slow placer.

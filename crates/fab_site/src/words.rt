@@ -1,6 +1,6 @@
 //! Random words, which the start placement and moves draw from.
 
-ghost use Rattle.std.specs.Prelude.{◌≡◌, ℕ, ◌<◌, List};
+ghost use Rattle.std.specs.Prelude.{◌≡◌, ℕ, ◌+◌, ◌<◌, ◌^◌, List, [], length, slice_index_or};
 ghost use Rattle.fab_site.specs.Words.{pick_of, word_at, words_at};
 
 /// Random words of 32 bits. Each answer depends only on the number requested.
@@ -18,6 +18,16 @@ pub trait Words {
     /// Start word `i`.
     fn start_word(&self, i: u32) -> u32
         ensures { result ≡ starts self.now i };
+
+    /// Writes the words of the moves from `first` on, one entry of `out` for each move.
+    fn fill_words(&self, first: u64, out: &mut [[u32; 4]])
+        requires { first + length out.old < 2 ^ 64 }
+        ensures { (i : ℕ) → i < length out.new → slice_index_or out.new i [] ≡ moves self.now (first + i) }
+    {
+        for i in 0..out.len() {
+            out[i] = self.move_words(first + i as u64);
+        }
+    }
 }
 
 /// Words from two lists. Beyond the end of a list every word is 0.

@@ -1,0 +1,11 @@
+use Rattle.std.proofs.Common.{◌≡◌, ℕ, ◌+◌, ◌*◌, ◌<◌, []}
+use Rattle.std.specs.Prelude.{slice_index_or}
+use Rattle.fab_move.specs.Stream.{words_from}
+use Rattle.fab_move.proofs.stream_words.fill_from.Given as goal
+
+abbrev pub invariant-entries : goal.invariant-entries
+invariant-entries l =
+    record {
+      place : l.stream ≡ record l.initial.stream { word_pos = l.initial.stream.word_pos + 16 * l.i };
+      written : (k : ℕ) → k < l.i → slice_index_or l.out k [] ≡ words_from l.initial.stream (l.initial.stream.word_pos + 16 * k);
+    }
