@@ -1,5 +1,5 @@
 -- What a judgement comes to, by what is proposed.
-use Rattle.std.proofs.Common.{◌≡◌, ℕ, List, [], ◌∷◌, ◌++◌, map, refl, ap, ◌∙◌}
+use Rattle.std.proofs.Common.{◌≡◌, ℕ, List, [], ◌∷◌, ◌++◌, map, refl, ap, subst, ◌∙◌}
 use Rattle.std.specs.Prelude.{slice_index}
 use Rattle.fab_arch.specs.declared.array.Site.{Site}
 use Rattle.fab_net.specs.declared.pieces.BlockId.{BlockId}
@@ -40,3 +40,10 @@ decided_says p sites t w (Move s) d marks is m = (λ i. record { swap = is.swap 
 pub judged_on : (p : Problem) (sites : List Site) (k t range w : ℕ) (proposed : Proposal) → w ≡ slice_index (p.words k) 3 → proposed ≡ proposal p.design p.grid p.fixed sites range (p.words k) → judged_as p sites t w proposed ≡ judged p sites k t range
 unfolding judged
 judged_on p sites k t range w proposed e is = (λ i. judged_as p sites t (e i) (is i))
+
+-- what is decided of a proposal and a word by the words of a move
+pub decided_on : (p : Problem) (sites : List Site) (k t range : ℕ) (ws : List ℕ) (w : ℕ) (proposed : Proposal) (d : Decision) → ws ≡ p.words k → w ≡ slice_index ws 3 → proposed ≡ proposal p.design p.grid p.fixed sites range ws → IsDecision d (judged_as p sites t w proposed) → IsDecision d (judged p sites k t range)
+decided_on p sites k t range ws w proposed d same word is decided =
+    subst (IsDecision d)
+    (judged_on p sites k t range w proposed (word ∙ (λ i. slice_index (same i) 3)) (is ∙ (λ i. proposal p.design p.grid p.fixed sites range (same i))))
+    decided

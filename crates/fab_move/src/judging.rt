@@ -32,7 +32,7 @@ pub fn judge<C: WireCost, W: Words>(
 {
     let (proposal, word) = proposed(view, k);
     let footprint = footprint_of(alloc, view.design, proposal)?;
-    let decision = weighed(view, proposal, word);
+    let decision = weigh(view, proposal, word);
     Ok(Verdict {
         k,
         swap: decision.swap,
@@ -51,11 +51,11 @@ pub fn decide<C: WireCost, W: Words>(view: &View<'_, C, W>, k: u64) -> Decision
     ensures decided { IsDecision result (judged (problem view.now.design.now view.now.grid.now view.now.fixed.now (W.moves view.now.words.now)) view.now.placement.now.sites k view.now.t view.now.range) }
 {
     let (proposal, word) = proposed(view, k);
-    weighed(view, proposal, word)
+    weigh(view, proposal, word)
 }
 
-/// What a move proposes, and the word that decides whether it is accepted.
 #[inline(always)]
+/// What a move proposes, and the word that decides whether it is accepted.
 fn proposed<C: WireCost, W: Words>(view: &View<'_, C, W>, k: u64) -> (Proposal, u32)
     requires legal { IsLegal view.now.design.now view.now.grid.now view.now.fixed.now view.now.placement.now.sites }
     ensures value { result.0 ≡ proposal view.now.design.now view.now.grid.now view.now.fixed.now view.now.placement.now.sites view.now.range (W.moves view.now.words.now k) }
@@ -74,9 +74,14 @@ fn proposed<C: WireCost, W: Words>(view: &View<'_, C, W>, k: u64) -> (Proposal, 
     (proposal, words[3])
 }
 
-/// The change of cost that a proposal makes, and whether a word accepts it.
 #[inline(always)]
-fn weighed<C: WireCost, W: Words>(view: &View<'_, C, W>, proposal: Proposal, word: u32) -> Decision
+/// The change of cost that a proposal makes, and whether a word accepts it. By contract a proposed swap is one of the placement, as
+/// those of [`propose`](crate::propose) are, and the wire cost is that of the placement. Allocates nothing.
+pub fn weigh<C: WireCost, W: Words>(
+    view: &View<'_, C, W>,
+    proposal: Proposal,
+    word: u32,
+) -> Decision
     requires stands { C.StandsFor view.now.cost.now view.now.design.now view.now.grid.now view.now.placement.now.sites }
     requires lawful { (s : Swap) → proposal ≡ proposes s → IsSwapOf view.now.grid.now view.now.placement.now.sites s }
     ensures lawful { (s : Swap) → result.swap ≡ Some s → IsSwapOf view.now.grid.now view.now.placement.now.sites s }

@@ -3,7 +3,7 @@ ghost use Rattle.fab_site.specs.Placement.{IsLegal};
 
 use crate::move_tables::wanted_lines;
 use crate::{
-    Decision, Mark, Proposal, StreamWords, Verdict, View, accepts, decide, judge, propose,
+    Decision, Mark, Proposal, StreamWords, Verdict, View, accepts, decide, judge, propose, weigh,
 };
 use fab_arch::{Grid, Site, read_arch};
 use fab_cost::EdgeBoxes;
@@ -121,7 +121,7 @@ fn proposed(placed: &Placed, range: u64, words: [u32; 4]) -> Option<Proposal> {
     Some(propose(design, grid, fixed, placement, range, words))
 }
 
-// The verdict on a move. Fails if the placement is not legal, or if `decide` and `judge` differ.
+// The verdict on a move. Fails if the placement is not legal, or if `decide`, `weigh` and `judge` differ.
 fn judged<W: Words>(
     alloc: Global,
     placed: &Placed,
@@ -158,6 +158,11 @@ fn judged<W: Words>(
     };
     if decide(&view, k) != without_marks {
         return Err(Fail::from("decided and judged are two"));
+    }
+    let four = words.move_words(k);
+    let proposal = propose(design, grid, fixed, placement, range, four);
+    if weigh(&view, proposal, four[3]) != without_marks {
+        return Err(Fail::from("weighed and judged are two"));
     }
     Ok(verdict)
 }

@@ -16,9 +16,9 @@ returns-clause-judged g c =
     let sites = c.args.view.now.placement.now.sites in
     let t = c.args.view.now.t in
     let found = c.proposed-proposal in
-    let d = c.weighed-decision.result in
+    let d = c.weigh-decision.result in
     let z : to_z w64 (of_z w64 d.delta) ≡ d.delta = search rules in
-    let told = decided_says p sites t found.result.1 found.result.0 d c.in_ok-footprint.footprint.items c.weighed-decision.ensures.decided c.in_ok-footprint.ensures in
+    let told = decided_says p sites t found.result.1 found.result.0 d c.in_ok-footprint.footprint.items c.weigh-decision.ensures.decided c.in_ok-footprint.ensures in
     (λ i. record { swap = d.swap; change = z i; accepted = d.accepted; footprint = c.in_ok-footprint.footprint.items })
     ∙ told
     ∙ judged_on p sites c.args.k t c.args.view.now.range found.result.1 found.result.0 found.ensures.word found.ensures.value

@@ -1,7 +1,7 @@
 use Rattle.std.proofs.Common.{subst}
 use Rattle.fab_site.specs.Placement.{IsSwapOf}
 use Rattle.fab_move.proofs.Choices.{same_swap}
-use Rattle.fab_move.proofs.judging.weighed.Goals as goal
+use Rattle.fab_move.proofs.judging.weigh.Goals as goal
 
 pub delta-delta-requires-clause-lawful : goal.delta-delta-requires-clause-lawful
 delta-delta-requires-clause-lawful g c = c.requires.lawful c.in-Move.swap c.in-Move.is
