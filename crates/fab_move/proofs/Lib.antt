@@ -4,3 +4,4 @@ pub mod Targets
 pub mod Choices
 pub mod Judgements
 pub mod Tested
+pub mod Chances

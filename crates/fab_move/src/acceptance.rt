@@ -25,7 +25,7 @@ pub fn accepts(delta: i64, t: u64, w: u32) -> bool
     } else if t == 0 {
         false
     } else {
-        fraction(w) < chance(sixteenths(delta as u64, t))
+        fraction(w) < chance_at(delta as u64, t)
     }
 }
 
@@ -36,27 +36,39 @@ fn fraction(w: u32) -> u64
     (u64::from(w) * 1_000_000) >> 32
 }
 
-/// A change of cost in sixteenths of the temperature, rounded down.
-fn sixteenths(delta: u64, t: u64) -> u128
+#[tactic(auto, using(crate::proofs::Chances::none_so_far))]
+/// The chance of accepting a change of cost at temperature `t`, in millionths.
+fn chance_at(delta: u64, t: u64) -> u64
     requires { 0 < t }
-    ensures { result ≡ 16 * delta / t }
+    ensures { result ≡ chance_of (16 * delta / t) }
 {
-    if delta < 1 << 59 {
-        u128::from(16 * delta / t)
-    } else {
-        16 * u128::from(delta) / u128::from(t)
+    if delta >= 1 << 59 || t >= 1 << 59 {
+        return chance_of_large(delta, t);
     }
+    // A change beyond the table needs no division.
+    if delta >= 15 * t {
+        return 0;
+    }
+    chance(16 * delta / t)
+}
+
+#[cold]
+#[tactic(auto, using(crate::proofs::Chances::none_beyond))]
+/// The same for numbers of any size, by a longer division.
+fn chance_of_large(delta: u64, t: u64) -> u64
+    requires { 0 < t }
+    ensures { result ≡ chance_of (16 * delta / t) }
+{
+    let z = 16 * u128::from(delta) / u128::from(t);
+    if z < 240 { chance(z as u64) } else { 0 }
 }
 
 #[tactic(auto, unfolding(crate::specs::Accept::chance_of))]
 /// The chance of accepting a change of `z` sixteenths of a temperature, in millionths.
-fn chance(z: u128) -> u64
+fn chance(z: u64) -> u64
+    requires { z < 240 }
     ensures { result ≡ chance_of z }
 {
-    if z < 240 {
-        u64::from(WHOLE_CHANCES[z as usize / 16]) * u64::from(SIXTEENTH_CHANCES[z as usize % 16])
-            / 1_000_000
-    } else {
-        0
-    }
+    u64::from(WHOLE_CHANCES[z as usize / 16]) * u64::from(SIXTEENTH_CHANCES[z as usize % 16])
+        / 1_000_000
 }
