@@ -27,6 +27,7 @@ pub enum Proposal {
     Move(Swap),
 }
 
+#[inline(always)]
 /// What four words propose on a legal placement: a block that may move, and a target site of its kind at most `range` (in
 /// thousandths) from it in both coordinates. Allocates nothing. Looks only at the chosen block and at the block on the target.
 pub fn propose(
