@@ -64,6 +64,15 @@ impl LargeBoxes {
         })
     }
 
+    /// Makes these the boxes of another list, which is as long.
+    pub(crate) fn take_whole(&mut self, from: &LargeBoxes)
+        requires { length self.old.boxes.items ≡ length from.now.boxes.items }
+        ensures { self.new.boxes.items ≡ from.now.boxes.items }
+    {
+        self.boxes.copy_from_slice(&from.boxes);
+        self.edges.copy_from_slice(&from.edges);
+    }
+
     #[tactic(auto, unfolding(crate::specs::Swapping::counted_at))]
     /// The box of the net.
     pub(crate) fn kept(&self, net: NetId) -> CountedBox
