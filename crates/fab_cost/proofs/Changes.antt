@@ -218,6 +218,10 @@ unless_same d g before after but n e =
     let k : cond (has_block but (blocks_of d n)) 0 (net_cost d g after n) ≡ cond (has_block but (blocks_of d n)) 0 (net_cost d g before n) = ap (λ v. cond (has_block but (blocks_of d n)) 0 v) e in
     record { balance = omega (arith, k); gained_within = omega arith; lost_within = omega arith }
 
+pub passed_box : (d : Netlist) (g k : GridShape) (sites : List Site) (s : Swap) (n : ℕ) (b : CountedBox) → IsSwapOf k sites s → Surrounds g b s → b ≡ counted_box d g sites n → b ≡ counted_box d g (swapped sites s) n
+unfolding counted_box
+passed_box d g k sites s n b is around e = sites_within g k b s sites is around (blocks_of d n) e
+
 pub passed : (d : Netlist) (g k : GridShape) (sites : List Site) (s : Swap) (but : Option BlockId) (n : ℕ) (b : CountedBox) → IsSwapOf k sites s → Surrounds g b s → b ≡ counted_box d g sites n → IsChange (cost_unless d g sites but n) (cost_unless d g (swapped sites s) but n) 0 0
 unfolding counted_box
 passed d g k sites s but n b is around e =

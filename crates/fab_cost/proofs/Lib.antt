@@ -25,3 +25,4 @@ pub mod Kept
 pub mod Alike
 pub mod Way
 pub mod EdgeLanes
+pub mod Passing

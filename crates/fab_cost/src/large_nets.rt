@@ -337,7 +337,7 @@ pub(crate) fn change_of_large(
 #[tactic(auto)]
 /// Renews the box of large net `k` of a block, of which `row` has the places, unless it is also a net of the block `but`. Returns
 /// the net's cost after and before.
-fn renew_net(
+fn renew_kept(
     large: &mut LargeBoxes,
     design: &Design,
     grid: &Grid,
@@ -373,9 +373,43 @@ fn renew_net(
     tally_between(design, net, old, new)
 }
 
-#[tactic(auto, using(crate::proofs::Renewals::started, crate::proofs::Nets::sum_all))]
-/// Renews the boxes of a block's large nets, except those of the block `but`, which are renewed already. Returns the nets' cost
-/// after and before.
+#[tactic(auto, using(crate::proofs::Large::row_within))]
+/// Renews the box of large net `k` of a block, if the swap changes it and it is no net of the block `but`. Returns how the net's
+/// cost changes.
+fn renew_net(
+    large: &mut LargeBoxes,
+    design: &Design,
+    grid: &Grid,
+    placement: &Placement,
+    swap: &Swap,
+    reach: u16x4,
+    block: BlockId,
+    but: Option<BlockId>,
+    row: &[u32],
+    k: usize,
+) -> Tally
+    requires left { AreRenewed large.old.boxes.items (large_of design.now) grid.now placement.now.sites (swapped placement.now.sites swap.now) (λ n. has_block but (blocks_of design.now n) || has_number n (take k (nets_of (large_of design.now) block.0))) }
+    requires reach { reach ≡ reach_lanes grid.now swap.now }
+    requires part { IsPart swap.now block but }
+    requires block { block.0 < length design.now.kinds }
+    requires large { AreLarge design.now block.0 row.now }
+    requires within { k < length row.now }
+    requires lawful { IsSwapOf grid.now placement.now.sites swap.now }
+    requires whole { length design.now.kinds ≡ length placement.now.sites }
+    ensures boxes { AreRenewed large.new.boxes.items (large_of design.now) grid.now placement.now.sites (swapped placement.now.sites swap.now) (λ n. has_block but (blocks_of design.now n) || has_number n (take (k + 1) (nets_of (large_of design.now) block.0))) }
+    ensures change { IsChange (cost_unless (large_of design.now) grid.now placement.now.sites but (slice_index (nets_of (large_of design.now) block.0) k)) (cost_unless (large_of design.now) grid.now (swapped placement.now.sites swap.now) but (slice_index (nets_of (large_of design.now) block.0) k)) result.gained result.lost }
+{
+    let net = net_of(design, block, row[k] as usize);
+    if surrounds(large.edges_of(net), reach) {
+        NO_TALLY
+    } else {
+        renew_kept(large, design, grid, placement, swap, block, but, row, k)
+    }
+}
+
+#[tactic(auto, using(crate::proofs::Renewals::started, crate::proofs::Changes::none))]
+/// Renews the boxes of a block's large nets, except those of the block `but`, which are renewed already. Returns how the
+/// nets' cost changes.
 fn renew_larges(
     large: &mut LargeBoxes,
     runs: &Runs,
@@ -383,18 +417,19 @@ fn renew_larges(
     grid: &Grid,
     placement: &Placement,
     swap: &Swap,
+    reach: u16x4,
     block: BlockId,
     but: Option<BlockId>,
 ) -> Tally
     requires records { HasRecords runs.now design.now }
     requires left { AreRenewed large.old.boxes.items (large_of design.now) grid.now placement.now.sites (swapped placement.now.sites swap.now) (λ n. has_block but (blocks_of design.now n)) }
+    requires reach { reach ≡ reach_lanes grid.now swap.now }
     requires part { IsPart swap.now block but }
     requires block { block.0 < length design.now.kinds }
     requires lawful { IsSwapOf grid.now placement.now.sites swap.now }
     requires whole { length design.now.kinds ≡ length placement.now.sites }
     ensures boxes { AreRenewed large.new.boxes.items (large_of design.now) grid.now placement.now.sites (swapped placement.now.sites swap.now) (λ n. has_block but (blocks_of design.now n) || has_number block.0 (blocks_of design.now n)) }
-    ensures gained { result.gained ≡ sum_by (cost_unless (large_of design.now) grid.now (swapped placement.now.sites swap.now) but) (nets_of (large_of design.now) block.0) }
-    ensures lost { result.lost ≡ sum_by (cost_unless (large_of design.now) grid.now placement.now.sites but) (nets_of (large_of design.now) block.0) }
+    ensures change { IsChange (sum_by (cost_unless (large_of design.now) grid.now placement.now.sites but) (nets_of (large_of design.now) block.0)) (sum_by (cost_unless (large_of design.now) grid.now (swapped placement.now.sites swap.now) but) (nets_of (large_of design.now) block.0)) result.gained result.lost }
 {
     let _nx = grid.nx();
     let _ny = grid.ny();
@@ -403,14 +438,16 @@ fn renew_larges(
     let mut gained: u64 = 0;
     let mut lost: u64 = 0;
     'places: for k in 0..row.len() {
-        let one = renew_net(large, design, grid, placement, swap, block, but, row, k);
+        let one = renew_net(
+            large, design, grid, placement, swap, reach, block, but, row, k,
+        );
         gained += one.gained;
         lost += one.lost;
     }
     Tally { gained, lost }
 }
 
-#[tactic(auto, using(crate::proofs::Sited::block_below, crate::proofs::Renewals::untouched, crate::proofs::Renewals::first_done))]
+#[tactic(auto, using(crate::proofs::Sited::block_below, crate::proofs::Renewals::untouched, crate::proofs::Renewals::first_done, crate::proofs::Changes::whole_none, crate::proofs::Changes::whole_some))]
 /// Renews the boxes of the large nets of the swap's blocks. Returns how the cost of these nets changes.
 pub(crate) fn renew_large(
     large: &mut LargeBoxes,
@@ -432,12 +469,17 @@ pub(crate) fn renew_large(
     let _nx = grid.nx();
     let _ny = grid.ny();
     let _nets = design.nets();
-    let first = renew_larges(large, runs, design, grid, placement, swap, swap.block, None);
+    let reach = reach_of(grid, swap);
+    let first = renew_larges(
+        large, runs, design, grid, placement, swap, reach, swap.block, None,
+    );
     match swap.other {
         None => first,
         Some(other) => {
             let but = Some(swap.block);
-            let second = renew_larges(large, runs, design, grid, placement, swap, other, but);
+            let second = renew_larges(
+                large, runs, design, grid, placement, swap, reach, other, but,
+            );
             plus(first, second)
         }
     }

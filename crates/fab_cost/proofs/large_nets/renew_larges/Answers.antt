@@ -1,9 +1,9 @@
-use Rattle.std.proofs.Common.{◌<◌, length, get_or, refl, sym, subst, arith}
+use Rattle.std.proofs.Common.{◌<◌, length, sym, subst, arith}
 use Rattle.fab_net.specs.Netlist.{nets_of}
 use Rattle.fab_site.specs.Placement.{swapped}
 use Rattle.fab_cost.specs.Runs.{AreLarge, large_of}
+use Rattle.fab_cost.proofs.Changes.{all, gained_fits, lost_fits, more}
 use Rattle.fab_cost.proofs.Large.{lawful_large, row_long}
-use Rattle.fab_cost.proofs.Nets.{sum_all, sum_fits, sum_more}
 use Rattle.fab_cost.proofs.Renewals.{ended}
 use Rattle.fab_cost.proofs.large_nets.renew_larges.Goals as goal
 
@@ -17,8 +17,8 @@ overflow_add-gained c =
     let sites = c.args.placement.now.sites in
     let row = subst (AreLarge d b) (sym c.row-row.ensures) (c.requires.records.large.each b c.requires.block) in
     let h : c.places.k < length (nets_of (large_of d) b) = (let e = row_long d b c.row-row.result.now row in let t = c.places-test.true in omega (arith, e, t)) in
-    let f = sum_fits (large_of d) c.args.grid.now (swapped sites c.args.swap.now) c.args.but b c.places.k (get_or (nets_of (large_of d) b) c.places.k 0) c.places.gained c.renew_net-one.result.gained
-    (lawful_large d c.nets-nets.ensures.lawful) (omega arith, omega arith) (omega arith, omega arith) h refl c.places.invariant.gained c.renew_net-one.ensures.gained in
+    let f = gained_fits (large_of d) c.args.grid.now sites (swapped sites c.args.swap.now) c.args.but b c.places.k c.places.gained c.places.lost c.renew_net-one.result.gained c.renew_net-one.result.lost
+    (lawful_large d c.nets-nets.ensures.lawful) (omega arith, omega arith) (omega arith, omega arith) h c.places.invariant.change c.renew_net-one.ensures.change in
     omega arith
 
 pub overflow_add-lost : goal.overflow_add-lost
@@ -28,8 +28,8 @@ overflow_add-lost c =
     let sites = c.args.placement.now.sites in
     let row = subst (AreLarge d b) (sym c.row-row.ensures) (c.requires.records.large.each b c.requires.block) in
     let h : c.places.k < length (nets_of (large_of d) b) = (let e = row_long d b c.row-row.result.now row in let t = c.places-test.true in omega (arith, e, t)) in
-    let f = sum_fits (large_of d) c.args.grid.now sites c.args.but b c.places.k (get_or (nets_of (large_of d) b) c.places.k 0) c.places.lost c.renew_net-one.result.lost
-    (lawful_large d c.nets-nets.ensures.lawful) (omega arith, omega arith) (omega arith, omega arith) h refl c.places.invariant.lost c.renew_net-one.ensures.lost in
+    let f = lost_fits (large_of d) c.args.grid.now sites (swapped sites c.args.swap.now) c.args.but b c.places.k c.places.gained c.places.lost c.renew_net-one.result.gained c.renew_net-one.result.lost
+    (lawful_large d c.nets-nets.ensures.lawful) (omega arith, omega arith) (omega arith, omega arith) h c.places.invariant.change c.renew_net-one.ensures.change in
     omega arith
 
 pub places-preserved : goal.places-preserved
@@ -40,8 +40,7 @@ places-preserved c =
     let row = subst (AreLarge d b) (sym c.row-row.ensures) (c.requires.records.large.each b c.requires.block) in
     let h : c.places.k < length (nets_of (large_of d) b) = (let e = row_long d b c.row-row.result.now row in let t = c.places-test.true in omega (arith, e, t)) in
     record {
-      gained = sum_more (large_of d) c.args.grid.now (swapped sites c.args.swap.now) c.args.but b c.places.k (get_or (nets_of (large_of d) b) c.places.k 0) c.places.gained c.renew_net-one.result.gained h refl c.places.invariant.gained c.renew_net-one.ensures.gained;
-      lost = sum_more (large_of d) c.args.grid.now sites c.args.but b c.places.k (get_or (nets_of (large_of d) b) c.places.k 0) c.places.lost c.renew_net-one.result.lost h refl c.places.invariant.lost c.renew_net-one.ensures.lost;
+      change = more (large_of d) c.args.grid.now sites (swapped sites c.args.swap.now) c.args.but b c.places.k c.places.gained c.places.lost c.renew_net-one.result.gained c.renew_net-one.result.lost h c.places.invariant.change c.renew_net-one.ensures.change;
       left = c.renew_net-one.ensures.boxes;
     }
 
@@ -54,6 +53,5 @@ returns c =
     let e = row_long d b c.row-row.result.now row in
     record {
       boxes = ended c.places.large.boxes.items (large_of d) c.args.grid.now sites (swapped sites c.args.swap.now) b c.args.but c.places.k c.places.invariant.left (omega arith);
-      gained = sum_all (large_of d) c.args.grid.now (swapped sites c.args.swap.now) c.args.but b c.places.k c.places.gained (omega arith) c.places.invariant.gained;
-      lost = sum_all (large_of d) c.args.grid.now sites c.args.but b c.places.k c.places.lost (omega arith) c.places.invariant.lost;
+      change = all (large_of d) c.args.grid.now sites (swapped sites c.args.swap.now) c.args.but b c.places.k c.places.gained c.places.lost (omega arith) c.places.invariant.change;
     }

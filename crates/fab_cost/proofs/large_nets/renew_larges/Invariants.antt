@@ -1,7 +1,8 @@
-use Rattle.std.proofs.Common.{◌≡◌, take}
+use Rattle.std.proofs.Common.{take}
 use Rattle.std.specs.List.{sum_by}
 use Rattle.fab_net.specs.Netlist.{nets_of}
 use Rattle.fab_site.specs.Placement.{swapped}
+use Rattle.fab_cost.specs.Changes.{IsChange}
 use Rattle.fab_cost.specs.Runs.{large_of}
 use Rattle.fab_cost.specs.Swapping.{AreRenewed, cost_unless}
 use Rattle.fab_cost.proofs.Renewals.{done_to}
@@ -9,7 +10,6 @@ use Rattle.fab_cost.proofs.large_nets.renew_larges.Given as goal
 
 abbrev pub invariant-places : goal.invariant-places
 invariant-places l = record {
-  gained : l.gained ≡ sum_by (cost_unless (large_of l.design) l.grid (swapped l.placement.sites l.swap) l.but) (take l.k (nets_of (large_of l.design) l.block.0));
-  lost : l.lost ≡ sum_by (cost_unless (large_of l.design) l.grid l.placement.sites l.but) (take l.k (nets_of (large_of l.design) l.block.0));
+  change : IsChange (sum_by (cost_unless (large_of l.design) l.grid l.placement.sites l.but) (take l.k (nets_of (large_of l.design) l.block.0))) (sum_by (cost_unless (large_of l.design) l.grid (swapped l.placement.sites l.swap) l.but) (take l.k (nets_of (large_of l.design) l.block.0))) l.gained l.lost;
   left : AreRenewed l.large.boxes.items (large_of l.design) l.grid l.placement.sites (swapped l.placement.sites l.swap) (done_to (large_of l.design) l.block.0 l.but l.k);
 }
