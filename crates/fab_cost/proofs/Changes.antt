@@ -29,12 +29,12 @@ use Rattle.fab_cost.proofs.Times.{times_cons, times_none}
 
 -- the ends of a list
 
-least_from : (v : ℕ) (xs : List ℕ) → ((w : ℕ) → 0 < times w xs → v ≤ w) → 0 < times v xs → v ≡ least xs
+pub least_from : (v : ℕ) (xs : List ℕ) → ((w : ℕ) → 0 < times w xs → v ≤ w) → 0 < times v xs → v ≡ least xs
 unfolding edges_of
 least_from v xs bounds some =
     ap (λ (e : Edge). e.at) (least_only (record { at = v; count = times v xs }) (edges_of xs).least xs (record { bounds = bounds; count = refl; some = some }) (least_is xs (some_entry v xs some)))
 
-greatest_from : (v : ℕ) (xs : List ℕ) → ((w : ℕ) → 0 < times w xs → w ≤ v) → 0 < times v xs → v ≡ greatest xs
+pub greatest_from : (v : ℕ) (xs : List ℕ) → ((w : ℕ) → 0 < times w xs → w ≤ v) → 0 < times v xs → v ≡ greatest xs
 unfolding edges_of
 greatest_from v xs bounds some =
     ap (λ (e : Edge). e.at) (greatest_only (record { at = v; count = times v xs }) (edges_of xs).greatest xs (record { bounds = bounds; count = refl; some = some }) (greatest_is xs (some_entry v xs some)))
@@ -212,7 +212,7 @@ same_cost d g before after n b e f =
     let p : net_box d g after n ≡ net_box d g before n = sym (plain_is d g after n) ∙ ap plain (sym f ∙ e) ∙ plain_is d g before n in
     ap (λ v. cross_of (length (blocks_of d n)) * half_perimeter v) p
 
-unless_same : (d : Netlist) (g : GridShape) (before after : List Site) (but : Option BlockId) (n : ℕ) → net_cost d g after n ≡ net_cost d g before n → IsChange (cost_unless d g before but n) (cost_unless d g after but n) 0 0
+pub unless_same : (d : Netlist) (g : GridShape) (before after : List Site) (but : Option BlockId) (n : ℕ) → net_cost d g after n ≡ net_cost d g before n → IsChange (cost_unless d g before but n) (cost_unless d g after but n) 0 0
 unfolding cost_unless
 unless_same d g before after but n e =
     let k : cond (has_block but (blocks_of d n)) 0 (net_cost d g after n) ≡ cond (has_block but (blocks_of d n)) 0 (net_cost d g before n) = ap (λ v. cond (has_block but (blocks_of d n)) 0 v) e in

@@ -1,5 +1,5 @@
 -- What a value keeps, and what it shows: positions by vectors, and boxes by positions or as they are kept.
-use Rattle.std.proofs.Common.{◌≡◌, ℕ, zero, suc, ◌+◌, ◌-◌, ◌<◌, ◌≤◌, ◌^◌, cond, ltb, Bool, true, false, List, [], ◌∷◌, ◌++◌, map, take, length, get_or, refl, sym, ap, ◌∙◌, set, arith, inl, inr, Option, Some, None, length-append, length-set}
+use Rattle.std.proofs.Common.{◌≡◌, ℕ, zero, suc, ◌+◌, ◌-◌, ◌<◌, ◌≤◌, ◌^◌, cond, ltb, Bool, true, false, List, [], ◌∷◌, ◌++◌, map, take, length, get_or, refl, sym, subst, ap, ◌∙◌, set, arith, inl, inr, Option, Some, None, length-append, length-set}
 use Rattle.std.proofs.lemmas.Bool.{cases_lt, ltb-true}
 use Rattle.std.proofs.lemmas.Bool.Decides.{nat_tests}
 use Rattle.std.proofs.lemmas.List.{length-map, get_or-map, take-append-le, take_all}
@@ -17,7 +17,7 @@ use Rattle.fab_cost.specs.Cost.{clip, cost_of}
 use Rattle.fab_cost.specs.Boxes.{Counts}
 use Rattle.fab_cost.specs.Edges.{counted_box, counted_on, counts_of, edge_counts, edges_of}
 use Rattle.fab_cost.specs.Swapping.{CountedBoxesOf, CountedStandsFor, HaveBoxes, Position, position_at, blocks_of, counted_at, counted_blocks, nothing_counted}
-use Rattle.fab_cost.specs.Runs.{HasRecords, IsKept, box_seen, boxes_seen, counted_over, is_large, large_of, lanes_at, lanes_for, no_position, no_lanes, positions_after, positions_in, positions_with, table_from, table_of}
+use Rattle.fab_cost.specs.Runs.{AreMost, HasRecords, IsKept, box_seen, boxes_seen, counted_over, is_large, large_of, lanes_at, lanes_for, no_position, no_lanes, positions_after, positions_in, positions_with, table_from, table_of}
 use Rattle.fab_cost.proofs.Alike.{alike, row_is}
 use Rattle.fab_cost.proofs.Large.{box_large, counts_large, large_counts}
 use Rattle.fab_cost.proofs.Listings.{listed_row}
@@ -161,14 +161,15 @@ low_row d n i is h = go (net_at d n).global (row_is d n)
     go true e = absurd (let l = ap length e in omega (arith, h, l))
     go false e = (let l = ap length e in let a = ap (λ v. get_or v i 0) e in let w = is.within n i (omega (arith, h, l)) in omega (arith, a, w))
 
-pub kept_new : (d : Netlist) (g : GridShape) (sites : List Site) (table : List (List ℕ)) (r : Runs) (kept : List CountedBox) (total : ℕ) → IsLawful d → length d.kinds ≡ length sites → table ≡ table_of g sites → HasRecords r d → r.terminals ≡ counted_blocks d
-    → HaveBoxes kept (large_of d) g sites → total < 2 ^ 43 → IsKept table r kept total
-kept_new d g sites table r kept total is w et records terminals have low =
+pub kept_new : (d : Netlist) (g : GridShape) (sites : List Site) (table : List (List ℕ)) (r : Runs) (kept : List CountedBox) (most : List ℕ) (total : ℕ) → IsLawful d → length d.kinds ≡ length sites → table ≡ table_of g sites → HasRecords r d → r.terminals ≡ counted_blocks d
+    → HaveBoxes kept (large_of d) g sites → AreMost most (counted_blocks d) → total < 2 ^ 43 → IsKept table r kept most total
+kept_new d g sites table r kept most total is w et records terminals have are low =
     let long : length (positions_in table) ≡ length d.kinds = ap length (positions_of_table g sites table et) ∙ length-map sites (position_at g) ∙ sym w in
     record {
       below = low;
       vectors = table_by_positions g sites table et;
       long = have.long ∙ sym (nets_long d r.terminals terminals);
+      bounds = subst (AreMost most) (sym terminals) are;
       within = λ n i h.
           let e = ap (λ v. get_or v n []) terminals in
           let a = ap (λ v. get_or v i 0) e in
@@ -177,11 +178,12 @@ kept_new d g sites table r kept total is w et records terminals have low =
       runs = λ e same kinds. alike d e r (sym terminals ∙ same) (sym long ∙ kinds) records;
     }
 
-pub kept_after : (old new : List (List ℕ)) (r : Runs) (boxes kept : List CountedBox) (was total : ℕ) → IsKept old r boxes was → length (positions_in new) ≡ length (positions_in old) → new ≡ table_from (positions_in new) → length kept ≡ length boxes → total < 2 ^ 43 → IsKept new r kept total
-kept_after old new r boxes kept was total is long vectors kept_long low = record {
+pub kept_after : (old new : List (List ℕ)) (r : Runs) (boxes kept : List CountedBox) (most left : List ℕ) (was total : ℕ) → IsKept old r boxes most was → length (positions_in new) ≡ length (positions_in old) → new ≡ table_from (positions_in new) → length kept ≡ length boxes → left ≡ most → total < 2 ^ 43 → IsKept new r kept left total
+kept_after old new r boxes kept most left was total is long vectors kept_long same low = record {
   below = low;
   vectors = vectors;
   long = kept_long ∙ is.long;
+  bounds = subst (λ v. AreMost v r.terminals) (sym same) is.bounds;
   within = λ n i h. let w = is.within n i h in omega (arith, w, long);
   runs = λ e same kinds. is.runs e same (sym long ∙ kinds);
 }

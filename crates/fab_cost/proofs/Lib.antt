@@ -26,3 +26,5 @@ pub mod Alike
 pub mod Way
 pub mod EdgeLanes
 pub mod Passing
+pub mod Held
+pub mod Most

@@ -19,6 +19,12 @@ use Rattle.fab_cost.specs.Swapping.{Position, position_at, counted_blocks, count
 abbrev pub four : ℕ → ℕ → ℕ → ℕ → List ℕ
 four a b c d = a ∷ b ∷ c ∷ d ∷ []
 
+pub record AreFourBelow (a b c d e f g h : ℕ) : Type 0 where
+  pub first : a < e
+  pub second : b < f
+  pub third : c < g
+  pub fourth : d < h
+
 -- the clipped column and row, and how far each is from the far end
 abbrev pub lanes_for : Position → List ℕ
 lanes_for p = four p.x (1001 - p.x) p.y (1001 - p.y)
@@ -32,6 +38,31 @@ least_of a b = zip2 (λ x y. min x y) a b
 -- the edges of a box as lanes: the least column and row, and how far the greatest is from the far end
 abbrev pub edge_lanes : CountedBox → List ℕ
 edge_lanes b = four b.x.least.at (1001 - b.x.greatest.at) b.y.least.at (1001 - b.y.greatest.at)
+
+-- the lane of an edge, less 1 if the edge has more than `most` terminals
+abbrev pub lowered : ℕ → ℕ → ℕ → ℕ
+lowered most count lane = if nat_lt most count then lane - 1 else lane
+
+-- the edges of a box as lanes that a site's lane exceeds if the site is inside, or on an edge with more than `most` terminals
+abbrev pub inner_lanes : ℕ → CountedBox → List ℕ
+inner_lanes most b =
+    four (lowered most b.x.least.count b.x.least.at) (lowered most b.x.greatest.count (1001 - b.x.greatest.at)) (lowered most b.y.least.count b.y.least.at) (lowered most b.y.greatest.count (1001 - b.y.greatest.at))
+
+-- each box has its lanes, by its number in `most`
+pub record AreInner (inner : List (List ℕ)) (most : List ℕ) (boxes : List CountedBox) : Type 0 where
+  pub long : length inner ≡ length boxes
+  pub told : length most ≡ length boxes
+  pub each : (n : ℕ) (z : List ℕ) → n < length boxes → slice_index_or inner n z ≡ inner_lanes (slice_index_or most n 0) (counted_at boxes n)
+
+-- by net number: no block occurs more often among the net's blocks
+pub record AreMost (most : List ℕ) (nets : List (List ℕ)) : Type 0 where
+  pub each : (n b : ℕ) → times b (slice_index_or nets n []) ≤ slice_index_or most n 0
+
+-- the numbers of a block's first `i` nets are raised to how many of the net's terminals are on the block, and none is lowered
+pub record AreRaised (d : Netlist) (b i : ℕ) (old new : List ℕ) : Type 0 where
+  pub long : length new ≡ length old
+  pub grown : (n : ℕ) → slice_index_or old n 0 ≤ slice_index_or new n 0
+  pub each : (k : ℕ) → k < i → k < length (nets_of d b) → times b (blocks_of d (slice_index (nets_of d b) k)) ≤ slice_index_or new (slice_index (nets_of d b) k) 0
 
 -- the lanes of both sites of a swap
 abbrev pub reach_lanes : GridShape → Swap → List ℕ
@@ -182,10 +213,11 @@ unfoldable pub boxes_seen : List (List ℕ) → List Position → List CountedBo
 boxes_seen nets positions kept = map (box_seen nets positions kept) (range_with_len 0 (length nets))
 
 -- what is kept fits together: whatever the design of these nets and blocks, the runs are its nets
-pub record IsKept (table : List (List ℕ)) (r : Runs) (kept : List CountedBox) (total : ℕ) : Type 0 where
+pub record IsKept (table : List (List ℕ)) (r : Runs) (kept : List CountedBox) (most : List ℕ) (total : ℕ) : Type 0 where
   pub below : total < 2 ^ 43
   pub vectors : table ≡ table_from (positions_in table)
   pub long : length kept ≡ length r.terminals
+  pub bounds : AreMost most r.terminals
   pub within : (n i : ℕ) → i < length (slice_index_or r.terminals n []) → slice_index (slice_index_or r.terminals n []) i < length (positions_in table)
   pub runs : (d : Netlist) → r.terminals ≡ counted_blocks d → length (positions_in table) ≡ length d.kinds → HasRecords r d
 

@@ -1,12 +1,12 @@
 //! Positions as vectors of four lanes: the box of some blocks is the least of their vectors, lane by lane.
 
-ghost use Rattle.std.specs.Prelude.{◌≡◌, ◌<◌, IsTrue};
+ghost use Rattle.std.specs.Prelude.{◌≡◌, ℕ, ◌<◌, IsTrue};
 ghost use Rattle.fab_arch.specs.Grid.{GridShape};
 ghost use Rattle.fab_site.specs.declared.pieces.Swap.{Swap as SwapOf};
 ghost use Rattle.fab_cost.specs.declared.edge_counts.CountedBox.{CountedBox as CountedEdges};
-ghost use Rattle.fab_cost.specs.Changes.{Surrounds};
+ghost use Rattle.fab_cost.specs.Changes.{Holds, Surrounds};
 ghost use lib.Lanes.{sum_l};
-ghost use Rattle.fab_cost.specs.Runs.{edge_lanes, four, lanes_at, least_of, reach_lanes};
+ghost use Rattle.fab_cost.specs.Runs.{AreFourBelow, edge_lanes, four, inner_lanes, lanes_at, least_of, lowered as less_if_many, reach_lanes};
 
 use crate::edge_counts::CountedBox;
 use crate::net_box::clipped;
@@ -60,6 +60,31 @@ pub(crate) fn edge_lanes_of(edges: CountedBox) -> u16x4
     ])
 }
 
+/// The lane of an edge, less 1 if the edge has more than `most` terminals.
+fn lowered(most: u32, count: u32, lane: u16) -> u16
+    ensures { result ≡ less_if_many most count lane }
+{
+    if most < count {
+        lane.saturating_sub(1)
+    } else {
+        lane
+    }
+}
+
+/// The edges of a box as lanes, each less 1 if the edge has more than `most` terminals.
+pub(crate) fn inner_lanes_of(most: u32, edges: CountedBox) -> u16x4
+    ensures { result ≡ inner_lanes most edges }
+{
+    let right = 1001u16.saturating_sub(edges.x.greatest.at);
+    let upper = 1001u16.saturating_sub(edges.y.greatest.at);
+    u16x4::from_array([
+        lowered(most, edges.x.least.count, edges.x.least.at),
+        lowered(most, edges.x.greatest.count, right),
+        lowered(most, edges.y.least.count, edges.y.least.at),
+        lowered(most, edges.y.greatest.count, upper),
+    ])
+}
+
 #[inline(always)]
 /// Both sites of a swap at one look: the least column and row, and 1001 less the greatest column and row.
 pub(crate) fn reach_of(grid: &Grid, swap: &Swap) -> u16x4
@@ -74,4 +99,20 @@ pub(crate) fn surrounds(edges: u16x4, reach: u16x4) -> bool
     ensures { (g : GridShape) (b : CountedEdges) (s : SwapOf) → edges ≡ edge_lanes b → reach ≡ reach_lanes g s → IsTrue result → Surrounds g b s }
 {
     edges.simd_lt(reach).all()
+}
+
+#[inline(always)]
+/// Whether each lane is below its counterpart.
+fn are_below(one: u16x4, other: u16x4) -> bool
+    ensures { (a b c d e f g h : ℕ) → one ≡ four a b c d → other ≡ four e f g h → IsTrue result → AreFourBelow a b c d e f g h }
+{
+    one.simd_lt(other).all()
+}
+
+#[inline(always)]
+/// Whether no site is outside the box with these lanes, nor on an edge with `most` terminals or fewer.
+pub(crate) fn holds(inner: u16x4, reach: u16x4) -> bool
+    ensures { (most : ℕ) (g : GridShape) (b : CountedEdges) (s : SwapOf) → inner ≡ inner_lanes most b → reach ≡ reach_lanes g s → IsTrue result → Holds most g b s }
+{
+    are_below(inner, reach)
 }

@@ -1,6 +1,6 @@
 //! The nets with many terminals, whose boxes are kept with edge counts: how a swap changes their cost, and their boxes after it.
 
-ghost use Rattle.std.specs.Prelude.{◌≡◌, ◌≢◌, ℕ, ◌<◌, ◌≤◌, ◌+◌, ◌^◌, ◌||◌, ◌==◌, true, false, if◌then◌else◌, List, length, map, take, IfOk, Some, slice_index, slice_set};
+ghost use Rattle.std.specs.Prelude.{◌≡◌, ◌≢◌, ℕ, ◌<◌, ◌≤◌, ◌+◌, ◌^◌, ◌||◌, ◌==◌, true, false, if◌then◌else◌, List, length, map, take, IfOk, Some, slice_index, slice_index_or, slice_set};
 ghost use Rattle.std.specs.List.{All, list_any, sum_by};
 ghost use Rattle.fab_arch.specs.declared.array.Site.{Site as ArraySite};
 ghost use Rattle.fab_arch.specs.Grid.{GridShape};
@@ -12,14 +12,15 @@ ghost use Rattle.fab_cost.specs.Boxes.{Counts};
 ghost use Rattle.fab_cost.specs.Changes.{IsChange};
 ghost use Rattle.fab_cost.specs.Cost.{cost_of, net_cost};
 ghost use Rattle.fab_cost.specs.Edges.{times, counted_box as box_counted};
-ghost use Rattle.fab_cost.specs.Runs.{AreLarge, HasRecords, edge_lanes, large_of, reach_lanes};
-ghost use Rattle.fab_cost.specs.Swapping.{AreRenewed, HaveBoxes, IsPart, blocks_of, cost_unless, counted_at, has_block, is_on_swap, times_other};
+ghost use Rattle.fab_cost.specs.Runs.{AreInner, AreLarge, AreMost, HasRecords, inner_lanes, large_of, reach_lanes};
+ghost use Rattle.fab_cost.specs.Swapping.{AreRenewed, HaveBoxes, IsPart, blocks_of, cost_unless, counted_at, counted_blocks, has_block, is_on_swap, times_other};
 
 use crate::block_nets::{Shares, is_left_out, net_of, own_pins, partner_pins, shares_with};
 use crate::counting::{counted_box, swapped_box};
 use crate::edge_boxes::{NO_TALLY, Tally, plus};
 use crate::edge_counts::{CountedBox, NOTHING};
-use crate::lanes::{edge_lanes_of, reach_of, surrounds};
+use crate::lanes::{edge_lanes_of, holds, inner_lanes_of, reach_of, surrounds};
+use crate::most_pins::most_pins;
 use crate::runs::{Runs, WIDE};
 use crate::swap_change::change_of_many;
 use fab_arch::Grid;
@@ -31,46 +32,64 @@ use std::simd::prelude::*;
 /// By net number the box of each large net, and its edges as lanes; a placeholder for every other net.
 pub(crate) struct LargeBoxes {
     pub(crate) boxes: Vec<CountedBox>,
-    pub(crate) edges: Vec<u16x4>,
-    ghost alike: { edges.items ≡ map edge_lanes boxes.items },
+    /// The most terminals that one block has on the net.
+    pub(crate) most: Vec<u32>,
+    /// The edges as lanes. A lane is less by 1 if the edge has more terminals than one block can take away.
+    pub(crate) inner: Vec<u16x4>,
+    ghost alike: { AreInner inner.items most.items boxes.items },
 }
 
 impl Drop for LargeBoxes {
     // A written `drop` is one step of a proof wherever a value goes out of scope; a derived one is proved again each time.
     fn drop(self) {
-        let LargeBoxes { boxes: _, edges: _ } = self;
+        let LargeBoxes {
+            boxes: _,
+            most: _,
+            inner: _,
+        } = self;
     }
 }
 
+#[tactic(auto, using(crate::proofs::EdgeLanes::inner_to_none))]
 /// Adds to each box its edges as lanes.
-fn with_edges(alloc: Global, boxes: Vec<CountedBox>) -> Result<LargeBoxes, AllocError>
-    ensures { IfOk result (λ large. large.boxes.items ≡ boxes.items) }
+fn with_lanes(
+    alloc: Global,
+    boxes: Vec<CountedBox>,
+    most: Vec<u32>,
+) -> Result<LargeBoxes, AllocError>
+    requires { length most.items ≡ length boxes.items }
+    ensures boxes { IfOk result (λ large. large.boxes.items ≡ boxes.items) }
+    ensures most { IfOk result (λ large. large.most.items ≡ most.items) }
 {
-    let mut edges = Vec::with_capacity(alloc, boxes.len())?;
+    let mut inner = Vec::with_capacity(alloc, boxes.len())?;
     'boxes: for i in 0..boxes.len() {
-        edges.push(edge_lanes_of(boxes[i]))?;
+        inner.push(inner_lanes_of(most[i], boxes[i]))?;
     }
-    Ok(LargeBoxes { boxes, edges })
+    Ok(LargeBoxes { boxes, most, inner })
 }
 
 impl LargeBoxes {
     /// A copy.
     pub(crate) fn copy(&self) -> Result<LargeBoxes, AllocError>
-        ensures { IfOk result (λ large. large.boxes.items ≡ self.now.boxes.items) }
+        ensures boxes { IfOk result (λ large. large.boxes.items ≡ self.now.boxes.items) }
+        ensures most { IfOk result (λ large. large.most.items ≡ self.now.most.items) }
     {
         Ok(LargeBoxes {
             boxes: self.boxes.clone()?,
-            edges: self.edges.clone()?,
+            most: self.most.clone()?,
+            inner: self.inner.clone()?,
         })
     }
 
     /// Makes these the boxes of another list, which is as long.
     pub(crate) fn take_whole(&mut self, from: &LargeBoxes)
         requires { length self.old.boxes.items ≡ length from.now.boxes.items }
-        ensures { self.new.boxes.items ≡ from.now.boxes.items }
+        ensures boxes { self.new.boxes.items ≡ from.now.boxes.items }
+        ensures most { self.new.most.items ≡ from.now.most.items }
     {
         self.boxes.copy_from_slice(&from.boxes);
-        self.edges.copy_from_slice(&from.edges);
+        self.most.copy_from_slice(&from.most);
+        self.inner.copy_from_slice(&from.inner);
     }
 
     #[tactic(auto, unfolding(crate::specs::Swapping::counted_at))]
@@ -83,21 +102,22 @@ impl LargeBoxes {
     }
 
     #[inline(always)]
-    /// The edges of the box of the net.
-    fn edges_of(&self, net: NetId) -> u16x4
+    /// The lanes of the net.
+    fn inner_of(&self, net: NetId) -> u16x4
         requires { net.0 < length self.now.boxes.items }
-        ensures { result ≡ edge_lanes (counted_at self.now.boxes.items net.0) }
+        ensures { result ≡ inner_lanes (slice_index_or self.now.most.items net.0 0) (counted_at self.now.boxes.items net.0) }
     {
-        self.edges[net.0 as usize]
+        self.inner[net.0 as usize]
     }
 
     /// Renews the box of the net.
     fn set(&mut self, net: NetId, new: CountedBox)
         requires { net.0 < length self.old.boxes.items }
-        ensures { self.new.boxes.items ≡ slice_set self.old.boxes.items net.0 new }
+        ensures boxes { self.new.boxes.items ≡ slice_set self.old.boxes.items net.0 new }
+        ensures most { self.new.most.items ≡ self.old.most.items }
     {
         self.boxes[net.0 as usize] = new;
-        self.edges[net.0 as usize] = edge_lanes_of(new);
+        self.inner[net.0 as usize] = inner_lanes_of(self.most[net.0 as usize], new);
     }
 }
 
@@ -191,6 +211,7 @@ pub(crate) fn boxes_for(
 ) -> Result<(LargeBoxes, u64), AllocError>
     requires { length design.now.kinds ≡ length placement.now.sites }
     ensures have { IfOk result (λ b. HaveBoxes b.0.boxes.items (large_of design.now) grid.now placement.now.sites) }
+    ensures most { IfOk result (λ b. AreMost b.0.most.items (counted_blocks design.now)) }
     ensures sum { IfOk result (λ b. b.1 ≡ cost_of design.now grid.now placement.now.sites) }
     ensures below { IfOk result (λ b. b.1 < 2 ^ 43) }
 {
@@ -210,10 +231,11 @@ pub(crate) fn boxes_for(
             total += cost;
         }
     }
-    Ok((with_edges(alloc, boxes)?, total))
+    let most = most_pins(alloc, design)?;
+    Ok((with_lanes(alloc, boxes, most)?, total))
 }
 
-#[tactic(auto, using(crate::proofs::Large::row_within, crate::proofs::Changes::passed))]
+#[tactic(auto, using(crate::proofs::Large::row_within))]
 #[inline(always)]
 /// How the swap changes the cost of large net `k` of a block, of which `row` has the places; nothing if it is also a net of the
 /// block `but`.
@@ -235,6 +257,7 @@ fn change_of_kept(
     requires block { block.0 < length design.now.kinds }
     requires large { AreLarge design.now block.0 row.now }
     requires within { k < length row.now }
+    requires most { AreMost large.now.most.items (counted_blocks design.now) }
     requires lawful { IsSwapOf grid.now placement.now.sites swap.now }
     requires whole { length design.now.kinds ≡ length placement.now.sites }
     ensures { IsChange (cost_unless (large_of design.now) grid.now placement.now.sites but (slice_index (nets_of (large_of design.now) block.0) k)) (cost_unless (large_of design.now) grid.now (swapped placement.now.sites swap.now) but (slice_index (nets_of (large_of design.now) block.0) k)) result.gained result.lost }
@@ -242,7 +265,7 @@ fn change_of_kept(
     let _nets = design.nets();
     let i = row[k] as usize;
     let net = net_of(design, block, i);
-    if surrounds(large.edges_of(net), reach) {
+    if holds(large.inner_of(net), reach) {
         NO_TALLY
     } else {
         change_of_many(
@@ -277,6 +300,7 @@ fn change_of_larges(
     requires reach { reach ≡ reach_lanes grid.now swap.now }
     requires part { IsPart swap.now block but }
     requires block { block.0 < length design.now.kinds }
+    requires most { AreMost large.now.most.items (counted_blocks design.now) }
     requires lawful { IsSwapOf grid.now placement.now.sites swap.now }
     requires whole { length design.now.kinds ≡ length placement.now.sites }
     ensures { IsChange (sum_by (cost_unless (large_of design.now) grid.now placement.now.sites but) (nets_of (large_of design.now) block.0)) (sum_by (cost_unless (large_of design.now) grid.now (swapped placement.now.sites swap.now) but) (nets_of (large_of design.now) block.0)) result.gained result.lost }
@@ -309,6 +333,7 @@ pub(crate) fn change_of_large(
 ) -> Tally
     requires records { HasRecords runs.now design.now }
     requires have { HaveBoxes large.now.boxes.items (large_of design.now) grid.now placement.now.sites }
+    requires most { AreMost large.now.most.items (counted_blocks design.now) }
     requires lawful { IsSwapOf grid.now placement.now.sites swap.now }
     requires whole { length design.now.kinds ≡ length placement.now.sites }
     ensures balance { cost_of (large_of design.now) grid.now (swapped placement.now.sites swap.now) + result.lost ≡ cost_of (large_of design.now) grid.now placement.now.sites + result.gained }
@@ -358,6 +383,7 @@ fn renew_kept(
     ensures boxes { AreRenewed large.new.boxes.items (large_of design.now) grid.now placement.now.sites (swapped placement.now.sites swap.now) (λ n. has_block but (blocks_of design.now n) || has_number n (take (k + 1) (nets_of (large_of design.now) block.0))) }
     ensures gained { result.gained ≡ cost_unless (large_of design.now) grid.now (swapped placement.now.sites swap.now) but (slice_index (nets_of (large_of design.now) block.0) k) }
     ensures lost { result.lost ≡ cost_unless (large_of design.now) grid.now placement.now.sites but (slice_index (nets_of (large_of design.now) block.0) k) }
+    ensures most { large.new.most.items ≡ large.old.most.items }
 {
     let i = row[k] as usize;
     let net = net_of(design, block, i);
@@ -398,9 +424,10 @@ fn renew_net(
     requires whole { length design.now.kinds ≡ length placement.now.sites }
     ensures boxes { AreRenewed large.new.boxes.items (large_of design.now) grid.now placement.now.sites (swapped placement.now.sites swap.now) (λ n. has_block but (blocks_of design.now n) || has_number n (take (k + 1) (nets_of (large_of design.now) block.0))) }
     ensures change { IsChange (cost_unless (large_of design.now) grid.now placement.now.sites but (slice_index (nets_of (large_of design.now) block.0) k)) (cost_unless (large_of design.now) grid.now (swapped placement.now.sites swap.now) but (slice_index (nets_of (large_of design.now) block.0) k)) result.gained result.lost }
+    ensures most { large.new.most.items ≡ large.old.most.items }
 {
     let net = net_of(design, block, row[k] as usize);
-    if surrounds(large.edges_of(net), reach) {
+    if surrounds(edge_lanes_of(large.kept(net)), reach) {
         NO_TALLY
     } else {
         renew_kept(large, design, grid, placement, swap, block, but, row, k)
@@ -430,6 +457,7 @@ fn renew_larges(
     requires whole { length design.now.kinds ≡ length placement.now.sites }
     ensures boxes { AreRenewed large.new.boxes.items (large_of design.now) grid.now placement.now.sites (swapped placement.now.sites swap.now) (λ n. has_block but (blocks_of design.now n) || has_number block.0 (blocks_of design.now n)) }
     ensures change { IsChange (sum_by (cost_unless (large_of design.now) grid.now placement.now.sites but) (nets_of (large_of design.now) block.0)) (sum_by (cost_unless (large_of design.now) grid.now (swapped placement.now.sites swap.now) but) (nets_of (large_of design.now) block.0)) result.gained result.lost }
+    ensures most { large.new.most.items ≡ large.old.most.items }
 {
     let _nx = grid.nx();
     let _ny = grid.ny();
@@ -465,6 +493,7 @@ pub(crate) fn renew_large(
     ensures balance { cost_of (large_of design.now) grid.now (swapped placement.now.sites swap.now) + result.lost ≡ cost_of (large_of design.now) grid.now placement.now.sites + result.gained }
     ensures gained { result.gained < 2 ^ 43 }
     ensures lost { result.lost < 2 ^ 43 }
+    ensures most { large.new.most.items ≡ large.old.most.items }
 {
     let _nx = grid.nx();
     let _ny = grid.ny();
@@ -490,6 +519,7 @@ fn take_nets(large: &mut LargeBoxes, from: &LargeBoxes, nets: &[NetId])
     requires within { All (λ (n : Net). n.0 < length large.old.boxes.items) nets.now }
     requires from { length from.now.boxes.items ≡ length large.old.boxes.items }
     ensures length { length large.new.boxes.items ≡ length large.old.boxes.items }
+    ensures most { large.new.most.items ≡ large.old.most.items }
     ensures each { (k : ℕ) → counted_at large.new.boxes.items k ≡ (if list_any (λ (n : Net). k == n.0) nets.now then counted_at from.now.boxes.items k else counted_at large.old.boxes.items k) }
 {
     for net in nets {
@@ -504,6 +534,7 @@ pub(crate) fn take_boxes(large: &mut LargeBoxes, from: &LargeBoxes, design: &Des
     requires long { length large.old.boxes.items ≡ length design.now.terminals }
     requires from_long { length from.now.boxes.items ≡ length design.now.terminals }
     ensures long { length large.new.boxes.items ≡ length large.old.boxes.items }
+    ensures most { large.new.most.items ≡ large.old.most.items }
     ensures each { (n : ℕ) → Counts design.now n → counted_at large.new.boxes.items n ≡ counted_at (if is_on_swap design.now swap.now n then from.now.boxes.items else large.old.boxes.items) n }
 {
     take_nets(large, from, design.nets_of(swap.block));

@@ -8,6 +8,7 @@ pub mod edge_boxes;
 pub mod edge_counts;
 mod lanes;
 mod large_nets;
+mod most_pins;
 pub mod net_box;
 pub mod net_boxes;
 mod records;

@@ -1,7 +1,7 @@
 use Rattle.std.proofs.Common.{◌+◌, subst, sym, ◌∙◌, arith}
 use Rattle.fab_cost.specs.Boxes.{Counts}
-use Rattle.fab_cost.specs.Swapping.{HaveBoxes}
-use Rattle.fab_cost.specs.Runs.{large_of}
+use Rattle.fab_cost.specs.Swapping.{HaveBoxes, counted_blocks}
+use Rattle.fab_cost.specs.Runs.{AreMost, large_of}
 use Rattle.fab_cost.proofs.Bounds.{AreSides, cost_below}
 use Rattle.fab_cost.proofs.CountedMaking.{have_made, made_none, made_global, made_more}
 use Rattle.fab_cost.proofs.Large.{box_large, global_large}
@@ -46,6 +46,9 @@ nets-preserved c =
           })
     ]
 
+pub with_lanes-requires : goal.with_lanes-requires
+with_lanes-requires c = let made = have_made c.nets.boxes.items (large_of c.args.design.now) c.args.grid.now c.args.placement.now.sites c.nets.number c.nets.invariant.made (omega arith) in c.in_ok-most.ensures.long ∙ sym made.long
+
 pub returns : goal.returns
 returns c =
     let d = c.args.design.now in
@@ -54,7 +57,8 @@ returns c =
     let all = cost_all d g sites c.nets.number (omega arith) in
     let below = cost_below d g sites c.nets-nets.ensures.lawful (omega arith, omega arith) (omega arith, omega arith) in
     record {
-      have = subst (λ v. HaveBoxes v (large_of d) g sites) (sym c.in_ok-with_edges.ensures) (have_made c.nets.boxes.items (large_of d) g sites c.nets.number c.nets.invariant.made (omega arith));
+      have = subst (λ v. HaveBoxes v (large_of d) g sites) (sym c.in_ok-with_lanes.ensures.boxes) (have_made c.nets.boxes.items (large_of d) g sites c.nets.number c.nets.invariant.made (omega arith));
+      most = subst (λ v. AreMost v (counted_blocks d)) (sym c.in_ok-with_lanes.ensures.most) c.in_ok-most.ensures.most;
       sum = c.nets.invariant.sum ∙ all;
       below = omega (arith, all, below, c.nets.invariant.sum);
     }

@@ -4,8 +4,9 @@ use Rattle.fab_site.specs.Placement.{swapped}
 use Rattle.fab_cost.specs.Edges.{counted_box}
 use Rattle.fab_cost.specs.Swapping.{counted_at}
 use Rattle.fab_cost.specs.Runs.{large_of}
-use Rattle.fab_cost.proofs.Changes.{passed}
+use Rattle.fab_cost.proofs.Held.{held}
 use Rattle.fab_cost.proofs.Large.{change_large, kept_is, row_counts, row_net}
+use Rattle.fab_cost.proofs.Most.{most_on}
 use Rattle.fab_cost.proofs.large_nets.change_of_kept.Goals as goal
 
 pub change_of_many-requires-clause-old : goal.change_of_many-requires-clause-old
@@ -17,21 +18,22 @@ change_of_many-requires-clause-old c =
     let counts = row_counts d c.args.block.0 c.args.row.now c.args.k _ 0 n c.requires.large c.requires.within refl c.net_of-net.ensures.number in
     kept_is c.args.large.now.boxes.items d g sites n c.kept.result c.requires.have counts c.kept.ensures ∙ ap (counted_box d g sites) c.net_of-net.ensures.number
 
-pub returns-then-surrounds : goal.returns-then-surrounds
-returns-then-surrounds c =
+pub returns-then-holds : goal.returns-then-holds
+returns-then-holds c =
     let d = c.args.design.now in
     let g = c.args.grid.now in
     let sites = c.args.placement.now.sites in
     let b = c.args.block.0 in
     let n = c.net_of-net.result.0 in
+    let most = get_or c.args.large.now.most.items n 0 in
     let kept = counted_at c.args.large.now.boxes.items n in
     let counts = row_counts d b c.args.row.now c.args.k _ 0 n c.requires.large c.requires.within refl c.net_of-net.ensures.number in
     let old = kept_is c.args.large.now.boxes.items d g sites n kept c.requires.have counts refl in
     change_large d g sites (swapped sites c.args.swap.now) c.args.but n (get_or (nets_of (large_of d) b) c.args.k 0) 0 0 (c.net_of-net.ensures.number ∙ row_net d b c.args.row.now c.args.k _ 0 c.requires.large c.requires.within refl)
-    (passed d g g sites c.args.swap.now c.args.but n kept c.requires.lawful (c.if-surrounds.ensures g kept c.args.swap.now c.edges_of.ensures c.requires.reach refl) old)
+    (held most d g g sites c.args.swap.now c.args.but n kept c.requires.lawful (c.if-holds.ensures most g kept c.args.swap.now c.inner_of.ensures c.requires.reach refl) (most_on d n c.args.large.now.most.items c.net_of-net.ensures.counts c.requires.most) old)
 
-pub returns-else-surrounds : goal.returns-else-surrounds
-returns-else-surrounds c =
+pub returns-else-holds : goal.returns-else-holds
+returns-else-holds c =
     let d = c.args.design.now in
     let g = c.args.grid.now in
     let sites = c.args.placement.now.sites in

@@ -102,7 +102,7 @@ returns-clause-boxes c =
     let at : n ≡ get_or (nets_of (large_of d) b) c.args.k 0 = c.net_of-net.ensures.number ∙ row_net d b c.args.row.now c.args.k _ 0 c.requires.large c.requires.within refl in
     let within : c.args.k < length (nets_of (large_of d) b) = subst (λ v. c.args.k < v) (row_long d b c.args.row.now c.requires.large) c.requires.within in
     let counts = row_counts d b c.args.row.now c.args.k _ 0 n c.requires.large c.requires.within refl c.net_of-net.ensures.number in
-    next_off c.args.large.now.boxes.items _ (large_of d) g sites after b c.args.but c.args.k n c.renewed-new.result c.requires.left counts within at (c.renewed-new.ensures ∙ sym (box_large d g after n)) c.set.ensures
+    next_off c.args.large.now.boxes.items _ (large_of d) g sites after b c.args.but c.args.k n c.renewed-new.result c.requires.left counts within at (c.renewed-new.ensures ∙ sym (box_large d g after n)) c.set.ensures.boxes
 
 pub returns-clause-gained : goal.returns-clause-gained
 returns-clause-gained c =

@@ -1,4 +1,4 @@
-use Rattle.std.proofs.Common.{◌<◌, length, sym, subst, arith}
+use Rattle.std.proofs.Common.{◌<◌, length, sym, ◌∙◌, subst, arith}
 use Rattle.fab_net.specs.Netlist.{nets_of}
 use Rattle.fab_site.specs.Placement.{swapped}
 use Rattle.fab_cost.specs.Runs.{AreLarge, large_of}
@@ -41,6 +41,7 @@ places-preserved c =
     let h : c.places.k < length (nets_of (large_of d) b) = (let e = row_long d b c.row-row.result.now row in let t = c.places-test.true in omega (arith, e, t)) in
     record {
       change = more (large_of d) c.args.grid.now sites (swapped sites c.args.swap.now) c.args.but b c.places.k c.places.gained c.places.lost c.renew_net-one.result.gained c.renew_net-one.result.lost h c.places.invariant.change c.renew_net-one.ensures.change;
+      most = c.renew_net-one.ensures.most ∙ c.places.invariant.most;
       left = c.renew_net-one.ensures.boxes;
     }
 
@@ -54,4 +55,5 @@ returns c =
     record {
       boxes = ended c.places.large.boxes.items (large_of d) c.args.grid.now sites (swapped sites c.args.swap.now) b c.args.but c.places.k c.places.invariant.left (omega arith);
       change = all (large_of d) c.args.grid.now sites (swapped sites c.args.swap.now) c.args.but b c.places.k c.places.gained c.places.lost (omega arith) c.places.invariant.change;
+      most = c.places.invariant.most;
     }

@@ -1,4 +1,4 @@
-use Rattle.std.proofs.Common.{take}
+use Rattle.std.proofs.Common.{◌≡◌, take}
 use Rattle.std.specs.List.{sum_by}
 use Rattle.fab_net.specs.Netlist.{nets_of}
 use Rattle.fab_site.specs.Placement.{swapped}
@@ -11,5 +11,6 @@ use Rattle.fab_cost.proofs.large_nets.renew_larges.Given as goal
 abbrev pub invariant-places : goal.invariant-places
 invariant-places l = record {
   change : IsChange (sum_by (cost_unless (large_of l.design) l.grid l.placement.sites l.but) (take l.k (nets_of (large_of l.design) l.block.0))) (sum_by (cost_unless (large_of l.design) l.grid (swapped l.placement.sites l.swap) l.but) (take l.k (nets_of (large_of l.design) l.block.0))) l.gained l.lost;
+  most : l.large.most.items ≡ l.initial.large.most.items;
   left : AreRenewed l.large.boxes.items (large_of l.design) l.grid l.placement.sites (swapped l.placement.sites l.swap) (done_to (large_of l.design) l.block.0 l.but l.k);
 }

@@ -13,6 +13,7 @@ loop-net-preserved c =
     let old = c.loop-net.invariant in
     let low : net.0 < length c.args.large.now.boxes.items = c.requires.within i none c.loop-net-test.true in
     let here : net.0 < length boxes = omega (arith, low, old.0) in (
-      ap length c.set.ensures ∙ length-set boxes net.0 c.kept.result ∙ old.0,
-      λ k. ap (λ v. counted_at v k) c.set.ensures ∙ taken_more c.args.nets.now i none c.args.from.now.boxes.items c.args.large.now.boxes.items boxes c.kept.result k c.loop-net-test.true here c.kept.ensures (old.1 k),
+      ap length c.set.ensures.boxes ∙ length-set boxes net.0 c.kept.result ∙ old.0,
+      c.set.ensures.most ∙ old.1,
+      λ k. ap (λ v. counted_at v k) c.set.ensures.boxes ∙ taken_more c.args.nets.now i none c.args.from.now.boxes.items c.args.large.now.boxes.items boxes c.kept.result k c.loop-net-test.true here c.kept.ensures (old.2 k),
     )

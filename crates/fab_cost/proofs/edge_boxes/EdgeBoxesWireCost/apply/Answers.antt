@@ -64,7 +64,8 @@ invariant_of-self c =
     let was = ap (λ (v : CountedBoxesOf). length v.boxes) c.self.view_is ∙ c.requires.stands.have.long in
     let long : length c.renew_large-large.new.large.boxes.items ≡ length c.self.inside.large.boxes.items =
     c.renew_large-large.ensures.have.long ∙ sym was ∙ seen_long c.self.inside.runs.terminals (positions_in old) c.self.inside.large.boxes.items ∙ sym c.self.invariant.long in
-    kept_after old new c.self.inside.runs c.self.inside.large.boxes.items c.renew_large-large.new.large.boxes.items c.self.inside.total _ c.self.invariant (ap length at ∙ length_after g (positions_in old) s) (e ∙ ap table_from (sym at)) long
+    kept_after old new c.self.inside.runs c.self.inside.large.boxes.items c.renew_large-large.new.large.boxes.items c.self.inside.large.most.items c.renew_large-large.new.large.most.items c.self.inside.total _ c.self.invariant (ap length at ∙ length_after g (positions_in old) s) (e ∙ ap table_from (sym at)) long
+    c.renew_large-large.ensures.most
     (omega (arith, total, both, below, c.plus-tally.ensures.gained, c.plus-tally.ensures.lost))
 
 pub returns : goal.returns
