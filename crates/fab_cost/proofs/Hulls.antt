@@ -41,7 +41,7 @@ low_bound v h (c ∷ ks) top each = omega (arith, each c (has_first c ks), low_b
 abbrev pub or_far : (Site → ℕ) → List Site → ℕ → ℕ
 or_far h sites k = get_or (map h sites) k 65535
 
-far_within : (h : Site → ℕ) (sites : List Site) (k : ℕ) → k < length sites → or_far h sites k ≡ h (site_of sites k)
+pub far_within : (h : Site → ℕ) (sites : List Site) (k : ℕ) → k < length sites → or_far h sites k ≡ h (site_of sites k)
 far_within h sites k l = get_or-map h sites k nowhere 65535 l
 
 far_past : (h : Site → ℕ) (sites : List Site) (k : ℕ) → length sites ≤ k → or_far h sites k ≡ 65535
@@ -77,11 +77,11 @@ lane_is h top sites b s bs os lb on each within =
 
 -- how far a box reaches along one axis, by the least distances from both ends
 
-least_low : (x : ℕ) (f : ℕ → ℕ) (ks : List ℕ) → x ≤ 65535 → least_with x (map f ks) ≡ min x (lowest (map f ks))
+pub least_low : (x : ℕ) (f : ℕ → ℕ) (ks : List ℕ) → x ≤ 65535 → least_with x (map f ks) ≡ min x (lowest (map f ks))
 least_low x f [] h = omega arith
 least_low x f (k ∷ ks) h = omega (arith, least_low x f ks h)
 
-greatest_low : (x : ℕ) (f : ℕ → ℕ) (ks : List ℕ) → x ≤ 1000 → ((k : ℕ) → f k ≤ 1000) → greatest_with x (map f ks) + min (1001 - x) (lowest (map (λ k. 1001 - f k) ks)) ≡ 1001
+pub greatest_low : (x : ℕ) (f : ℕ → ℕ) (ks : List ℕ) → x ≤ 1000 → ((k : ℕ) → f k ≤ 1000) → greatest_with x (map f ks) + min (1001 - x) (lowest (map (λ k. 1001 - f k) ks)) ≡ 1001
 greatest_low x f [] h few = omega arith
 greatest_low x f (k ∷ ks) h few = omega (arith, few k, greatest_low x f ks h few)
 
@@ -95,7 +95,7 @@ clip_le n at h k = omega arith
 
 -- the vectors of sites, lane by lane
 
-lanes_four : (g : GridShape) (sites : List Site) (k : ℕ) → lanes_in g sites k ≡ four (or_far (λ (s : Site). clip g.nx s.x) sites k) (or_far (λ (s : Site). 1001 - clip g.nx s.x) sites k) (or_far (λ (s : Site). clip g.ny s.y) sites k) (or_far (λ (s : Site). 1001 - clip g.ny s.y) sites k)
+pub lanes_four : (g : GridShape) (sites : List Site) (k : ℕ) → lanes_in g sites k ≡ four (or_far (λ (s : Site). clip g.nx s.x) sites k) (or_far (λ (s : Site). 1001 - clip g.nx s.x) sites k) (or_far (λ (s : Site). clip g.ny s.y) sites k) (or_far (λ (s : Site). 1001 - clip g.ny s.y) sites k)
 lanes_four g [] k = refl
 lanes_four g (s ∷ sites) zero = refl
 lanes_four g (s ∷ sites) (suc k) = lanes_four g sites k
@@ -117,7 +117,7 @@ fold_four f a b c e is (k ∷ ks) p q r s hp hq hr hs =
     let es : min (min s (e k)) (lowest (map e ks)) ≡ min s (min (e k) (lowest (map e ks))) = omega arith in
     ap (λ v. fold_l (λ v k. least_of v (f k)) v ks) step ∙ rest ∙ (λ i. four (ep i) (eq i) (er i) (es i))
 
-among_four : (f : ℕ → List ℕ) (a b c e : ℕ → ℕ) → ((k : ℕ) → f k ≡ four (a k) (b k) (c k) (e k)) → (ks : List ℕ) → least_among f ks ≡ four (lowest (map a ks)) (lowest (map b ks)) (lowest (map c ks)) (lowest (map e ks))
+pub among_four : (f : ℕ → List ℕ) (a b c e : ℕ → ℕ) → ((k : ℕ) → f k ≡ four (a k) (b k) (c k) (e k)) → (ks : List ℕ) → least_among f ks ≡ four (lowest (map a ks)) (lowest (map b ks)) (lowest (map c ks)) (lowest (map e ks))
 among_four f a b c e is ks =
     let ea : min 65535 (lowest (map a ks)) ≡ lowest (map a ks) = omega (arith, low_top (map a ks)) in
     let eb : min 65535 (lowest (map b ks)) ≡ lowest (map b ks) = omega (arith, low_top (map b ks)) in
@@ -160,7 +160,7 @@ map_set h [] a s = refl
 map_set h (t ∷ sites) zero s = refl
 map_set h (t ∷ sites) (suc a) s = ap (λ v. h t ∷ v) (map_set h sites a s)
 
-in_table : (g : GridShape) (sites : List Site) (k : ℕ) → get_or (table_of g sites) k no_lanes ≡ lanes_in g sites k
+pub in_table : (g : GridShape) (sites : List Site) (k : ℕ) → get_or (table_of g sites) k no_lanes ≡ lanes_in g sites k
 in_table g [] zero = refl
 in_table g [] (suc k) = refl
 in_table g (s ∷ sites) zero = refl

@@ -28,3 +28,4 @@ pub mod EdgeLanes
 pub mod Passing
 pub mod Held
 pub mod Most
+pub mod LaneBoxes

@@ -12,7 +12,7 @@ ghost use Rattle.fab_cost.specs.Boxes.{Counts};
 ghost use Rattle.fab_cost.specs.Changes.{IsChange};
 ghost use Rattle.fab_cost.specs.Cost.{cost_of, net_cost};
 ghost use Rattle.fab_cost.specs.Edges.{times, counted_box as box_counted};
-ghost use Rattle.fab_cost.specs.Runs.{AreInner, AreLarge, AreMost, HasRecords, inner_lanes, large_of, reach_lanes};
+ghost use Rattle.fab_cost.specs.Runs.{AreInner, AreLarge, AreMost, HasRecords, inner_lanes, large_of, reach_lanes, table_of};
 ghost use Rattle.fab_cost.specs.Swapping.{AreRenewed, HaveBoxes, IsPart, blocks_of, cost_unless, counted_at, counted_blocks, has_block, is_on_swap, times_other};
 
 use crate::block_nets::{Shares, is_left_out, net_of, own_pins, partner_pins, shares_with};
@@ -240,6 +240,7 @@ pub(crate) fn boxes_for(
 /// How the swap changes the cost of large net `k` of a block, of which `row` has the places; nothing if it is also a net of the
 /// block `but`.
 fn change_of_kept(
+    lanes: &[u16x4],
     large: &LargeBoxes,
     design: &Design,
     grid: &Grid,
@@ -251,6 +252,7 @@ fn change_of_kept(
     row: &[u32],
     k: usize,
 ) -> Tally
+    requires table { lanes.now ≡ table_of grid.now placement.now.sites }
     requires have { HaveBoxes large.now.boxes.items (large_of design.now) grid.now placement.now.sites }
     requires reach { reach ≡ reach_lanes grid.now swap.now }
     requires part { IsPart swap.now block but }
@@ -269,6 +271,7 @@ fn change_of_kept(
         NO_TALLY
     } else {
         change_of_many(
+            lanes,
             large.kept(net),
             design,
             grid,
@@ -285,6 +288,7 @@ fn change_of_kept(
 #[inline(always)]
 /// How the swap changes the cost of the large nets of a block, without those of the block `but`.
 fn change_of_larges(
+    lanes: &[u16x4],
     large: &LargeBoxes,
     runs: &Runs,
     design: &Design,
@@ -295,6 +299,7 @@ fn change_of_larges(
     block: BlockId,
     but: Option<BlockId>,
 ) -> Tally
+    requires table { lanes.now ≡ table_of grid.now placement.now.sites }
     requires records { HasRecords runs.now design.now }
     requires have { HaveBoxes large.now.boxes.items (large_of design.now) grid.now placement.now.sites }
     requires reach { reach ≡ reach_lanes grid.now swap.now }
@@ -313,7 +318,7 @@ fn change_of_larges(
     let mut lost: u64 = 0;
     'places: for k in 0..row.len() {
         let one = change_of_kept(
-            large, design, grid, placement, swap, reach, block, but, row, k,
+            lanes, large, design, grid, placement, swap, reach, block, but, row, k,
         );
         gained += one.gained;
         lost += one.lost;
@@ -324,6 +329,7 @@ fn change_of_larges(
 #[tactic(auto, using(crate::proofs::Sited::block_below, crate::proofs::Changes::whole_none, crate::proofs::Changes::whole_some))]
 /// How the swap changes the cost of the large nets.
 pub(crate) fn change_of_large(
+    lanes: &[u16x4],
     large: &LargeBoxes,
     runs: &Runs,
     design: &Design,
@@ -331,6 +337,7 @@ pub(crate) fn change_of_large(
     placement: &Placement,
     swap: &Swap,
 ) -> Tally
+    requires table { lanes.now ≡ table_of grid.now placement.now.sites }
     requires records { HasRecords runs.now design.now }
     requires have { HaveBoxes large.now.boxes.items (large_of design.now) grid.now placement.now.sites }
     requires most { AreMost large.now.most.items (counted_blocks design.now) }
@@ -345,14 +352,14 @@ pub(crate) fn change_of_large(
     let _nets = design.nets();
     let reach = reach_of(grid, swap);
     let first = change_of_larges(
-        large, runs, design, grid, placement, swap, reach, swap.block, None,
+        lanes, large, runs, design, grid, placement, swap, reach, swap.block, None,
     );
     match swap.other {
         None => first,
         Some(other) => {
             let but = Some(swap.block);
             let second = change_of_larges(
-                large, runs, design, grid, placement, swap, reach, other, but,
+                lanes, large, runs, design, grid, placement, swap, reach, other, but,
             );
             plus(first, second)
         }

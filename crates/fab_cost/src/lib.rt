@@ -6,6 +6,7 @@ pub mod counting;
 pub mod crossings;
 pub mod edge_boxes;
 pub mod edge_counts;
+mod lane_boxes;
 mod lanes;
 mod large_nets;
 mod most_pins;

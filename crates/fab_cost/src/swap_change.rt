@@ -12,16 +12,18 @@ ghost use Rattle.fab_cost.specs.Boxes.{Counts, box_of};
 ghost use Rattle.fab_cost.specs.Changes.{IsChange, IsPlainAfter, IsPlainSwapped};
 ghost use Rattle.fab_cost.specs.Cost.{cost_of, net_box, net_cost};
 ghost use Rattle.fab_cost.specs.Edges.{times, counted_box as box_counted};
+ghost use Rattle.fab_cost.specs.Runs.{table_of};
 ghost use Rattle.fab_cost.specs.Swapping.{HaveBoxes, IsPart, blocks_of, cost_unless, has_block, times_other};
 
 use crate::block_nets::{Shares, is_left_out, net_of, own_pins, partner_pins, shares_with};
 use crate::edge_boxes::{NO_TALLY, Tally};
 use crate::edge_counts::{CountedBox, ends_after};
+use crate::lane_boxes::box_by_lanes;
 use crate::net_box::{NetBox, clipped};
-use crate::whole_boxes::box_after;
 use fab_arch::{Grid, Site};
 use fab_net::{BlockId, Design, NetId, Terminal};
 use fab_site::{Placement, Swap};
+use std::simd::prelude::*;
 
 #[tactic(auto, using(crate::proofs::Changes::plain_after))]
 #[inline]
@@ -71,6 +73,7 @@ fn moved_by(old: CountedBox, grid: &Grid, swap: &Swap, mine: u32, others: u32) -
 #[inline]
 /// The box of a net after the swap, which has more terminals on one of the swapped blocks than on the other.
 fn new_box(
+    lanes: &[u16x4],
     old: CountedBox,
     design: &Design,
     grid: &Grid,
@@ -79,6 +82,7 @@ fn new_box(
     net: NetId,
     shares: Shares,
 ) -> NetBox
+    requires table { lanes.now ≡ table_of grid.now placement.now.sites }
     requires old { old ≡ box_counted design.now grid.now placement.now.sites net.0 }
     requires net { Counts design.now net.0 }
     requires some { shares.mine ≢ shares.others }
@@ -90,7 +94,7 @@ fn new_box(
 {
     match moved_by(old, grid, swap, shares.mine, shares.others) {
         Some(after) => after,
-        None => box_after(design, grid, placement, swap, net),
+        None => box_by_lanes(lanes, design, grid, placement, swap, net),
     }
 }
 
@@ -119,6 +123,7 @@ fn tally_of_boxes(
 #[tactic(auto, using(crate::proofs::Changes::left_out, crate::proofs::Changes::still, crate::proofs::Changes::changed))]
 /// How the swap changes the cost of net `i` of a block; nothing if it is also a net of the block `but`.
 pub(crate) fn change_of_many(
+    lanes: &[u16x4],
     old: CountedBox,
     design: &Design,
     grid: &Grid,
@@ -128,6 +133,7 @@ pub(crate) fn change_of_many(
     but: Option<BlockId>,
     i: usize,
 ) -> Tally
+    requires table { lanes.now ≡ table_of grid.now placement.now.sites }
     requires old { old ≡ box_counted design.now grid.now placement.now.sites (slice_index (nets_of design.now block.0) i) }
     requires part { IsPart swap.now block but }
     requires block { block.0 < length design.now.kinds }
@@ -147,6 +153,6 @@ pub(crate) fn change_of_many(
     if shares.mine == shares.others {
         return NO_TALLY;
     }
-    let new = new_box(old, design, grid, placement, swap, net, shares);
+    let new = new_box(lanes, old, design, grid, placement, swap, net, shares);
     tally_of_boxes(design, net, design.terminals(net), old, new)
 }
