@@ -4,6 +4,7 @@ pub mod Annealing
 pub mod Turned
 pub mod Beginning
 pub mod ByTurns
+pub mod ByChains
 pub mod CatchingUp
 pub mod Committing
 pub mod Folding

@@ -18,7 +18,7 @@ redone_push : (r : Run) (t : LastTurn) (n batch : ℕ) → redone r t (replicate
 redone_push r t zero batch = omega arith
 redone_push r t (suc n) batch = (let e = redone_push r (next_turn r batch t) n batch in omega (arith, e))
 
-last_of_a_stage : (r : Run) (t : LastTurn) (n batch : ℕ) → 0 < r.plan.moves → IsOfAStage r t → IsOfAStage r (last_turn r t (replicate n batch))
+pub last_of_a_stage : (r : Run) (t : LastTurn) (n batch : ℕ) → 0 < r.plan.moves → IsOfAStage r t → IsOfAStage r (last_turn r t (replicate n batch))
 last_of_a_stage r t zero batch pos stage = stage
 last_of_a_stage r t (suc n) batch pos stage = last_of_a_stage r (next_turn r batch t) n batch pos (turns_lead_on r t batch pos stage).1
 

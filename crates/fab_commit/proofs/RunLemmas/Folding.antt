@@ -42,6 +42,13 @@ pub left_some : (moves n : ℕ) (h : Option ℕ) → is_some h ≡ true → left
 left_some moves n None e = absurd (false≢true e)
 left_some moves n (Some t) e = refl
 
+-- the last move of a stage alone ends it
+pub not_over : (r : Run) (x : Standing) → 1 < moves_left r x → eqb ((x.done + 1) % r.plan.moves) 0 ≡ false
+not_over r x l =
+    let here = left_some r.plan.moves x.done x.heat (still_hot r x (omega (arith, l))) in
+    let next = next_mod x.done r.plan.moves (omega (arith, l, here)) in
+    ne_eqb ((x.done + 1) % r.plan.moves) 0 (λ e. absurd (omega (arith, e, next)))
+
 -- a move within a stage leaves it one move shorter
 pub left_step : (r : Run) (x : Standing) → 1 < moves_left r x → moves_left r (step r x) + 1 ≡ moves_left r x
 left_step r x l =
@@ -49,7 +56,7 @@ left_step r x l =
     let here = left_some r.plan.moves x.done x.heat hot in
     let inside : x.done % r.plan.moves + 1 < r.plan.moves = omega (arith, l, here) in
     let next = next_mod x.done r.plan.moves inside in
-    let on : eqb ((x.done + 1) % r.plan.moves) 0 ≡ false = ne_eqb ((x.done + 1) % r.plan.moves) 0 (λ e. absurd (omega (arith, e, next))) in
+    let on = not_over r x l in
     let j = judged_here r x x.done in
     let heat : (after_move r x j).heat ≡ x.heat = ap (λ b. cond b (next_heat r.plan x.range (x.accepted + one_if j.accepted) x.heat) x.heat) on in
     let after : moves_left r (after_move r x j) ≡ r.plan.moves - (x.done + 1) % r.plan.moves = left_some r.plan.moves (x.done + 1) (after_move r x j).heat (ap is_some heat ∙ hot) in
