@@ -14,3 +14,5 @@ pub mod Showing
 pub mod Stamping
 pub mod Standings
 pub mod Kept
+pub mod Alone
+pub mod Ended

@@ -8,3 +8,4 @@ pub mod StampTables
 pub mod Workers
 pub mod Turned
 pub mod ByTurns
+pub mod Alone

@@ -1,6 +1,7 @@
 //! What a run executes: an annealer, whose owner commits moves while workers judge the next ones. Callers that make single turns
 //! execute `single_turn` and the judging without a crew in `workers`; a run of the program does not.
 
+pub mod alone;
 pub mod annealer;
 pub mod crew;
 pub mod job;

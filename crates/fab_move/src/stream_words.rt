@@ -57,6 +57,10 @@ impl Words for StreamWords {
         fill_from(&mut stream, out);
     }
 
+    fn words_again(&self, _k: u64, words: [u32; 4]) -> [u32; 4] {
+        words
+    }
+
     fn start_word(&self, i: u32) -> u32 {
         let mut stream = ChaCha8Rng::from_seed(self.cipher_seed);
         stream.set_stream(1);

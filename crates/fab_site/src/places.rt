@@ -144,6 +144,16 @@ impl Placement {
         change_places(&mut self.sites, swap);
     }
 
+    /// Makes this the same as another placement on its array, of as many blocks. Allocates nothing.
+    pub fn take_over(&mut self, from: &Placement)
+        requires array { self.old.grid ≡ from.now.grid }
+        requires blocks { length self.old.sites ≡ length from.now.sites }
+        ensures { self.new ≡ from.now }
+    {
+        self.sites.copy_from_slice(&from.sites);
+        self.holders.copy_from_slice(&from.holders);
+    }
+
     /// A copy of the placement.
     pub fn copy(&self) -> Result<Placement, AllocError>
         ensures { IfOk result (λ p. p ≡ self.now) }

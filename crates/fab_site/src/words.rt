@@ -28,6 +28,15 @@ pub trait Words {
             out[i] = self.move_words(first + i as u64);
         }
     }
+
+    /// The words of move `k`, for a caller that has them already and judges the move again.
+    fn words_again(&self, k: u64, words: [u32; 4]) -> [u32; 4]
+        requires { words ≡ moves self.now k }
+        ensures { result ≡ moves self.now k }
+    {
+        let _had = words;
+        self.move_words(k)
+    }
 }
 
 /// Words from two lists. Beyond the end of a list every word is 0.

@@ -203,7 +203,7 @@ unfolding proposal
 propose_kept p sites s range words is h =
     for_kept p sites s range words (slice_get (movable p.design p.fixed) (pick_of (slice_index words 0) (length (movable p.design p.fixed)))) is h
 
-judged_as-footprint : (p : Problem) (sites : List Site) (t w : ℕ) (q : Proposal) → (judged_as p sites t w q).footprint ≡ footprint p.design q
+pub judged_as-footprint : (p : Problem) (sites : List Site) (t w : ℕ) (q : Proposal) → (judged_as p sites t w q).footprint ≡ footprint p.design q
 judged_as-footprint p sites t w Nothing = refl
 judged_as-footprint p sites t w (Void b to) = refl
 judged_as-footprint p sites t w (Move m) = refl

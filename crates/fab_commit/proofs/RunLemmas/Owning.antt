@@ -228,7 +228,7 @@ any_same : (f g : Mark → Bool) (marks : List Mark) → ((m : Mark) → f m ≡
 any_same f g [] h = refl
 any_same f g (m ∷ marks) h = (λ i. h m i || any_same f g marks h i)
 
-touched_is : (d : Netlist) (stamps : Mark → ℕ) (log : List Accepted) (base : ℕ) (marks : List Mark) → ((m : Mark) → stamps m ≡ stamp d log m) → list_any (λ m. nat_lt base (stamps m)) marks ≡ clash d (filter (since base) log) base marks
+pub touched_is : (d : Netlist) (stamps : Mark → ℕ) (log : List Accepted) (base : ℕ) (marks : List Mark) → ((m : Mark) → stamps m ≡ stamp d log m) → list_any (λ m. nat_lt base (stamps m)) marks ≡ clash d (filter (since base) log) base marks
 touched_is d stamps log base marks are =
     any_same (λ m. nat_lt base (stamps m)) (λ m. nat_lt base (stamp d log m)) marks (λ m. ap (nat_lt base) (are m))
     ∙ sym (clash-stamps d log base marks)

@@ -204,7 +204,7 @@ count_same p q k (suc n) h =
     let all : count_by p (range_with_len k (n + 1)) ≡ count_by q (range_with_len k (n + 1)) = omega (arith, one, two, rest, last) in
     subst (λ m. count_by p (range_with_len k m) ≡ count_by q (range_with_len k m)) e all
 
-count_both : (p : ℕ → Bool) (k a b : ℕ) → count_by p (range_with_len k a) + count_by p (range_with_len (k + a) b) ≡ count_by p (range_with_len k (a + b))
+pub count_both : (p : ℕ → Bool) (k a b : ℕ) → count_by p (range_with_len k a) + count_by p (range_with_len (k + a) b) ≡ count_by p (range_with_len k (a + b))
 count_both p k a b = sym (sum_by-append (λ (j : ℕ). cond (p j) 1 0) (range_with_len k a) (range_with_len (k + a) b)) ∙ ap (count_by p) (range-append k a b)
 
 -- of n moves of a turn those that are judged again: at first those that were judged ahead

@@ -1,6 +1,6 @@
 -- The flat tables of stamps: what a swap touches, and what each mark's stamp is then.
 use Rattle.std.proofs.Common.{◌≡◌, ℕ, ◌<◌, Bool, true, false, cond, eqb, ◌||◌, ◌==◌, List, [], ◌∷◌, ◌++◌, length, set, map, Option, Some, None, refl, sym, ap, ◌∙◌, get_or, arith, inl, inr}
-use Rattle.std.specs.Prelude.{slice_index}
+use Rattle.std.specs.Prelude.{nat_lt, slice_index}
 use Rattle.std.specs.List.{All, list_any}
 use Rattle.std.proofs.lemmas.Bool.{cases_Bool, cases_eq, eq-eqb, ne_eqb, false≢true}
 use Rattle.std.proofs.lemmas.List.{get_or-set_same, get_or-set_other, length-map}
@@ -108,3 +108,27 @@ swap_touched d g s x m old other block to from a b c e =
     let both = touched_both m (other_marks d s.other) (block_marks d s.block) x old other block a b in
     let three = touched_both m (block_marks d s.block ++ other_marks d s.other) (Place s.to ∷ []) x old block to both c in
     touched_both m (Place s.to ∷ (block_marks d s.block ++ other_marks d s.other)) (Place s.from ∷ []) x old to from three e
+
+-- whether marks were touched, one list after another
+
+any_append : (f : Mark → Bool) (xs ys : List Mark) → list_any f (xs ++ ys) ≡ (list_any f xs || list_any f ys)
+any_append f [] ys = refl
+any_append f (x ∷ xs) ys = elim (f x) as (λ b. (b || list_any f (xs ++ ys)) ≡ ((b || list_any f xs) || list_any f ys)) [
+  | true ↦ refl
+  | false ↦ any_append f xs ys
+]
+
+-- nets by their stamps, and as marks
+pub nets_touched : (g : GridShape) (base : ℕ) (blocks places nets : List ℕ) (ns : List ℕ) → list_any (λ (n : NetId). nat_lt base (slice_index nets n.0)) (map net_id ns) ≡ list_any (λ m. nat_lt base (stamp_in g blocks places nets m)) (map (λ n. Net (record { 0 = n })) ns)
+nets_touched g base blocks places nets [] = refl
+nets_touched g base blocks places nets (n ∷ ns) = ap (λ b. nat_lt base (slice_index nets n) || b) (nets_touched g base blocks places nets ns)
+
+-- the first of these marks is touched
+pub first_touched : (f : Mark → Bool) (m : Mark) (xs ys : List Mark) (b : Bool) → f m ≡ false → b ≡ list_any f xs → b ≡ true → b ≡ list_any f (m ∷ (xs ++ ys))
+first_touched f m xs ys b low is took =
+    took ∙ sym (rw low (any_append f xs ys ∙ ap (λ c. c || list_any f ys) (sym is ∙ took)))
+
+-- or only the later ones may be
+pub later_touched : (f : Mark → Bool) (m : Mark) (xs ys : List Mark) (b c : Bool) → f m ≡ false → b ≡ list_any f xs → b ≡ false → c ≡ list_any f ys → c ≡ list_any f (m ∷ (xs ++ ys))
+later_touched f m xs ys b c low is none there =
+    sym (rw low (any_append f xs ys ∙ ap (λ d. d || list_any f ys) (sym is ∙ none) ∙ sym there))

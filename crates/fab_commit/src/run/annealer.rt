@@ -7,12 +7,14 @@ ghost use Rattle.fab_sched.specs.Annealing.{IsLawful};
 ghost use Rattle.fab_site.specs.Placement.{IsLegal};
 ghost use Rattle.fab_move.specs.Judge.{says};
 ghost use Rattle.fab_commit.specs.declared.model.judged.JudgedMove.{JudgedMove};
-ghost use Rattle.fab_commit.specs.Serial.{IsStanding, at_start, from, stage_of};
+ghost use Rattle.fab_commit.specs.Serial.{IsStanding, at_start, from, moves_left, stage_of};
+ghost use Rattle.fab_commit.specs.Run.Alone.{IsFinishedAlone};
 ghost use Rattle.fab_commit.specs.Run.Commits.{IsSound, run, run_for, run_of, standing_of, turn_of};
 ghost use Rattle.fab_commit.specs.Run.Points.{IsPoint, TellsPoint, going_on, standing_at};
 ghost use Rattle.fab_commit.specs.Run.Readings.{IsShown, reading_at};
 ghost use Rattle.fab_commit.specs.Run.Turned.{IsTurned};
 
+use crate::run::alone::finish_alone;
 use crate::run::pipeline::{Pipeline, first_pipeline, make_turn};
 use crate::run::point::{Point, point_of};
 use crate::run::state::{Given, State, first_state, running, state_at};
@@ -256,6 +258,33 @@ impl<'a, W: Words + Drop> Anneal<'a, W> {
         if before < self.done() {
             dial.show(rt, shower, self.reading());
         }
+    }
+}
+
+impl<'a, W: Words + Drop> Anneal<'a, W> {
+    /// Makes the moves that are left in the running stage, of which there are some. The calling thread judges each on the live placement,
+    /// so that no judgement is made in vain. The moves are those of turns of `batch` moves, from 1 to 4,096, which show on the dial how
+    /// far the run has come, and whose judgements ahead would have been spoilt as often. By contract the shower is one of this dial.
+    ///
+    /// The gate is called before and after the judgement of each move, and before its commit.
+    ///
+    /// An error means that memory ran out. Then the turns that were made stay, and nothing is judged ahead.
+    pub fn finish_stage_alone<G: Gate, R: Wait>(
+        &mut self,
+        rt: &R,
+        batch: u64,
+        gate: &G,
+        dial: &Dial,
+        shower: &mut Shower,
+    ) -> Result<(), AllocError>
+        requires some { 0 < moves_left (run_of W.moves self.old) self.old.standing }
+        requires batch { (1 ≤ batch) × (batch ≤ 4096) }
+        requires own { shower.old.dial ≡ dial.now }
+        ensures finished { IsFinishedAlone W.moves batch self.old self.new result shower.old.shown shower.new.shown }
+        ensures dial { shower.new.dial ≡ shower.old.dial }
+    {
+        let given: &Given<'_, W> = &self.given;
+        finish_alone(rt, given, &mut self.pipeline, batch, gate, dial, shower)
     }
 }
 

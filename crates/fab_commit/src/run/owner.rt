@@ -43,7 +43,12 @@ impl Drop for Owner {
 }
 
 /// Stamps what a move touches, if it is accepted.
-fn stamp<W: Words>(given: &Given<'_, W>, stamps: &mut Stamps, number: u64, decision: &Decision)
+pub(crate) fn stamp<W: Words>(
+    given: &Given<'_, W>,
+    stamps: &mut Stamps,
+    number: u64,
+    decision: &Decision,
+)
     requires table { IsTable given.now.design.now given.now.grid.now stamps.old }
     requires within { (s : Swap) → decision.now.swap ≡ Some s → IsWithin given.now.design.now given.now.grid.now s }
     requires number { number < 2 ^ 61 }

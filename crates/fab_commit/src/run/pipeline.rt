@@ -88,7 +88,7 @@ pub(crate) fn first_pipeline<W: Words>(
 }
 
 /// Reserves room for `moves` accepted moves.
-fn reserve(owner: &mut Owner, moves: u64) -> Result<(), AllocError>
+pub(crate) fn reserve(owner: &mut Owner, moves: u64) -> Result<(), AllocError>
     requires { moves ≤ 4096 }
     ensures same { (r : Run) → IsOwned r owner.old → HasMade r owner.old 0 owner.new }
     ensures done { owner.new.state.done ≡ owner.old.state.done }

@@ -1,17 +1,19 @@
 //! When each block, site and net was last touched.
 
-ghost use Rattle.std.specs.Prelude.{◌≡◌, ℕ, ◌<◌, ◌==◌, ◌∷◌, [], if◌then◌else◌, nat_lt, length, is_some, IfOk, slice_index, true};
+ghost use Rattle.std.specs.Prelude.{◌≡◌, ℕ, ◌<◌, ◌==◌, ◌∷◌, [], if◌then◌else◌, nat_lt, length, is_some, IfOk, Some, slice_index, true};
 ghost use Rattle.std.specs.List.{All, list_any};
 ghost use Rattle.fab_net.specs.declared.pieces.NetId.{NetId};
 ghost use Rattle.fab_site.specs.Index.{index_of};
+ghost use Rattle.fab_arch.specs.Grid.{GridShape};
 ghost use Rattle.fab_move.specs.declared.marks.Mark.{Mark as IsMark};
+ghost use Rattle.fab_move.specs.declared.proposals.Proposal.TheVariants.{Move as proposes};
 ghost use Rattle.fab_move.specs.declared.marks.Mark.TheVariants.{Place as place_mark};
-ghost use Rattle.fab_move.specs.Judge.{block_marks, has_mark, other_marks, touched};
+ghost use Rattle.fab_move.specs.Judge.{block_marks, footprint, has_mark, other_marks, touched};
 ghost use Rattle.fab_commit.specs.Run.StampTables.{IsTable, IsWithin, kept_stamp};
 ghost use Rattle.fab_commit.specs.Model.Worlds.{IsBlock};
 
 use fab_arch::{Grid, Site};
-use fab_move::Mark;
+use fab_move::{Mark, Proposal};
 use fab_net::{BlockId, Design, NetId};
 use fab_site::Swap;
 use fab_site::index::{index_of, site_count};
@@ -103,6 +105,61 @@ impl Stamps {
         marks.iter().any(|mark| base < self.of(grid, *mark))
     }
 
+    /// Whether what a proposal rests on was touched by move `base` or a later one.
+    pub(crate) fn is_touched(
+        &self,
+        design: &Design,
+        grid: &Grid,
+        base: u64,
+        proposal: Proposal,
+    ) -> bool
+        requires block { (s : Swap) → proposal ≡ proposes s → s.block.0 < length design.now.kinds }
+        requires other { (s : Swap) (b : BlockId) → proposal ≡ proposes s → s.other ≡ Some b → b.0 < length design.now.kinds }
+        ensures { result ≡ list_any (λ m. nat_lt base (kept_stamp grid.now self.now m)) (footprint design.now proposal) }
+    {
+        match proposal {
+            Proposal::Nothing => false,
+            Proposal::Void(block, target) => {
+                base < self.of_site(grid, target) || base < stamp_at(&self.blocks, block.0 as usize)
+            }
+            Proposal::Move(swap) => {
+                base < self.of_site(grid, swap.to)
+                    || (self.is_block_touched(design, base, swap.block)
+                        || self.is_other_touched(design, base, swap.other))
+            }
+        }
+    }
+
+    /// Whether a block or one of its nets was touched by move `base` or a later one.
+    fn is_block_touched(&self, design: &Design, base: u64, block: BlockId) -> bool
+        requires { block.0 < length design.now.kinds }
+        ensures { (g : GridShape) → result ≡ list_any (λ m. nat_lt base (kept_stamp g self.now m)) (block_marks design.now block) }
+    {
+        base < stamp_at(&self.blocks, block.0 as usize)
+            || is_net_touched(&self.nets, base, design.nets_of(block))
+    }
+
+    /// The same of the block that a swap displaces, if any.
+    fn is_other_touched(&self, design: &Design, base: u64, other: Option<BlockId>) -> bool
+        requires { (b : BlockId) → other ≡ Some b → b.0 < length design.now.kinds }
+        ensures { (g : GridShape) → result ≡ list_any (λ m. nat_lt base (kept_stamp g self.now m)) (other_marks design.now other) }
+    {
+        match other {
+            None => false,
+            Some(block) => self.is_block_touched(design, base, block),
+        }
+    }
+
+    /// The stamp of a site.
+    fn of_site(&self, grid: &Grid, site: Site) -> u64
+        ensures { result ≡ kept_stamp grid.now self.now (place_mark site) }
+    {
+        match index_of(grid, site) {
+            Some(place) => stamp_at(&self.places, place),
+            None => 0,
+        }
+    }
+
     /// The stamp of a mark.
     fn of(&self, grid: &Grid, mark: Mark) -> u64
         ensures { result ≡ kept_stamp grid.now self.now mark }
@@ -126,6 +183,14 @@ fn stamp_at(stamps: &[u64], index: usize) -> u64
         Some(stamp) => *stamp,
         None => 0,
     }
+}
+
+/// Whether one of the nets was touched by move `base` or a later one.
+fn is_net_touched(stamps: &[u64], base: u64, nets: &[NetId]) -> bool
+    ensures { result ≡ list_any (λ (n : NetId). nat_lt base (slice_index stamps.now n.0)) nets.now }
+{
+    nets.iter()
+        .any(|net| base < stamp_at(stamps, net.0 as usize))
 }
 
 /// Stamps nets.

@@ -176,7 +176,10 @@ pub(crate) fn decision_of(verdict: &Verdict) -> Decision
 
 /// What a judgement in the running stage reads.
 #[inline(always)]
-fn view_of<'a, W: Words>(given: &'a Given<'_, W>, state: &'a State) -> View<'a, EdgeBoxes, W>
+pub(crate) fn view_of<'a, W: Words>(
+    given: &'a Given<'_, W>,
+    state: &'a State,
+) -> View<'a, EdgeBoxes, W>
     ensures design { result.design.now ≡ given.now.design.now }
     ensures grid { result.grid.now ≡ given.now.grid.now }
     ensures fixed { result.fixed.now ≡ given.now.fixed }

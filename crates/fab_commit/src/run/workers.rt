@@ -78,6 +78,11 @@ impl<'a, 'g, W: Words + Drop, G: Gate, J: Naming> Workers<'a, 'g, W, G, J> {
         }
     }
 
+    /// The gate of the judgements and of the commits.
+    pub fn gate(&self) -> &'g G {
+        self.gate
+    }
+
     /// Sends the crew home, if there is one. From then on the owner judges alone.
     pub fn dismiss(&mut self) {
         self.crew = None;

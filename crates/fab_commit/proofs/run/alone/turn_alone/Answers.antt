@@ -1,0 +1,104 @@
+use Rattle.std.proofs.Common.{◌≡◌, ◌+◌, ◌-◌, refl, ap, subst, arith}
+use Rattle.std.proofs.lemmas.Result.{err_from_is_err_and}
+use Rattle.std.specs.List.{count_by, range_with_len}
+use Rattle.fab_commit.specs.declared.run.owner.Owner.{Owner}
+use Rattle.fab_commit.specs.Serial.{moves_left}
+use Rattle.fab_commit.specs.Run.Commits.{run_for, standing_of}
+use Rattle.fab_commit.specs.Run.Owners.{HasMade}
+use Rattle.fab_commit.specs.Model.TurnEvents.{is_redone_behind, next_turn, stands}
+use Rattle.fab_commit.proofs.RunLemmas.Alone.{both_counted, gone, gone_nowhere, open_ahead, open_here, owned_cleared, readied}
+use Rattle.fab_commit.proofs.RunLemmas.Owning.{made_more}
+use Rattle.fab_commit.proofs.run.alone.turn_alone.Goals as goal
+
+pub returns-in_err-reserve : goal.returns-in_err-reserve
+returns-in_err-reserve g c =
+    let r = run_for g.W.Words.moves c.args.given.now in
+    let s = c.args.owner.now in
+    let cleared : Owner = record { state = s.state; swaps = c.clear.new.self; stamps = s.stamps; redone = s.redone } in
+    let p = err_from_is_err_and c.from_residual.result c.from_residual.ensures.1 in
+    rw (p.1) (record {
+      ok = λ t alone.
+          let made = c.in_err-reserve.ensures.same r (owned_cleared r s cleared alone.owned refl refl refl) in
+          gone_nowhere r t s c.reserve.new.owner c.args.ahead _ alone (readied r s cleared c.reserve.new.owner refl c.clear.ensures.items refl refl made c.in_err-reserve.ensures.stamps c.in_err-reserve.ensures.redone) made.owned refl refl;
+    })
+
+pub commit_alone-requires-clause-owned : goal.commit_alone-requires-clause-owned
+commit_alone-requires-clause-owned g c κs within =
+    let r = run_for g.W.Words.moves c.args.given.now in
+    let s = c.args.owner.now in
+    let cleared : Owner = record { state = s.state; swaps = c.clear.new.self; stamps = s.stamps; redone = s.redone } in
+    (c.in_ok-reserve.ensures.same r (owned_cleared r s cleared c.requires.alone.1.owned refl refl refl)).owned
+
+pub commit_alone-requires-clause-due : goal.commit_alone-requires-clause-due
+commit_alone-requires-clause-due g c κs within =
+    let r = run_for g.W.Words.moves c.args.given.now in
+    let s = c.args.owner.now in
+    let o = c.reserve.new.owner in
+    let alone = c.requires.alone.1 in
+    let cleared : Owner = record { state = s.state; swaps = c.clear.new.self; stamps = s.stamps; redone = s.redone } in
+    let made = c.in_ok-reserve.ensures.same r (owned_cleared r s cleared alone.owned refl refl refl) in
+    let ready = readied r s cleared o refl c.clear.ensures.items refl refl made c.in_ok-reserve.ensures.stamps c.in_ok-reserve.ensures.redone in
+    let kept = c.min-kept.ensures in
+    (open_ahead r c.requires.alone.0 s o c.args.ahead c.min-kept.result alone ready (omega (arith, kept))).due
+
+pub commit_alone-requires-clause-room : goal.commit_alone-requires-clause-room
+commit_alone-requires-clause-room g c κs within =
+    let room = c.in_ok-reserve.ensures.room in
+    let room0 = room.0 in
+    let room1 = room.1 in
+    let kept = c.min-kept.ensures in
+    (omega (arith, room0, kept), omega (arith, room1, kept))
+
+pub commit_alone-requires-2-clause-room : goal.commit_alone-requires-2-clause-room
+commit_alone-requires-2-clause-room g c κs within =
+    let room = c.in_ok-reserve.ensures.room in
+    let room0 = room.0 in
+    let room1 = room.1 in
+    let kept = c.min-kept.ensures in
+    c.commit_alone.ensures.room (c.min-moves.result - c.min-kept.result) (omega (arith, room0, kept), omega (arith, room1, kept))
+
+pub commit_alone-requires-2-clause-due : goal.commit_alone-requires-2-clause-due
+commit_alone-requires-2-clause-due g c κs within =
+    let r = run_for g.W.Words.moves c.args.given.now in
+    let s = c.args.owner.now in
+    let o = c.reserve.new.owner in
+    let alone = c.requires.alone.1 in
+    let cleared : Owner = record { state = s.state; swaps = c.clear.new.self; stamps = s.stamps; redone = s.redone } in
+    let made = c.in_ok-reserve.ensures.same r (owned_cleared r s cleared alone.owned refl refl refl) in
+    let ready = readied r s cleared o refl c.clear.ensures.items refl refl made c.in_ok-reserve.ensures.stamps c.in_ok-reserve.ensures.redone in
+    let kept = c.min-kept.ensures in
+    let moves = c.min-moves.ensures in
+    let left = c.moves_left-left.ensures in
+    let same : moves_left r (standing_of o.state) ≡ moves_left r (standing_of s.state) = ap (moves_left r) ready.stands in
+    (open_here r c.requires.alone.0 s o c.commit_alone.new.owner c.args.ahead c.min-kept.result (c.min-moves.result - c.min-kept.result) alone ready c.commit_alone.ensures.made (omega (arith, kept, moves, left, same))).due
+
+pub returns : goal.returns
+returns g c = record {
+  ok = λ t alone.
+      let r = run_for g.W.Words.moves c.args.given.now in
+      let s = c.args.owner.now in
+      let o = c.reserve.new.owner in
+      let mid = c.commit_alone.new.owner in
+      let now = c.commit_alone-2.new.owner in
+      let cleared : Owner = record { state = s.state; swaps = c.clear.new.self; stamps = s.stamps; redone = s.redone } in
+      let none = c.in_ok-reserve.ensures.same r (owned_cleared r s cleared alone.owned refl refl refl) in
+      let ready = readied r s cleared o refl c.clear.ensures.items refl refl none c.in_ok-reserve.ensures.stamps c.in_ok-reserve.ensures.redone in
+      let kept = c.min-kept.ensures in
+      let moves = c.min-moves.ensures in
+      let ahead = c.min.ensures in
+      let left = c.moves_left-left.ensures in
+      let n = c.min-kept.result in
+      let m = c.min-moves.result - c.min-kept.result in
+      let next = next_turn r c.args.batch t in
+      let same : moves_left r (standing_of o.state) ≡ moves_left r (standing_of s.state) = ap (moves_left r) ready.stands in
+      let there : moves_left r (standing_of s.state) ≡ moves_left r (stands r t) = ap (moves_left r) alone.here in
+      let made_is : c.min-moves.result ≡ next.made = omega (arith, moves, left, there) in
+      let ahead_is : c.min.result ≡ next.ahead = omega (arith, ahead, moves, left, there) in
+      let all : n + m ≡ next.made = omega (arith, kept, made_is) in
+      let first = open_ahead r t s o c.args.ahead n alone ready (omega (arith, kept)) in
+      let second = open_here r t s o mid c.args.ahead n m alone ready c.commit_alone.ensures.made (omega (arith, kept, moves, left, same)) in
+      let counted = both_counted r t s o mid now c.args.ahead n c.min-moves.result first.due.start second.due.start alone ready kept first.is second.is c.commit_alone.ensures.made.done (c.commit_alone.ensures.redone first.due) (c.commit_alone-2.ensures.redone second.due) in
+      let made : HasMade r o next.made now = subst (λ k. HasMade r o k now) all (made_more r o mid now n m c.commit_alone.ensures.made c.commit_alone-2.ensures.made) in
+      gone r t s o now c.args.ahead _ next.made next.ahead alone ready made (omega (arith, made_is, ahead_is, moves, ahead, left, there)) refl ahead_is
+      (subst (λ k. now.redone ≡ o.redone + count_by (is_redone_behind r t) (range_with_len (stands r t).done k)) made_is counted);
+}
