@@ -35,7 +35,7 @@ pub(crate) struct LargeBoxes {
     /// The most terminals that one block has on the net.
     pub(crate) most: Vec<u32>,
     /// The edges as lanes. A lane is less by 1 if the edge has more terminals than one block can take away.
-    pub(crate) inner: Vec<u16x4>,
+    inner: Vec<u16x4>,
     ghost alike: { AreInner inner.items most.items boxes.items },
 }
 
