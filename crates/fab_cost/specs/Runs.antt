@@ -19,6 +19,7 @@ use Rattle.fab_cost.specs.Swapping.{Position, position_at, counted_blocks, count
 abbrev pub four : ℕ → ℕ → ℕ → ℕ → List ℕ
 four a b c d = a ∷ b ∷ c ∷ d ∷ []
 
+-- each of the first four numbers is below its counterpart
 pub record AreFourBelow (a b c d e f g h : ℕ) : Type 0 where
   pub first : a < e
   pub second : b < f

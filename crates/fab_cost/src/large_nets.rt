@@ -270,17 +270,8 @@ fn change_of_kept(
     if holds(large.inner_of(net), reach) {
         NO_TALLY
     } else {
-        change_of_many(
-            lanes,
-            large.kept(net),
-            design,
-            grid,
-            placement,
-            swap,
-            block,
-            but,
-            i,
-        )
+        let old = large.kept(net);
+        change_of_many(lanes, old, design, grid, placement, swap, block, but, i)
     }
 }
 

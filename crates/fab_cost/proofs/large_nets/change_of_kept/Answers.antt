@@ -16,7 +16,7 @@ change_of_many-requires-clause-old c =
     let sites = c.args.placement.now.sites in
     let n = c.net_of-net.result.0 in
     let counts = row_counts d c.args.block.0 c.args.row.now c.args.k _ 0 n c.requires.large c.requires.within refl c.net_of-net.ensures.number in
-    kept_is c.args.large.now.boxes.items d g sites n c.kept.result c.requires.have counts c.kept.ensures ∙ ap (counted_box d g sites) c.net_of-net.ensures.number
+    kept_is c.args.large.now.boxes.items d g sites n c.kept-old.result c.requires.have counts c.kept-old.ensures ∙ ap (counted_box d g sites) c.net_of-net.ensures.number
 
 pub returns-then-holds : goal.returns-then-holds
 returns-then-holds c =
