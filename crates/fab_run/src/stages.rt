@@ -89,6 +89,80 @@ fn make_part<'a, V: Words + Sync + Drop, G: Gate, J: Naming, R: Threads + Wait +
     Ok(())
 }
 
+/// If more than one in this many moves is judged again, a crew costs more time than it saves.
+const ONE_IN: u64 = 32;
+
+/// The owner makes a stage alone only if it has at least one move for so many blocks: the older placement follows at the end, with an entry
+/// for each block.
+const BLOCKS_A_MOVE: u64 = 4;
+
+/// Whether the owner is faster alone, in a stage of `left` moves: so many of the run's `moves` were judged again.
+fn is_futile(again: u64, moves: u64, left: u64, blocks: usize) -> bool {
+    again.saturating_mul(ONE_IN) > moves && left.saturating_mul(BLOCKS_A_MOVE) >= blocks as u64
+}
+
+/// Makes the `left` moves that are left in the running stage, in turns of one batch, whose moves are judged ahead.
+fn make_turns<'a, V: Words + Sync + Drop, G: Gate, J: Naming, R: Threads + Wait + Sync>(
+    rt: &R,
+    anneal: &mut Anneal<'a, V>,
+    left: u64,
+    batch: u64,
+    workers: &mut Workers<'a, '_, V, G, J>,
+    dial: &Dial,
+    shower: &mut Shower,
+) -> Result<(), AllocError>
+    requires left { left ≡ moves_left (run_of V.moves anneal.old) anneal.old.standing }
+    requires own { shower.old.dial ≡ dial.now }
+    requires limits { (1 ≤ batch) × (batch ≤ 4096) }
+    ensures same { IsSameRun anneal.old anneal.new }
+    ensures turns { OnOk result (LeadsByTurns (run_of V.moves anneal.old) batch anneal.old anneal.new) }
+    ensures stands { OnOk result (anneal.new.standing ≡ from (run_of V.moves anneal.old) anneal.old.standing left) }
+    ensures done { OnOk result (anneal.new.standing.done ≡ anneal.old.standing.done + left) }
+    ensures accepted { OnOk result (anneal.new.accepted ≡ anneal.old.accepted ++ accepted_among (run_of V.moves anneal.old) anneal.old.standing left) }
+    ensures dial { shower.new.dial ≡ shower.old.dial }
+    ensures shown { OnOk result (LeadsShown (run_of V.moves anneal.old) batch anneal.old.standing anneal.new.standing shower.old.shown shower.new.shown) }
+    ensures shown_cut { OnErr result (LeadsShownWithin (run_of V.moves anneal.old) batch anneal.old.standing left shower.old.shown shower.new.shown) }
+{
+    let mut made = 0;
+    while made < left {
+        let done = anneal.done();
+        anneal.turn_shown_by(rt, batch, workers, dial, shower)?;
+        made += anneal.done() - done;
+    }
+    Ok(())
+}
+
+/// Makes the `left` moves that are left in the running stage, in turns of one batch. Where it did not pay so far to judge moves ahead, the
+/// owner judges each itself. The moves, their costs and how many count as judged again are the same.
+fn make_rest<'a, V: Words + Sync + Drop, G: Gate, J: Naming, R: Threads + Wait + Sync>(
+    rt: &R,
+    anneal: &mut Anneal<'a, V>,
+    left: u64,
+    batch: u64,
+    workers: &mut Workers<'a, '_, V, G, J>,
+    dial: &Dial,
+    shower: &mut Shower,
+) -> Result<(), AllocError>
+    requires left { left ≡ moves_left (run_of V.moves anneal.old) anneal.old.standing }
+    requires own { shower.old.dial ≡ dial.now }
+    requires limits { (1 ≤ batch) × (batch ≤ 4096) }
+    ensures same { IsSameRun anneal.old anneal.new }
+    ensures turns { OnOk result (LeadsByTurns (run_of V.moves anneal.old) batch anneal.old anneal.new) }
+    ensures stands { OnOk result (anneal.new.standing ≡ from (run_of V.moves anneal.old) anneal.old.standing left) }
+    ensures done { OnOk result (anneal.new.standing.done ≡ anneal.old.standing.done + left) }
+    ensures accepted { OnOk result (anneal.new.accepted ≡ anneal.old.accepted ++ accepted_among (run_of V.moves anneal.old) anneal.old.standing left) }
+    ensures dial { shower.new.dial ≡ shower.old.dial }
+    ensures shown { OnOk result (LeadsShown (run_of V.moves anneal.old) batch anneal.old.standing anneal.new.standing shower.old.shown shower.new.shown) }
+    ensures shown_cut { OnErr result (LeadsShownWithin (run_of V.moves anneal.old) batch anneal.old.standing left shower.old.shown shower.new.shown) }
+{
+    let blocks = anneal.placement().blocks();
+    if 0 < left && is_futile(anneal.redone(), anneal.done(), left, blocks) {
+        anneal.finish_stage_alone(rt, batch, workers.gate(), dial, shower)?;
+        return Ok(());
+    }
+    make_turns(rt, anneal, left, batch, workers, dial, shower)
+}
+
 /// Makes the moves that are left in the running stage, in turns of one batch, and appends its cost to `costs`. Returns the report's line
 /// of the stage.
 fn end_stage<'a, V: Words + Sync + Drop, G: Gate, J: Naming, R: Threads + Wait + Sync>(
@@ -122,12 +196,7 @@ fn end_stage<'a, V: Words + Sync + Drop, G: Gate, J: Naming, R: Threads + Wait +
     let before = anneal.total();
     let _begun = anneal.done();
     let left = moves - stage.done;
-    let mut made = 0;
-    while made < left {
-        let done = anneal.done();
-        anneal.turn_shown_by(rt, batch, workers, dial, shower)?;
-        made += anneal.done() - done;
-    }
+    make_rest(rt, anneal, left, batch, workers, dial, shower)?;
     let _made = anneal.done();
     let cost = anneal.cost();
     let accepted = stage.accepted + (anneal.total() - before);

@@ -3,7 +3,7 @@ use Rattle.fab_commit.specs.Run.ByTurns.{LeadsByTurns}
 use Rattle.fab_commit.specs.Run.Commits.{IsSameRun, run_of}
 use Rattle.fab_commit.specs.Serial.{accepted_among, from}
 use Rattle.fab_run.specs.Shown.{LeadsShown}
-use Rattle.fab_run.proofs.stages.end_stage.Given as goal
+use Rattle.fab_run.proofs.stages.make_turns.Given as goal
 
 abbrev pub invariant-loop-made : goal.invariant-loop-made
 invariant-loop-made g l =
