@@ -96,6 +96,9 @@ fn kept_len(line: &[u8]) -> (bool, usize)
     }
 }
 
+// The most words that room is made for before they are found.
+const MOST_ROOM: usize = 64;
+
 /// The words found so far, each as bytes and as a place in the text.
 #[derive(Drop)]
 struct Gathered<'a> {
@@ -130,6 +133,17 @@ impl<'a> Gathered<'a> {
         Ok(())
     }
 
+    /// Makes room for the words of so many bytes at once. The guess is a word for each three bytes, and at most 64: beyond these the room
+    /// grows with the words.
+    fn reserve(&mut self, bytes: usize) -> Result<(), AllocError>
+        ensures text { self.new.text.now ≡ self.old.text.now }
+        ensures spans { self.new.spans.items ≡ self.old.spans.items }
+    {
+        let room = (bytes / 3 + 1).min(MOST_ROOM);
+        self.words.reserve(room)?;
+        self.spans.reserve(room)
+    }
+
     /// Adds the words between two places.
     fn push_words(&mut self, from: usize, to: usize) -> Result<(), AllocError>
         requires order { from ≤ to }
@@ -137,6 +151,9 @@ impl<'a> Gathered<'a> {
         ensures text { self.new.text.now ≡ self.old.text.now }
         ensures spans { OnOk result (self.new.spans.items ≡ self.old.spans.items ++ words_at from (slice_range self.old.text.now from to)) }
     {
+        if from < to {
+            self.reserve(to - from)?;
+        }
         let mut begun = None;
         for i in from..to {
             if is_separator(self.text[i]) {
