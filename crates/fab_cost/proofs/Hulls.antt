@@ -176,6 +176,13 @@ seen_is g sites a s k l = elim (cases_eq k a) [
       ∙ sym (ap (λ v. get_or v k no_lanes) (map_set (lanes_at g) sites a s) ∙ get_or-set_other (map (lanes_at g) sites) a k (lanes_at g s) no_lanes ne)
 ]
 
+-- where the block at another place is none of the table's
+pub unseen : (g : GridShape) (sites : List Site) (a k : ℕ) → length sites ≤ a → seen_in (table_of g sites) a no_lanes k ≡ lanes_in g sites k
+unseen g sites a k far = elim (cases_eq k a) [
+  | inl q ↦ (λ i. cond (eq-eqb k a q i) no_lanes (get_or (table_of g sites) k no_lanes)) ∙ sym (ap (λ v. get_or (map (lanes_at g) sites) v no_lanes) q ∙ get_or_past (map (lanes_at g) sites) a no_lanes (omega (arith, far, length-map sites (lanes_at g))))
+  | inr ne ↦ (λ i. cond (ne_eqb k a ne i) no_lanes (get_or (table_of g sites) k no_lanes)) ∙ in_table g sites k
+]
+
 mul_distrib : (q a b : ℕ) → q * (a + b) ≡ q * a + q * b
 mul_distrib q a b = omega arith
 

@@ -5,7 +5,6 @@ use Rattle.std.proofs.lemmas.Bool.{cases_Bool, leb-true}
 use Rattle.std.proofs.lemmas.Bool.Decides.{nat_tests}
 use Rattle.std.proofs.lemmas.List.{length-map, take_all, take_more, map-append}
 use Rattle.std.proofs.lemmas.List.Filters.{sum_by-filter_both}
-use lib.Lanes.{sum_l}
 use Rattle.std.proofs.lemmas.List.FromFn.{length-range_with_len}
 use Rattle.fab_arch.specs.declared.array.Site.{Site}
 use Rattle.fab_arch.specs.Grid.{GridShape}
@@ -17,12 +16,12 @@ use Rattle.fab_site.proofs.Swapping.{ready}
 use Rattle.fab_cost.specs.Cost.{net_box, net_cost, cost_of, cross_of}
 use Rattle.fab_cost.specs.Swapping.{blocks_of}
 use Rattle.fab_cost.specs.declared.records.Record.{Record}
-use Rattle.fab_cost.specs.Runs.{lanes_at, lanes_in, weight, table_of, seen_in, is_sized, is_large, nets_between, few_cost, few_all, no_lanes, AreRecords, AreWithin, IsStep}
+use Rattle.fab_cost.specs.Runs.{AreLanes, AreSeen, lanes_at, lanes_in, weight, table_of, seen_in, is_sized, is_large, nets_between, few_cost, few_all, no_lanes, AreRecords, AreWithin, IsStep}
 use Rattle.fab_cost.proofs.Bounds.{AreSides}
 use Rattle.fab_cost.proofs.Sited.{other_within, other_is_apart}
 use Rattle.fab_cost.proofs.Changes.{half_of_one}
 use Rattle.fab_cost.proofs.Split.{sum_filter, split_one, cost_kept}
-use Rattle.fab_cost.proofs.Hulls.{clip_le, seen_is, run_step}
+use Rattle.fab_cost.proofs.Hulls.{clip_le, seen_is, unseen, run_step}
 
 abbrev is_alone : Netlist → ℕ → Bool
 is_alone d n = leb (length (blocks_of d n)) 1
@@ -76,36 +75,49 @@ rows_few {W = W} d b above most rs row is are e =
 pub rows_within : {W : ℕ} (d : Netlist) (b k above most : ℕ) (rs row : List (Record W)) → AreRecords d b (nets_between d above most b) rs → row ≡ rs → k ≡ length d.kinds + 1 → All (AreWithin {W = W} k) row
 rows_within {W = W} d b k above most rs row are e ek = subst (λ v. All (AreWithin {W = W} k) v) (sym e) (λ i z h j l. let l0 = are.long in let w = (are.each i z (omega (arith, h, l0))).within j l in omega (arith, w, ek))
 
-pub few_step : (d : Netlist) (g : GridShape) (sites : List Site) (a b : ℕ) (to s t : Site) (table : List (List ℕ)) (r1 q1 : List (Record 3)) (r2 q2 : List (Record 7)) (r3 q3 : List (Record 15)) (g1 l1 g2 l2 g3 l3 gained lost : ℕ)
-    → IsLawful d → (1 ≤ g.nx) × (g.nx ≤ 1000) → (1 ≤ g.ny) × (g.ny ≤ 1000) → length d.kinds ≡ length sites → a < length sites → b < length d.kinds → table ≡ table_of g sites
+-- what the records of a block's nets of one size bring
+run_change : {W : ℕ} (d : Netlist) (g : GridShape) (sites : List Site) (b above most : ℕ) (s t : Site) (f : ℕ → List ℕ) (rs row : List (Record W)) (gained lost : ℕ)
+    → IsLawful d → AreSides g → length d.kinds ≡ length sites → b < length sites → f ≡ lanes_in g sites → AreRecords d b (nets_between d above most b) rs → row ≡ rs
+    → gained + sum_by (weight {W = W} f (lanes_at g t)) row ≡ lost + sum_by (weight {W = W} f (lanes_at g s)) row
+    → sum_by (net_cost d g (set sites b t)) (nets_between d above most b) + lost ≡ sum_by (net_cost d g (set sites b s)) (nets_between d above most b) + gained
+run_change {W = W} d g sites b above most s t f rs row gained lost is sides w lb ef are er h =
+    let x = run_step {W = W} d g sites b s t is sides w lb (nets_between d above most b) rs are f ef _ _ refl refl in
+    let p = ap (λ v. sum_by (weight {W = W} f (lanes_at g s)) v) er in
+    let q = ap (λ v. sum_by (weight {W = W} f (lanes_at g t)) v) er in
+    omega (arith, x, p, q, h)
+
+pub few_step : (d : Netlist) (g : GridShape) (sites : List Site) (b : ℕ) (s t : Site) (f : ℕ → List ℕ) (r1 q1 : List (Record 3)) (r2 q2 : List (Record 7)) (r3 q3 : List (Record 15)) (g1 l1 g2 l2 g3 l3 gained lost : ℕ)
+    → IsLawful d → (1 ≤ g.nx) × (g.nx ≤ 1000) → (1 ≤ g.ny) × (g.ny ≤ 1000) → length d.kinds ≡ length sites → b < length d.kinds → f ≡ lanes_in g sites
     → AreRecords d b (nets_between d 1 4 b) r1 → AreRecords d b (nets_between d 4 8 b) r2 → AreRecords d b (nets_between d 8 16 b) r3
     → q1 ≡ r1 → q2 ≡ r2 → q3 ≡ r3
-    → g1 ≡ sum_by (weight (seen_in table a (lanes_at g to)) (lanes_at g s)) q1 → l1 ≡ sum_by (weight (seen_in table a (lanes_at g to)) (lanes_at g t)) q1
-    → g2 ≡ sum_by (weight (seen_in table a (lanes_at g to)) (lanes_at g s)) q2 → l2 ≡ sum_by (weight (seen_in table a (lanes_at g to)) (lanes_at g t)) q2
-    → g3 ≡ sum_by (weight (seen_in table a (lanes_at g to)) (lanes_at g s)) q3 → l3 ≡ sum_by (weight (seen_in table a (lanes_at g to)) (lanes_at g t)) q3
-    → gained ≡ g1 + (g2 + g3) → lost ≡ l1 + (l2 + l3) → gained < 2 ^ 46 → lost < 2 ^ 46
-    → IsStep (few_cost d g (set (set sites a to) b s) (nets_of d b)) (few_cost d g (set (set sites a to) b t) (nets_of d b)) gained lost
-few_step d g sites a b to s t table r1 q1 r2 q2 r3 q3 g1 l1 g2 l2 g3 l3 gained lost is cx cy w la lb et a1 a2 a3 e1 e2 e3 eg1 el1 eg2 el2 eg3 el3 eg el fg fl =
+    → g1 + sum_by (weight f (lanes_at g t)) q1 ≡ l1 + sum_by (weight f (lanes_at g s)) q1
+    → g2 + sum_by (weight f (lanes_at g t)) q2 ≡ l2 + sum_by (weight f (lanes_at g s)) q2
+    → g3 + sum_by (weight f (lanes_at g t)) q3 ≡ l3 + sum_by (weight f (lanes_at g s)) q3
+    → gained ≡ g1 + (g2 + g3) → lost ≡ l1 + (l2 + l3) → gained < 2 ^ 48 → lost < 2 ^ 48
+    → IsStep (few_cost d g (set sites b s) (nets_of d b)) (few_cost d g (set sites b t) (nets_of d b)) gained lost
+few_step d g sites b s t f r1 q1 r2 q2 r3 q3 g1 l1 g2 l2 g3 l3 gained lost is cx cy w lb ef a1 a2 a3 e1 e2 e3 h1 h2 h3 eg el fg fl =
     let sides : AreSides g = record { columns = cx; rows = cy } in
-    let now : List Site = set sites a to in
-    let ws : length d.kinds ≡ length now = w ∙ sym (length-set sites a to) in
-    let wb : b < length now = omega (arith, lb, ws) in
-    let f : ℕ → List ℕ = seen_in table a (lanes_at g to) in
-    let ef : f ≡ lanes_in g now = λ i k. (ap (λ v. seen_in v a (lanes_at g to) k) et ∙ seen_is g sites a to k la) i in
-    let x1 = run_step {W = 3} d g now b s t is sides ws wb (nets_between d 1 4 b) r1 a1 f ef g1 l1 (eg1 ∙ ap (λ v. sum_by (weight {W = 3} f (lanes_at g s)) v) e1) (el1 ∙ ap (λ v. sum_by (weight {W = 3} f (lanes_at g t)) v) e1) in
-    let x2 = run_step {W = 7} d g now b s t is sides ws wb (nets_between d 4 8 b) r2 a2 f ef g2 l2 (eg2 ∙ ap (λ v. sum_by (weight {W = 7} f (lanes_at g s)) v) e2) (el2 ∙ ap (λ v. sum_by (weight {W = 7} f (lanes_at g t)) v) e2) in
-    let x3 = run_step {W = 15} d g now b s t is sides ws wb (nets_between d 8 16 b) r3 a3 f ef g3 l3 (eg3 ∙ ap (λ v. sum_by (weight {W = 15} f (lanes_at g s)) v) e3) (el3 ∙ ap (λ v. sum_by (weight {W = 15} f (lanes_at g t)) v) e3) in
-    let z = alone_cost d g (set now b s) (set now b t) (nets_of d b) in
-    let p = sizes (net_cost d g (set now b s)) d (nets_of d b) in
-    let q = sizes (net_cost d g (set now b t)) d (nets_of d b) in
+    let wb : b < length sites = omega (arith, lb, w) in
+    let x1 = run_change {W = 3} d g sites b 1 4 s t f r1 q1 g1 l1 is sides w wb ef a1 e1 h1 in
+    let x2 = run_change {W = 7} d g sites b 4 8 s t f r2 q2 g2 l2 is sides w wb ef a2 e2 h2 in
+    let x3 = run_change {W = 15} d g sites b 8 16 s t f r3 q3 g3 l3 is sides w wb ef a3 e3 h3 in
+    let z = alone_cost d g (set sites b s) (set sites b t) (nets_of d b) in
+    let p = sizes (net_cost d g (set sites b s)) d (nets_of d b) in
+    let q = sizes (net_cost d g (set sites b t)) d (nets_of d b) in
     record { balance = omega (arith, x1, x2, x3, z, p, q, eg, el); gained_few = fg; lost_few = fl }
 
-pub lanes_sum : (g : GridShape) (s : Site) (v : List ℕ) → v ≡ lanes_at g s → (1 ≤ g.nx) × (g.nx ≤ 1000) → (1 ≤ g.ny) × (g.ny ≤ 1000) → sum_l v ≤ 2002
-lanes_sum g s v e cx cy =
+pub lanes_low : (g : GridShape) (s : Site) (v : List ℕ) → v ≡ lanes_at g s → (1 ≤ g.nx) × (g.nx ≤ 1000) → (1 ≤ g.ny) × (g.ny ≤ 1000) → AreLanes v
+lanes_low g s v e cx cy =
     let x = clip_le g.nx s.x cx.0 cx.1 in
     let y = clip_le g.ny s.y cy.0 cy.1 in
-    let k : sum_l v ≡ sum_l (lanes_at g s) = ap sum_l e in
-    omega (arith, k, x, y)
+    subst AreLanes (sym e) (record { four = refl; low = (omega (arith, x), (omega (arith, x), (omega (arith, y), (omega (arith, y), tt)))) })
+
+-- nothing is seen at another place, or one block is
+pub seen_plain : (g : GridShape) (sites : List Site) (table : List (List ℕ)) (moved : ℕ) (to : List ℕ) → length sites ≤ moved → to ≡ no_lanes → table ≡ table_of g sites → AreSeen g sites table moved to
+seen_plain g sites table moved to far et e = record { each = λ k. (λ i. seen_in (e i) moved (et i) k) ∙ unseen g sites moved k far }
+
+pub seen_moved : (g k : GridShape) (sites : List Site) (s : Swap) (table : List (List ℕ)) (to : List ℕ) → IsSwapOf k sites s → to ≡ lanes_at g s.to → table ≡ table_of g sites → AreSeen g (set sites s.block.0 s.to) table s.block.0 to
+seen_moved g k sites s table to is et e = record { each = λ j. (λ i. seen_in (e i) s.block.0 (et i) j) ∙ seen_is g sites s.block.0 s.to j (ready k sites s is).within }
 
 pub table_long : (g : GridShape) (sites : List Site) (n : ℕ) (table : List (List ℕ)) → n ≡ length sites → table ≡ table_of g sites → length table ≡ n + 1
 table_long g sites n table w e = omega (arith, ap length e, length-append (map (lanes_at g) sites) (no_lanes ∷ []), length-map sites (lanes_at g), w)
@@ -154,11 +166,6 @@ few_moved d g sites b x y gained lost step =
     let s = step.balance in
     omega (arith, k, p, q, s)
 
-set_again : (sites : List Site) (b : ℕ) (x y : Site) → set (set sites b x) b y ≡ set sites b y
-set_again [] b x y = refl
-set_again (s ∷ sites) zero x y = refl
-set_again (s ∷ sites) (suc b) x y = ap (λ v. s ∷ v) (set_again sites b x y)
-
 set_same : (sites : List Site) (b : ℕ) (x : Site) → b < length sites → site_of sites b ≡ x → set sites b x ≡ sites
 set_same [] b x h e = refl
 set_same (s ∷ sites) zero x h e = λ i. sym e i ∷ sites
@@ -166,14 +173,13 @@ set_same (s ∷ sites) (suc b) x h e = ap (λ v. s ∷ v) (set_same sites b x (o
 
 -- the first block goes
 few_first : (d : Netlist) (g k : GridShape) (sites : List Site) (s : Swap) (gained lost : ℕ) → IsSwapOf k sites s
-    → IsStep (few_cost d g (set (set sites s.block.0 s.to) s.block.0 s.from) (nets_of d s.block.0)) (few_cost d g (set (set sites s.block.0 s.to) s.block.0 s.to) (nets_of d s.block.0)) gained lost
+    → IsStep (few_cost d g (set sites s.block.0 s.from) (nets_of d s.block.0)) (few_cost d g (set sites s.block.0 s.to) (nets_of d s.block.0)) gained lost
     → few_all d g (set sites s.block.0 s.to) + lost ≡ few_all d g sites + gained
 few_first d g k sites s gained lost is step =
     let r = ready k sites s is in
-    let a = few_moved d g (set sites s.block.0 s.to) s.block.0 s.from s.to gained lost step in
-    let p : few_all d g (set (set sites s.block.0 s.to) s.block.0 s.to) ≡ few_all d g (set sites s.block.0 s.to) = ap (few_all d g) (set_again sites s.block.0 s.to s.to) in
-    let q : few_all d g (set (set sites s.block.0 s.to) s.block.0 s.from) ≡ few_all d g sites = ap (few_all d g) (set_again sites s.block.0 s.to s.from ∙ set_same sites s.block.0 s.from r.within r.stands) in
-    omega (arith, a, p, q)
+    let a = few_moved d g sites s.block.0 s.from s.to gained lost step in
+    let q : few_all d g (set sites s.block.0 s.from) ≡ few_all d g sites = ap (few_all d g) (set_same sites s.block.0 s.from r.within r.stands) in
+    omega (arith, a, q)
 
 with_is : (sites : List Site) (o : Option BlockId) (c : BlockId) (x : Site) → o ≡ Some c → with_other sites o x ≡ set sites c.0 x
 with_is sites o c x e = ap (λ v. with_other sites v x) e
@@ -192,7 +198,7 @@ few_second d g k sites s c gained lost is o step =
     omega (arith, a, p, q)
 
 pub few_none : (d : Netlist) (g k : GridShape) (sites : List Site) (s : Swap) (gained lost : ℕ) → IsSwapOf k sites s → s.other ≡ None
-    → IsStep (few_cost d g (set (set sites s.block.0 s.to) s.block.0 s.from) (nets_of d s.block.0)) (few_cost d g (set (set sites s.block.0 s.to) s.block.0 s.to) (nets_of d s.block.0)) gained lost
+    → IsStep (few_cost d g (set sites s.block.0 s.from) (nets_of d s.block.0)) (few_cost d g (set sites s.block.0 s.to) (nets_of d s.block.0)) gained lost
     → few_all d g (swapped sites s) + lost ≡ few_all d g sites + gained
 few_none d g k sites s gained lost is o step =
     let a = few_first d g k sites s gained lost is step in
@@ -200,7 +206,7 @@ few_none d g k sites s gained lost is o step =
     omega (arith, a, q)
 
 pub few_some : (d : Netlist) (g k : GridShape) (sites : List Site) (s : Swap) (c : BlockId) (gained lost won gone : ℕ) → IsSwapOf k sites s → s.other ≡ Some c
-    → IsStep (few_cost d g (set (set sites s.block.0 s.to) s.block.0 s.from) (nets_of d s.block.0)) (few_cost d g (set (set sites s.block.0 s.to) s.block.0 s.to) (nets_of d s.block.0)) gained lost
+    → IsStep (few_cost d g (set sites s.block.0 s.from) (nets_of d s.block.0)) (few_cost d g (set sites s.block.0 s.to) (nets_of d s.block.0)) gained lost
     → IsStep (few_cost d g (set (set sites s.block.0 s.to) c.0 s.to) (nets_of d c.0)) (few_cost d g (set (set sites s.block.0 s.to) c.0 s.from) (nets_of d c.0)) won gone
     → few_all d g (swapped sites s) + (lost + gone) ≡ few_all d g sites + (gained + won)
 few_some d g k sites s c gained lost won gone is o step next = omega (arith, few_first d g k sites s gained lost is step, few_second d g k sites s c won gone is o next)

@@ -1,7 +1,7 @@
 -- Positions as vectors of lanes, the nets of a block as records of the other blocks on them, and what is kept so (our own).
 use Rattle.std.specs.Prelude.{ℕ, ◌≡◌, ◌+◌, ◌*◌, ◌^◌, Option, ◌-◌, ◌<◌, ◌≤◌, ◌==◌, ◌&&◌, ◌||◌, not, nat_lt, nat_le, min, if◌then◌else◌, Bool, true, List, [], ◌∷◌, ◌++◌, map, take, filter, length, slice_index, slice_index_or, slice_set, Some, None, refl}
 use Rattle.std.specs.List.{sum_by, range_with_len}
-use lib.Lanes.{zip2, fold_l, sum_l}
+use lib.Lanes.{Each1, zip2, fold_l, sum_l}
 use Rattle.fab_arch.specs.declared.array.Site.{Site}
 use Rattle.fab_arch.specs.Grid.{GridShape}
 use Rattle.fab_net.specs.Rows.{row_of}
@@ -100,6 +100,15 @@ positions_after g positions s = positions_with g (slice_set positions s.block.0 
 abbrev pub seen_in : List (List ℕ) → ℕ → List ℕ → ℕ → List ℕ
 seen_in table moved to k = if k == moved then to else slice_index_or table k no_lanes
 
+-- so each block is seen at its site
+pub record AreSeen (g : GridShape) (sites : List Site) (table : List (List ℕ)) (moved : ℕ) (to : List ℕ) : Type 0 where
+  pub each : (k : ℕ) → seen_in table moved to k ≡ lanes_in g sites k
+
+-- four lanes, none above 1001
+pub record AreLanes (v : List ℕ) : Type 0 where
+  pub four : length v ≡ 4
+  pub low : Each1 (λ x. x ≤ 1001) v
+
 -- the least of the vectors of some blocks
 abbrev pub least_among : (ℕ → List ℕ) → List ℕ → List ℕ
 least_among f ks = fold_l (λ v k. least_of v (f k)) no_lanes ks
@@ -163,11 +172,11 @@ few_cost d g sites ns = sum_by (net_cost d g sites) (filter (λ n. not (is_large
 abbrev pub few_all : Netlist → GridShape → List Site → ℕ
 few_all d g sites = few_cost d g sites (counted d)
 
--- gained less lost is the one less the other, and both are below 2^46
+-- gained less lost is the one less the other, and both are below 2^48
 pub record IsStep (before after gained lost : ℕ) : Type 0 where
   pub balance : after + lost ≡ before + gained
-  pub gained_few : gained < 2 ^ 46
-  pub lost_few : lost < 2 ^ 46
+  pub gained_few : gained < 2 ^ 48
+  pub lost_few : lost < 2 ^ 48
 
 -- of block c the nets, if it is below k; of block k the first j
 abbrev pub nets_to : Netlist → ℕ → ℕ → ℕ → List ℕ

@@ -3,7 +3,7 @@
 ghost use Rattle.std.specs.Prelude.{◌≡◌, ◌+◌, ◌*◌, ◌<◌, ◌≤◌, ◌^◌, List, ℕ, length, slice_index, slice_index_or};
 ghost use Rattle.std.specs.List.{All, sum_by};
 ghost use lib.Lanes.{sum_l};
-ghost use Rattle.fab_cost.specs.Runs.{AreWithin, least_among, least_of, seen_in, weight};
+ghost use Rattle.fab_cost.specs.Runs.{AreLanes, AreWithin, least_among, least_of, seen_in, weight};
 
 use crate::edge_boxes::Tally;
 use crate::lanes::{joined, nowhere, total};
@@ -17,15 +17,22 @@ pub struct Record<const W: usize> {
     pub factor: u16,
 }
 
+/// A block that is seen at another place than the table's. No block has the number 65,536.
+#[derive(Clone, Copy)]
+pub(crate) struct Moved {
+    pub(crate) block: u32,
+    pub(crate) place: u16x4,
+}
+
 #[inline(always)]
 /// The lanes of a block, where one block is seen at another place. This chooses between two addresses, so that no branch is
 /// mispredicted.
-fn seen<'a>(table: &'a [u16x4], moved: u16, to: &'a u16x4, other: u16) -> &'a u16x4
+fn seen<'a>(table: &'a [u16x4], moved: &'a Moved, other: u16) -> &'a u16x4
     requires { other < length table.now }
-    ensures { result.now ≡ seen_in table.now moved to.now other }
+    ensures { result.now ≡ seen_in table.now moved.now.block moved.now.place other }
 {
-    if other == moved {
-        to
+    if u32::from(other) == moved.block {
+        &moved.place
     } else {
         &table[other as usize]
     }
@@ -34,57 +41,60 @@ fn seen<'a>(table: &'a [u16x4], moved: u16, to: &'a u16x4, other: u16) -> &'a u1
 #[tactic(auto, using(crate::proofs::Mins::least_more, crate::proofs::Mins::least_all))]
 #[inline(always)]
 /// The lane-wise least of the other blocks of a net.
-fn around<const W: usize>(table: &[u16x4], moved: u16, to: &u16x4, net: &Record<W>) -> u16x4
+fn around<const W: usize>(table: &[u16x4], moved: &Moved, net: &Record<W>) -> u16x4
     requires { AreWithin (length table.now) net.now }
-    ensures { result ≡ least_among (seen_in table.now moved to.now) net.now.others }
+    ensures { result ≡ least_among (seen_in table.now moved.now.block moved.now.place) net.now.others }
 {
     let mut all = nowhere();
     'others: for i in 0..W {
-        let one = seen(table, moved, to, net.others[i]);
+        let one = seen(table, moved, net.others[i]);
         all = joined(all, *one);
     }
     all
 }
 
-#[tactic(auto, using(crate::proofs::Mins::total_le))]
 #[inline(always)]
-/// A cross count times the sum of a net's least lanes, where its block is at a place.
-fn weighed(factor: u16, all: u16x4, at: u16x4) -> u64
-    requires { sum_l at ≤ 2002 }
-    ensures value { result ≡ factor * sum_l (least_of all at) }
-    ensures few { result < 2 ^ 27 }
+/// A cross count times how far the sum of a net's least lanes falls when its block goes from `base` to `target`, with 1,001 more for each
+/// lane, so that none is below 0: one sum in place of two.
+fn weighed(factor: u16, all: u16x4, base: u16x4, target: u16x4) -> u64
+    requires base { AreLanes base }
+    requires target { AreLanes target }
+    ensures fall { result + factor * sum_l (least_of all target) ≡ 4004 * factor + factor * sum_l (least_of all base) }
+    ensures few { result < 2 ^ 29 }
 {
-    u64::from(factor) * u64::from(total(joined(all, at)))
+    let raised = joined(all, base).strict_add(u16x4::splat(1001));
+    let fall = total(raised.strict_sub(joined(all, target)));
+    u64::from(factor) * u64::from(fall)
 }
 
-#[tactic(auto, using(crate::proofs::Mins::weight_more, crate::proofs::Mins::weight_all))]
+#[tactic(auto, using(crate::proofs::Mins::change_all))]
 #[inline(always)]
-/// How the cost of some records' nets changes when their block goes from `base` to `target`. A lane sum falls as a box grows, so
-/// `gained` is the weighted sum at `base`, and `lost` the one at `target`.
+/// How the cost of some records' nets changes when their block goes from `base` to `target`: a lane sum falls as a box grows.
 pub(crate) fn change_of_run<const W: usize>(
     table: &[u16x4],
-    moved: u16,
-    to: &u16x4,
+    moved: &Moved,
     base: u16x4,
     target: u16x4,
     records: &[Record<W>],
 ) -> Tally
     requires few { length records.now < 2 ^ 17 }
     requires within { All (AreWithin (length table.now)) records.now }
-    requires base { sum_l base ≤ 2002 }
-    requires target { sum_l target ≤ 2002 }
-    ensures gained { result.gained ≡ sum_by (weight (seen_in table.now moved to.now) base) records.now }
-    ensures lost { result.lost ≡ sum_by (weight (seen_in table.now moved to.now) target) records.now }
-    ensures gained_few { result.gained < 2 ^ 44 }
-    ensures lost_few { result.lost < 2 ^ 44 }
+    requires base { AreLanes base }
+    requires target { AreLanes target }
+    ensures balance { result.gained + sum_by (weight (seen_in table.now moved.now.block moved.now.place) target) records.now ≡ result.lost + sum_by (weight (seen_in table.now moved.now.block moved.now.place) base) records.now }
+    ensures gained_few { result.gained < 2 ^ 46 }
+    ensures lost_few { result.lost < 2 ^ 46 }
 {
     let mut gained: u64 = 0;
-    let mut lost: u64 = 0;
+    let mut factors: u64 = 0;
     'run: for i in 0..records.len() {
         let net = &records[i];
-        let all = around(table, moved, to, net);
-        gained += weighed(net.factor, all, base);
-        lost += weighed(net.factor, all, target);
+        let all = around(table, moved, net);
+        gained += weighed(net.factor, all, base, target);
+        factors += u64::from(net.factor);
     }
-    Tally { gained, lost }
+    Tally {
+        gained,
+        lost: 4004 * factors,
+    }
 }

@@ -7,13 +7,13 @@ ghost use Rattle.std.specs.List.{All};
 ghost use Rattle.fab_arch.specs.declared.array.Site.{Site as ArraySite};
 ghost use Rattle.fab_net.specs.Netlist.{nets_of};
 ghost use Rattle.fab_site.specs.Placement.{swapped, IsSwapOf};
-ghost use Rattle.fab_cost.specs.Runs.{HasRecords, IsStep, counted_over, few_all, few_cost, positions_after, positions_in, table_from, table_of};
+ghost use Rattle.fab_cost.specs.Runs.{AreSeen, HasRecords, IsStep, counted_over, few_all, few_cost, positions_after, positions_in, table_from, table_of};
 ghost use Rattle.fab_cost.specs.Swapping.{Position};
 
 use crate::edge_boxes::{Tally, plus};
 use crate::edge_counts::{CountedBox, Edges, NOTHING};
 use crate::lanes::{lanes_of, nowhere};
-use crate::records::change_of_run;
+use crate::records::{Moved, change_of_run};
 use crate::runs::Runs;
 use fab_arch::{Grid, Site};
 use fab_net::{BlockId, Design};
@@ -40,44 +40,50 @@ pub(crate) fn lanes_for(
     Ok(lanes)
 }
 
-#[tactic(auto, using(crate::proofs::Steps::rows_few, crate::proofs::Steps::rows_within, crate::proofs::Steps::lanes_sum))]
+// No block has this number.
+const NO_BLOCK: u32 = 65536;
+
+/// A block that goes from one site to another.
+#[derive(Clone, Copy)]
+struct Step {
+    block: BlockId,
+    from: Site,
+    to: Site,
+}
+
+#[tactic(auto, using(crate::proofs::Steps::rows_few, crate::proofs::Steps::rows_within, crate::proofs::Steps::lanes_low))]
 #[inline(always)]
-/// How the cost of the small nets of a block of the swap changes when it goes from one site to another, where the swap's
-/// first block is seen at its new site.
-fn change_of_block(
+/// How the cost of the small nets of a block changes by its step, where another block is seen at another place than the table's.
+fn change_of_step(
     lanes: &[u16x4],
     runs: &Runs,
     design: &Design,
     grid: &Grid,
-    swap: &Swap,
-    block: BlockId,
-    standing: Site,
-    going: Site,
+    moved: &Moved,
+    step: &Step,
 ) -> Tally
     requires records { HasRecords runs.now design.now }
     requires table { length lanes.now ≡ length design.now.kinds + 1 }
-    requires block { block.0 < length design.now.kinds }
-    requires moved { swap.now.block.0 < length design.now.kinds }
-    ensures step { (sites : List ArraySite) → length design.now.kinds ≡ length sites → lanes.now ≡ table_of grid.now sites → IsStep (few_cost design.now grid.now (slice_set (slice_set sites swap.now.block.0 swap.now.to) block.0 standing) (nets_of design.now block.0)) (few_cost design.now grid.now (slice_set (slice_set sites swap.now.block.0 swap.now.to) block.0 going) (nets_of design.now block.0)) result.gained result.lost }
-    ensures gained { result.gained < 2 ^ 46 }
-    ensures lost { result.lost < 2 ^ 46 }
+    requires block { step.now.block.0 < length design.now.kinds }
+    ensures step { (sites : List ArraySite) → length design.now.kinds ≡ length sites → AreSeen grid.now sites lanes.now moved.now.block moved.now.place → IsStep (few_cost design.now grid.now (slice_set sites step.now.block.0 step.now.from) (nets_of design.now step.now.block.0)) (few_cost design.now grid.now (slice_set sites step.now.block.0 step.now.to) (nets_of design.now step.now.block.0)) result.gained result.lost }
+    ensures gained { result.gained < 2 ^ 48 }
+    ensures lost { result.lost < 2 ^ 48 }
 {
     let _nx = grid.nx();
     let _ny = grid.ny();
     let _blocks = design.blocks();
-    let moved = swap.block.0 as u16;
-    let to = lanes_of(grid, swap.to);
-    let base = lanes_of(grid, standing);
-    let target = lanes_of(grid, going);
-    let row = block.0 as usize;
-    let one = change_of_run(lanes, moved, &to, base, target, runs.small.row(row));
-    let two = change_of_run(lanes, moved, &to, base, target, runs.middle.row(row));
-    let three = change_of_run(lanes, moved, &to, base, target, runs.wide.row(row));
+    let base = lanes_of(grid, step.from);
+    let target = lanes_of(grid, step.to);
+    let row = step.block.0 as usize;
+    let one = change_of_run(lanes, moved, base, target, runs.small.row(row));
+    let two = change_of_run(lanes, moved, base, target, runs.middle.row(row));
+    let three = change_of_run(lanes, moved, base, target, runs.wide.row(row));
     plus(one, plus(two, three))
 }
 
 #[tactic(auto, using(crate::proofs::Sited::block_below, crate::proofs::Steps::few_none, crate::proofs::Steps::few_some))]
-/// How the swap changes the cost of the small nets: first its block goes, then the other.
+/// How the swap changes the cost of the small nets: first its block goes, then the other. The records of the first have only other blocks,
+/// so none is looked for among them.
 pub(crate) fn change_of_small(
     lanes: &[u16x4],
     runs: &Runs,
@@ -91,19 +97,36 @@ pub(crate) fn change_of_small(
     requires lawful { IsSwapOf grid.now placement.now.sites swap.now }
     requires whole { length design.now.kinds ≡ length placement.now.sites }
     ensures balance { few_all design.now grid.now (swapped placement.now.sites swap.now) + result.lost ≡ few_all design.now grid.now placement.now.sites + result.gained }
-    ensures gained { result.gained < 2 ^ 47 }
-    ensures lost { result.lost < 2 ^ 47 }
+    ensures gained { result.gained < 2 ^ 49 }
+    ensures lost { result.lost < 2 ^ 49 }
 {
-    let first = change_of_block(
-        lanes, runs, design, grid, swap, swap.block, swap.from, swap.to,
-    );
+    let _blocks = design.blocks();
+    let going = Step {
+        block: swap.block,
+        from: swap.from,
+        to: swap.to,
+    };
+    let nobody = Moved {
+        block: NO_BLOCK,
+        place: nowhere(),
+    };
+    let first = change_of_step(lanes, runs, design, grid, &nobody, &going);
     match swap.other {
         None => first,
         Some(other) => {
-            let second = change_of_block(
-                lanes, runs, design, grid, swap, other, swap.to, swap.from,
-            );
-            plus(first, second)
+            let coming = Step {
+                block: other,
+                from: swap.to,
+                to: swap.from,
+            };
+            let gone = Moved {
+                block: swap.block.0,
+                place: lanes_of(grid, swap.to),
+            };
+            plus(
+                first,
+                change_of_step(lanes, runs, design, grid, &gone, &coming),
+            )
         }
     }
 }
