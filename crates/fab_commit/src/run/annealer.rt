@@ -262,9 +262,9 @@ impl<'a, W: Words + Drop> Anneal<'a, W> {
 }
 
 impl<'a, W: Words + Drop> Anneal<'a, W> {
-    /// Makes the moves that are left in the running stage, of which there are some. The calling thread judges each on the live placement,
-    /// so that no judgement is made in vain. The moves are those of turns of `batch` moves, from 1 to 4,096, which show on the dial how
-    /// far the run has come, and whose judgements ahead would have been spoilt as often. By contract the shower is one of this dial.
+    /// Makes the moves that are left in the running stage, of which there are some. The calling thread judges each when its turn comes, on
+    /// the live placement; no move is judged ahead. The moves are those of turns of `batch` moves, from 1 to 4,096, which show on the dial
+    /// how far the run has come, and whose judgements ahead would have been spoilt as often. By contract the shower is one of this dial.
     ///
     /// The gate is called before and after the judgement of each move, and before its commit.
     ///
