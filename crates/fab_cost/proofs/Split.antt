@@ -1,5 +1,6 @@
 -- The whole sum before and after a swap, by the nets of its blocks.
-use Rattle.std.proofs.Common.{◌≡◌, ◌≢◌, ℕ, pos, ◌-ℤ◌, ◌+◌, ◌*◌, length, Bool, true, false, cond, List, [], ◌∷◌, map, Option, Some, None, refl, sym, ap, ◌∙◌, arith, inl, inr}
+use Rattle.std.proofs.Common.{◌≡◌, ◌≢◌, ℕ, ℤ, pos, ◌+ℤ◌, ◌-ℤ◌, ◌+◌, ◌*◌, ◌^◌, ◌<◌, w64, length, Bool, true, false, cond, List, [], ◌∷◌, map, Option, Some, None, refl, sym, ap, ◌∙◌, arith, inl, inr}
+use Rattle.std.specs.Int.{saturate_unsigned}
 use Rattle.std.specs.List.{filter, sum_by}
 use Rattle.std.proofs.lemmas.Bool.{cases_Bool, false≢true}
 use Rattle.std.proofs.lemmas.Int.{ints}
@@ -151,6 +152,15 @@ balance_some d g sites s c gained lost more less o eg el em ee =
     (cost_unless d g (swapped sites s) (Some s.block)) (cost_unless d g sites (Some s.block)) (unless_is d g (swapped sites s) s.block) (unless_is d g sites s.block)
     (λ n f h. cost_kept d g sites s n f (ap (λ v. has_block v (blocks_of d n)) o ∙ h)) (counted d) in
     omega (arith, k, eg, el, em, ee, unless_none d g sites (nets_of d s.block.0), unless_none d g (swapped sites s) (nets_of d s.block.0))
+
+-- a known change leads from the cost before to the one after
+pub known_sum : (d : Netlist) (g : GridShape) (sites : List Site) (s : Swap) (total sum : ℕ) (delta : ℤ) → total ≡ cost_of d g sites → cost_of d g (swapped sites s) < 2 ^ 43 → delta ≡ change d g sites s
+    → sum ≡ saturate_unsigned w64 (pos total +ℤ delta) → sum ≡ cost_of d g (swapped sites s)
+unfolding change
+known_sum d g sites s total sum delta et few ed es =
+    let k : pos total +ℤ delta ≡ pos (cost_of d g (swapped sites s)) = omega (arith, ints, et, ed) in
+    let m : saturate_unsigned w64 (pos (cost_of d g (swapped sites s))) ≡ cost_of d g (swapped sites s) = grind (arith, few) in
+    es ∙ ap (saturate_unsigned w64) k ∙ m
 
 pub change_is : (d : Netlist) (g : GridShape) (sites : List Site) (s : Swap) (gained lost : ℕ) → cost_of d g (swapped sites s) + lost ≡ cost_of d g sites + gained → pos gained -ℤ pos lost ≡ change d g sites s
 unfolding change

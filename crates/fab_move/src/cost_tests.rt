@@ -234,7 +234,8 @@ fn first_counts(design: &Design, edges: &EdgeBoxes) -> Option<[u32; 4]>
     Some(edges.edge_counts(NetId(0)))
 }
 
-// The cost and the edge counts of the first net before and after a swap, the change of cost, and the cost of an unchanged copy.
+// The cost and the edge counts of the first net before and after a swap, the change of cost, the same after a swap that is made by its known
+// change, and the cost of an unchanged copy.
 #[derive(Clone, Copy, PartialEq, Eq, Debug)]
 struct Row {
     cost: u64,
@@ -242,6 +243,8 @@ struct Row {
     delta: i64,
     cost_after: u64,
     counts_after: Option<[u32; 4]>,
+    cost_known: u64,
+    counts_known: Option<[u32; 4]>,
     cost_of_the_copy: u64,
 }
 
@@ -259,6 +262,9 @@ fn swapped_row(
     let copy = edges.copy()?;
     let cost = WireCost::cost(&edges);
     let counts = first_counts(design, &edges);
+    let mut known = edges.copy()?;
+    let change = known.delta(design, grid, placement, swap);
+    known.apply_known(design, grid, placement, swap, change);
     let (delta, cost_after) = made(&mut edges, design, grid, placement, swap);
     Ok(Row {
         cost,
@@ -266,6 +272,8 @@ fn swapped_row(
         delta,
         cost_after,
         counts_after: first_counts(design, &edges),
+        cost_known: WireCost::cost(&known),
+        counts_known: first_counts(design, &known),
         cost_of_the_copy: WireCost::cost(&copy),
     })
 }
@@ -324,6 +332,8 @@ fn two_pins_of_a_block_count_twice(rt: HostRuntime) -> Result<(), Fail> {
             delta: 0,
             cost_after: 40000,
             counts_after: counts(2, 1, 2, 1),
+            cost_known: 40000,
+            counts_known: counts(2, 1, 2, 1),
             cost_of_the_copy: 40000,
         })
     );
@@ -344,6 +354,8 @@ fn a_box_shrinks_where_its_last_terminal_leaves(rt: HostRuntime) -> Result<(), F
             delta: -10000,
             cost_after: 50000,
             counts_after: counts(2, 1, 1, 1),
+            cost_known: 50000,
+            counts_known: counts(2, 1, 1, 1),
             cost_of_the_copy: 60000,
         })
     );

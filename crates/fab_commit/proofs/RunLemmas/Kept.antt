@@ -16,6 +16,7 @@ use Rattle.fab_site.proofs.Swapping.{ready}
 use Rattle.fab_move.specs.declared.proposals.Proposal.{Proposal}
 use Rattle.fab_move.specs.declared.proposals.Proposal.TheVariants.{Nothing, Void, Move}
 use Rattle.fab_move.specs.Propose.{is_fixed, movable, propose_held, propose_to, propose_for, proposal, target}
+use Rattle.fab_cost.specs.Swapping.{change}
 use Rattle.fab_move.specs.Judge.{Problem, judged_as, judged}
 use Rattle.fab_move.proofs.Choices.{stands_at}
 
@@ -96,6 +97,19 @@ judged_may_move p sites k t range s e = by_proposal (proposal p.design p.grid p.
     by_proposal Nothing q h = absurd cc
     by_proposal (Void b to) q h = absurd cc
     by_proposal (Move m) q h = may_move p.design p.grid p.fixed sites range (p.words k) s (q ∙ ap (λ x. Move x) (same m s h))
+
+-- the change of a judgement is that of its swap
+pub judged_change : (p : Problem) (sites : List Site) (k t range : ℕ) (s : Swap) → (judged p sites k t range).swap ≡ Some s → (judged p sites k t range).change ≡ change p.design p.grid sites s
+unfolding judged
+judged_change p sites k t range s e = by_proposal (proposal p.design p.grid p.fixed sites range (p.words k)) e
+  where
+    same : (a b : Swap) → Some a ≡ Some b → a ≡ b
+    same a b q = cc
+
+    by_proposal : (o : Proposal) → (judged_as p sites t (slice_index (p.words k) 3) o).swap ≡ Some s → (judged_as p sites t (slice_index (p.words k) 3) o).change ≡ change p.design p.grid sites s
+    by_proposal Nothing h = absurd cc
+    by_proposal (Void b to) h = absurd cc
+    by_proposal (Move m) h = ap (change p.design p.grid sites) (same m s h)
 
 fit_after : (d : Netlist) (g : GridShape) (sites after : List Site) (block : ℕ) (from to : Site) (o : Option BlockId) (b : ℕ)
     → Fits d g b (site_of sites b) → kind_at g to ≡ kind_at g from → site_of sites block ≡ from → IsHeldBy sites to o → Placed sites block from to o after b → Fits d g b (site_of after b)

@@ -145,9 +145,13 @@ pub(crate) fn commit<W: Words>(given: &Given<'_, W>, state: &mut State, decision
     let _moves = given.schedule.moves();
     if decision.accepted {
         if let Some(swap) = decision.swap {
-            state
-                .cost
-                .apply(given.design, given.grid, &state.placement, &swap);
+            state.cost.apply_known(
+                given.design,
+                given.grid,
+                &state.placement,
+                &swap,
+                decision.delta,
+            );
             state.placement.apply(&swap);
         }
     }

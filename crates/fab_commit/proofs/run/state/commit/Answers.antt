@@ -1,18 +1,27 @@
-use Rattle.std.proofs.Common.{◌+◌, ◌++◌, refl, sym, ap, subst, ◌∙◌, arith}
+use Rattle.std.proofs.Common.{◌≡◌, ◌+◌, ◌++◌, to_z, of_z, w64, rules, refl, sym, ap, subst, ◌∙◌, arith}
 use Rattle.fab_site.specs.Placement.{IsSwapOf}
 use Rattle.fab_commit.specs.declared.run.state.State.{State}
 use Rattle.fab_commit.specs.Serial.{judged_here, numbers_if, one_if}
 use Rattle.fab_commit.specs.Run.Commits.{IsAdvanced, run_for, standing_of}
 use Rattle.fab_commit.proofs.RunLemmas.Committing.{IsCommitted, IsSwapped, committed, decided_lawful, stands_after, sound_after, judged_legal, numbers_fit, rejected_stays, void_stays, with_none, with_swap}
+use Rattle.fab_commit.proofs.RunLemmas.Kept.{judged_change}
 use Rattle.fab_commit.proofs.run.state.commit.Given as given
 use Rattle.fab_commit.proofs.run.state.commit.Goals as goal
 use Rattle.fab_commit.proofs.run.state.commit.Goals.{then-decision+in-Some, then-decision+in_default, else-decision}
 
-pub apply-requires-clause-lawful : goal.apply-requires-clause-lawful
-apply-requires-clause-lawful g c = c.requires.lawful c.in-Some.swap c.in-Some.is
+pub apply_known-requires-clause-lawful : goal.apply_known-requires-clause-lawful
+apply_known-requires-clause-lawful g c = c.requires.lawful c.in-Some.swap c.in-Some.is
 
-pub apply-requires-in-Some : goal.apply-requires-in-Some
-apply-requires-in-Some g c =
+pub apply_known-requires-clause-known : goal.apply_known-requires-clause-known
+apply_known-requires-clause-known g c =
+    let r = run_for g.W.Words.moves c.args.given.now in
+    let s = c.args.state.now in
+    let is = c.requires.decides in
+    let read : to_z w64 (of_z w64 c.args.decision.now.delta) ≡ c.args.decision.now.delta = search rules in
+    read ∙ is.change ∙ judged_change r.problem s.placement.sites s.done _ s.stage.range c.in-Some.swap (sym is.swap ∙ c.in-Some.is)
+
+pub apply-requires : goal.apply-requires
+apply-requires g c =
     subst (λ k. IsSwapOf k c.args.state.now.placement.sites c.in-Some.swap) (sym c.requires.sound.array) (c.requires.lawful c.in-Some.swap c.in-Some.is)
 
 swapped : (g : given.Over) (c : goal.After-state-2-1 g) → IsSwapped (run_for g.W.Words.moves c.args.given.now) c.args.state.now (judged_here (run_for g.W.Words.moves c.args.given.now) (standing_of c.args.state.now) c.args.state.now.done) c.if-decision.state
@@ -23,7 +32,7 @@ swapped g c =
     let is = c.requires.decides in
     let m = c.if-decision.state in
     elim c.if-decision.branch [
-      | then-decision+in-Some w ↦ with_swap r s c.args.decision.now j w.in-Some.swap w.apply-in-Some.new.self w.apply.new.self m is w.if-decision.true w.in-Some.is w.state-is w.apply-in-Some.ensures w.apply.ensures
+      | then-decision+in-Some w ↦ with_swap r s c.args.decision.now j w.in-Some.swap w.apply.new.self w.apply_known.new.self m is w.if-decision.true w.in-Some.is w.state-is w.apply.ensures w.apply_known.ensures
       | then-decision+in_default w ↦ with_none r s m j c.requires.sound.cost (void_stays s.placement.sites c.args.decision.now j is w.if-decision.true w.in_default.is) w.state-is
       | else-decision w ↦ with_none r s m j c.requires.sound.cost (rejected_stays s.placement.sites c.args.decision.now j is w.if-decision.false) w.state-is
     ]
