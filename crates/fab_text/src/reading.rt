@@ -1,7 +1,7 @@
 //! The lines of a text, one after the other, without a copy of its bytes: the reader that every input
 //! format is built on.
 
-ghost use Rattle.std.specs.Prelude.{◌≡◌, ℕ, ◌+◌, ◌-◌, ◌++◌, ◌∷◌, [], ◌≤◌, ◌<◌, length, map, take, drop, slice_range, position, IfOk, OnOk, OnErr, IfSome, IfNone, if◌then◌else◌};
+ghost use Rattle.std.specs.Prelude.{◌≡◌, ℕ, List, ◌+◌, ◌-◌, ◌++◌, ◌∷◌, [], ◌≤◌, ◌<◌, length, map, take, drop, slice_range, position, IfOk, OnOk, OnErr, IfSome, IfNone, if◌then◌else◌};
 ghost use Rattle.std.specs.List.{before_first};
 ghost use Rattle.fab_text.specs.Steps.{IsNextLine};
 ghost use Rattle.fab_text.specs.Runs.{SeparatorsPassed, RunsAreWords};
@@ -11,6 +11,7 @@ ghost use Rattle.fab_text.specs.Shown.{shown};
 ghost use Rattle.fab_text.specs.Lines.{is_separator, is_hash, is_line_feed, trimmed, content, is_continued, words_at, bytes_at, physical, without_backslash, joined, lines, lines_from};
 
 use crate::pieces::{Line, Span};
+use memchr::memchr2;
 use std::alloc::{AllocError, Global};
 use std::marker::Model;
 
@@ -18,21 +19,6 @@ fn is_separator(byte: u8) -> bool
     ensures { result ≡ is_separator byte }
 {
     byte == b' ' || byte == b'\t' || byte == b'\r'
-}
-
-fn hash_place(line: &[u8]) -> Option<usize>
-    ensures { result ≡ position is_hash line.now }
-{
-    line.iter().position(|byte| *byte == b'#')
-}
-
-fn before_comment(line: &[u8]) -> &[u8]
-    ensures { result.now ≡ before_first is_hash line.now }
-{
-    match hash_place(line) {
-        Some(i) => &line[..i],
-        None => line,
-    }
 }
 
 #[tactic(auto, unfolding(crate::specs::Lines::trimmed))]
@@ -44,13 +30,6 @@ fn trim_end(line: &[u8]) -> &[u8]
         end -= 1;
     }
     &line[..end]
-}
-
-#[tactic(auto, unfolding(crate::specs::Lines::content))]
-fn content(line: &[u8]) -> &[u8]
-    ensures { result.now ≡ content line.now }
-{
-    trim_end(before_comment(line))
 }
 
 #[tactic(auto, unfolding(crate::specs::Lines::is_continued))]
@@ -70,7 +49,7 @@ fn line_feed_place(rest: &[u8]) -> Option<usize>
 }
 
 /// The first physical line of a text that is not empty, and how many bytes it takes, its line feed included.
-fn first_line(rest: &[u8]) -> (&[u8], usize)
+fn plain_line(rest: &[u8]) -> (&[u8], usize)
     requires { 0 < length rest.now }
     ensures line { result.0.now ≡ before_first is_line_feed rest.now }
     ensures taken { (0 < result.1) × (result.1 ≤ length rest.now) × (length result.0.now ≤ result.1) }
@@ -82,13 +61,33 @@ fn first_line(rest: &[u8]) -> (&[u8], usize)
     }
 }
 
-/// Whether the next line continues a physical line, and how many of its first bytes hold its words.
-fn kept_len(line: &[u8]) -> (bool, usize)
-    ensures continued { result.0 ≡ is_continued (content line.now) }
-    ensures within { result.1 ≤ length line.now }
-    ensures kept { take result.1 line.now ≡ without_backslash (content line.now) }
+/// The same, and what stands in the line before its first `#`.
+fn first_line(rest: &[u8]) -> (&[u8], usize, &[u8])
+    requires { 0 < length rest.now }
+    ensures line { result.0.now ≡ before_first is_line_feed rest.now }
+    ensures taken { (0 < result.1) × (result.1 ≤ length rest.now) × (length result.0.now ≤ result.1) }
+    ensures rest { (at : ℕ) → physical at rest.now ≡ record { start = at; bytes = result.0.now } ∷ physical (at + result.1) (drop result.1 rest.now) }
+    ensures before { result.2.now ≡ before_first is_hash result.0.now }
 {
-    let kept = content(line);
+    let Some(i) = memchr2(b'\n', b'#', rest) else {
+        return (rest, rest.len(), rest);
+    };
+    let before = &rest[..i];
+    if rest[i] == b'\n' {
+        return (before, i + 1, before);
+    }
+    let (line, taken) = plain_line(rest);
+    (line, taken, before)
+}
+
+/// Whether the next line continues a physical line, and how many of its first bytes hold its words. `before` is what stands before its
+/// first `#`.
+fn kept_len(before: &[u8]) -> (bool, usize)
+    ensures continued { (line : List ℕ) → before.now ≡ before_first is_hash line → result.0 ≡ is_continued (content line) }
+    ensures within { (line : List ℕ) → before.now ≡ before_first is_hash line → result.1 ≤ length line }
+    ensures kept { (line : List ℕ) → before.now ≡ before_first is_hash line → take result.1 line ≡ without_backslash (content line) }
+{
+    let kept = trim_end(before);
     if is_continued(kept) {
         (true, kept.len() - 1)
     } else {
@@ -178,8 +177,8 @@ impl<'a> Gathered<'a> {
         ensures next { IfOk result (λ r. (at < r.1) × (r.1 ≤ length self.old.text.now)) }
         ensures line { IfOk result (λ r. IsNextLine self.old.text.now at r.0 r.1 self.old.spans.items self.new.spans.items) }
     {
-        let (line, taken) = first_line(&self.text[at..]);
-        let (continued, len) = kept_len(line);
+        let (_line, taken, before) = first_line(&self.text[at..]);
+        let (continued, len) = kept_len(before);
         self.push_words(at, at + len)?;
         Ok((continued, at + taken))
     }
