@@ -92,13 +92,21 @@ fn make_part<'a, V: Words + Sync + Drop, G: Gate, J: Naming, R: Threads + Wait +
 /// If more than one in this many moves is judged again, a crew costs more time than it saves.
 const ONE_IN: u64 = 32;
 
+/// A run's first stage is the hottest: most of its moves are accepted. So the owner makes it alone, if it has so many moves.
+const LONG_STAGE: u64 = 4096;
+
 /// The owner makes a stage alone only if it has at least one move for so many blocks: the older placement follows at the end, with an entry
 /// for each block.
 const BLOCKS_A_MOVE: u64 = 4;
 
 /// Whether the owner is faster alone, in a stage of `left` moves: so many of the run's `moves` were judged again.
 fn is_futile(again: u64, moves: u64, left: u64, blocks: usize) -> bool {
-    again.saturating_mul(ONE_IN) > moves && left.saturating_mul(BLOCKS_A_MOVE) >= blocks as u64
+    let is_spoilt = if moves == 0 {
+        left >= LONG_STAGE
+    } else {
+        again.saturating_mul(ONE_IN) > moves
+    };
+    is_spoilt && left.saturating_mul(BLOCKS_A_MOVE) >= blocks as u64
 }
 
 /// Makes the `left` moves that are left in the running stage, in turns of one batch, whose moves are judged ahead.
