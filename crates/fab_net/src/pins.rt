@@ -1,6 +1,6 @@
 //! Pins, with nets numbered by first appearance.
 
-ghost use Rattle.std.specs.Prelude.{◌≡◌, ◌++◌, ◌∷◌, ◌^◌, ◌<◌, ◌≤◌, [], List, nat_le, length, map, filter, count_by, slice_index_or, IfOk};
+ghost use Rattle.std.specs.Prelude.{◌≡◌, ◌++◌, ◌∷◌, ◌^◌, ◌<◌, ◌≤◌, [], List, nat_le, length, map, filter, count_by, slice_index_or, IfOk, OnOk, OnErr};
 ghost use Rattle.std.specs.List.{sum_by};
 ghost use Rattle.fab_net.specs.ByNumber.{net_entry, drives_its, driver_entry, span_at};
 ghost use Rattle.fab_net.specs.Names.{AllDistinct};
@@ -152,20 +152,35 @@ impl<'a> Pins<'a> {
         requires { length (net_names self) < 2 ^ 32 }
         ensures { IfOk result (λ r. r ≡ self.entry ++ record { block = block; pin = pin; name = name.now; span = span; drives = drives } ∷ []) }
     {
-        let Pins {
-            mut names,
-            mut pins,
-        } = self;
-        let number = names.intern(name)?;
+        let mut pins = self;
+        pins.add(name, block, pin, drives, span)?;
+        Ok(pins)
+    }
+
+    /// Adds a pin at the end, in place. Room for it is taken first, so that if memory runs out, nothing changes.
+    pub(crate) fn add(
+        &mut self,
+        name: &'a [u8],
+        block: u32,
+        pin: u16,
+        drives: bool,
+        span: Span,
+    ) -> Result<(), AllocError>
+        requires { length (net_names self.old) < 2 ^ 32 }
+        ensures pins { OnOk result (self.new ≡ self.old ++ record { block = block; pin = pin; name = name.now; span = span; drives = drives } ∷ []) }
+        ensures err { OnErr result (self.new ≡ self.old) }
+    {
+        self.pins.reserve(1)?;
+        let number = self.names.intern(name)?;
         let net = number as u32;
-        pins.push(Pin {
+        self.pins.push_reserved(Pin {
             block,
             pin,
             net,
             drives,
             span,
-        })?;
-        Ok(Pins { names, pins })
+        });
+        Ok(())
     }
 
     /// The terminals of each net, by net number.

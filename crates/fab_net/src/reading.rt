@@ -1,6 +1,6 @@
 //! Reading a netlist text: its lines one by one, what they have said so far, and at the end the design.
 
-ghost use Rattle.std.specs.Prelude.{◌≡◌, ℕ, ◌++◌, [], ◌≤◌, ◌<◌, ◌^◌, drop, length, map, slice_get, IfOk, IfErr, OnOk, MatchResult, List, None, IsTrue, count_by};
+ghost use Rattle.std.specs.Prelude.{◌≡◌, ℕ, ◌++◌, [], ◌≤◌, ◌<◌, ◌^◌, drop, length, map, slice_get, IfOk, IfErr, OnOk, OnErr, MatchResult, List, None, IsTrue, count_by};
 ghost use Rattle.std.specs.Option.{option_map};
 ghost use Rattle.fab_arch.specs.declared.architecture.PinKind.{PinKind};
 ghost use Rattle.fab_text.specs.Lines.{TextLine, lines};
@@ -96,28 +96,28 @@ fn pin_count(arch: &[PinKind], kind: BlockKind) -> usize
     }
 }
 
-/// Adds the connected pins among a block's entries.
+/// Adds the connected pins among a block's entries. If memory runs out, some of them are added.
 fn push_entries<'a>(
     arch: &[PinKind],
     kind: BlockKind,
     block: u32,
     words: &[&'a [u8]],
     spans: &[Span],
-    before: Pins<'a>,
-) -> Result<Pins<'a>, AllocError>
+    pins: &mut Pins<'a>,
+) -> Result<(), AllocError>
     requires placed { length words.now ≡ length spans.now }
     requires few { length words.now ≤ 1024 }
-    requires few_pins { length before ≤ 1048576 }
-    ensures { IfOk result (λ r. r ≡ before.entry ++ pins_at arch.now kind block 0 (entries (map (λ w. w.now) words.now) spans.now)) }
+    requires few_pins { length pins.old ≤ 1048576 }
+    ensures added { OnOk result (pins.new ≡ pins.old ++ pins_at arch.now kind block 0 (entries (map (λ w. w.now) words.now) spans.now)) }
+    ensures few { length pins.new ≤ length (pins.old ++ pins_at arch.now kind block 0 (entries (map (λ w. w.now) words.now) spans.now)) }
 {
-    let mut pins = before;
     for i in 0..words.len() {
         if !is_open(words[i]) {
             let drives = drives_at(arch, kind, i);
-            pins = pins.push(words[i], block, i as u16, drives, spans[i])?;
+            pins.add(words[i], block, i as u16, drives, spans[i])?;
         }
     }
-    Ok(pins)
+    Ok(())
 }
 
 /// The name of the block that a line opens.
@@ -149,23 +149,24 @@ fn rest_spans<'b>(line: &'b Line) -> &'b [Span]
     &line.spans[from..]
 }
 
-/// Adds the pins that a line gives the last block.
+/// Adds the pins that a line gives the last block. If memory runs out, some of them are added.
 fn add_pins<'a>(
     arch: &[PinKind],
     kinds: &[BlockKind],
-    before: Pins<'a>,
+    pins: &mut Pins<'a>,
     line: &Line<'a>,
-) -> Result<Pins<'a>, AllocError>
+) -> Result<(), AllocError>
     requires blocks { length kinds.now ≤ 65535 }
     requires few { length (entries_in (shown line.now)) ≤ 1024 }
-    requires few_pins { length before ≤ 1048576 }
-    ensures { IfOk result (λ r. r ≡ before.entry ++ pins_more arch.now kinds.now (shown line.now)) }
+    requires few_pins { length pins.old ≤ 1048576 }
+    ensures added { OnOk result (pins.new ≡ pins.old ++ pins_more arch.now kinds.now (shown line.now)) }
+    ensures few { length pins.new ≤ length (pins.old ++ pins_more arch.now kinds.now (shown line.now)) }
 {
     let block = kinds.len().saturating_sub(1) as u32;
     let kind = kind_or_pad(last_kind(kinds));
     let words = rest_words(line);
     let spans = rest_spans(line);
-    push_entries(arch, kind, block, words, spans, before)
+    push_entries(arch, kind, block, words, spans, pins)
 }
 
 /// Whether each net has exactly one driver; `counts` are the numbers of drivers.
@@ -242,29 +243,19 @@ impl<'a> Seen<'a> {
         Ok(())
     }
 
-    /// Adds the block that a line opens.
-    fn open(self, alloc: Global, kind: BlockKind, line: &Line) -> Result<Self, AllocError>
+    /// Adds the block that a line opens. Room for its kind is taken first, so that if memory runs out, nothing changes.
+    fn open(&mut self, alloc: Global, kind: BlockKind, line: &Line) -> Result<(), AllocError>
         requires named { 1 < length line.now.words.items }
-        requires new { number_of (name_at (shown line.now)) self.names ≡ None }
-        requires few { length self.names < 65535 }
-        ensures { IfOk result (λ r. r ≡ opened self.entry kind (shown line.now)) }
+        requires new { number_of (name_at (shown line.now)) self.old.names ≡ None }
+        requires few { length self.old.names < 65535 }
+        ensures opened { OnOk result (self.new ≡ opened self.old kind (shown line.now)) }
+        ensures err { OnErr result (self.new ≡ self.old) }
     {
-        let Seen {
-            mut kinds,
-            mut names,
-            awaiting: _,
-            pins,
-            globals,
-        } = self;
-        names.push(alloc, name_at(line))?;
-        kinds.push(kind)?;
-        Ok(Seen {
-            kinds,
-            names,
-            awaiting: Some(line.spans[1]),
-            pins,
-            globals,
-        })
+        self.kinds.reserve(1)?;
+        self.names.push(alloc, name_at(line))?;
+        self.kinds.push_reserved(kind);
+        self.awaiting = Some(line.spans[1]);
+        Ok(())
     }
 
     /// Whether a line may be the pinlist of the last block.
@@ -285,47 +276,21 @@ impl<'a> Seen<'a> {
     }
 
     /// Adds the pins of the last block.
-    fn take_pins(self, arch: &[PinKind], line: &Line<'a>) -> Result<Self, AllocError>
+    fn take_pins(&mut self, arch: &[PinKind], line: &Line<'a>) -> Result<(), AllocError>
         requires entries { length (entries_in (shown line.now)) ≤ 1024 }
-        requires few { IsTrue (are_few (self.pins ++ pins_more arch.now self.kinds (shown line.now))) }
-        ensures { IfOk result (λ r. r ≡ with_pins arch.now self.entry (shown line.now)) }
+        requires few { IsTrue (are_few (self.old.pins ++ pins_more arch.now self.old.kinds (shown line.now))) }
+        ensures { OnOk result (self.new ≡ with_pins arch.now self.old (shown line.now)) }
     {
-        let Seen {
-            kinds,
-            names,
-            awaiting: _,
-            pins,
-            globals,
-        } = self;
-        let pins = add_pins(arch, &kinds, pins, line)?;
-        Ok(Seen {
-            kinds,
-            names,
-            awaiting: None,
-            pins,
-            globals,
-        })
+        add_pins(arch, &self.kinds, &mut self.pins, line)?;
+        self.awaiting = None;
+        Ok(())
     }
 
     /// Adds the names of global nets.
-    fn take_globals(self, line: &Line<'a>) -> Result<Self, AllocError>
-        ensures { IfOk result (λ r. r ≡ with_globals self.entry (shown line.now)) }
+    fn take_globals(&mut self, line: &Line<'a>) -> Result<(), AllocError>
+        ensures { OnOk result (self.new ≡ with_globals self.old (shown line.now)) }
     {
-        let Seen {
-            kinds,
-            names,
-            awaiting,
-            pins,
-            mut globals,
-        } = self;
-        globals.extend_from_slice(rest_words(line))?;
-        Ok(Seen {
-            kinds,
-            names,
-            awaiting,
-            pins,
-            globals,
-        })
+        self.globals.extend_from_slice(rest_words(line))
     }
 
     /// Whether a line is lawful after those before it.
@@ -349,17 +314,22 @@ impl<'a> Seen<'a> {
     }
 
     /// Adds what a lawful line says.
-    fn take_line(self, alloc: Global, arch: &[PinKind], line: &Line<'a>) -> Result<Self, AllocError>
+    fn take_line(
+        &mut self,
+        alloc: Global,
+        arch: &[PinKind],
+        line: &Line<'a>,
+    ) -> Result<(), AllocError>
         requires arch { length arch.now ≤ 1024 }
-        requires lawful { said_fault arch.now self (shown line.now) ≡ None }
-        ensures { IfOk result (λ r. r ≡ after arch.now self.entry (shown line.now)) }
+        requires lawful { said_fault arch.now self.old (shown line.now) ≡ None }
+        ensures { OnOk result (self.new ≡ after arch.now self.old (shown line.now)) }
     {
         match head_of(line) {
             Head::Opens(kind) => self.open(alloc, kind, line),
             Head::Pinlist => self.take_pins(arch, line),
-            Head::Subblock => Ok(self),
+            Head::Subblock => Ok(()),
             Head::Global => self.take_globals(line),
-            Head::Unknown => Ok(self),
+            Head::Unknown => Ok(()),
         }
     }
 
@@ -424,7 +394,7 @@ fn read<'a>(alloc: Global, bytes: &'a [u8], arch: &Arch) -> Result<Seen<'a>, Net
     };
     while let Some(line) = left.next()? {
         seen.check_line(&arch.pins, &line)?;
-        seen = seen.take_line(alloc, &arch.pins, &line)?;
+        seen.take_line(alloc, &arch.pins, &line)?;
     }
     Ok(seen)
 }

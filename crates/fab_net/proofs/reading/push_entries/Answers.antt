@@ -4,14 +4,14 @@ use Rattle.fab_net.specs.Text.{PinOf, entries, pins_at, is_open, drives_at, no_s
 use Rattle.fab_net.proofs.Naming.{nets_le}
 use Rattle.fab_net.proofs.Entries.{pins_open, pins_closed}
 use Rattle.fab_net.proofs.reading.push_entries.Goals as goal
-use Rattle.fab_net.proofs.reading.push_entries.Goals.{then-not-is_open+in_ok-pins, else-not-is_open}
+use Rattle.fab_net.proofs.reading.push_entries.Goals.{then-not-is_open+in_ok-add, else-not-is_open}
 
-pub push-requires : goal.push-requires
-push-requires c = omega (arith, nets_le c.loop-i.pins, c.loop-i.invariant.few)
+pub add-requires : goal.add-requires
+add-requires c = omega (arith, nets_le c.loop-i.pins, c.loop-i.invariant.few)
 
 pub loop-i-preserved : goal.loop-i-preserved
 loop-i-preserved c = elim c.if-not-is_open.branch [
-  | then-not-is_open+in_ok-pins w ↦
+  | then-not-is_open+in_ok-add w ↦
       let i = c.loop-i.i in
       let ws = map (λ w. w.now) c.args.words.now in
       let ss = c.args.spans.now in
@@ -21,7 +21,7 @@ loop-i-preserved c = elim c.if-not-is_open.branch [
       let more = pins_closed c.args.arch.now c.args.kind c.args.block i ws ss lt (omega (arith, c.requires.placed, c.loop-i-test.true)) closed in
       let rest = pins_at c.args.arch.now c.args.kind c.args.block (i + 1) (entries (drop (i + 1) ws) (drop (i + 1) ss)) in
       let q : PinOf = record { block = c.args.block; pin = i; name = get_or ws i []; span = get_or ss i no_span; drives = drives_at c.args.arch.now c.args.kind i } in
-      let pushed : w.in_ok-pins.pins ≡ c.loop-i.pins ++ q ∷ [] = rw (at, ← w.drives_at-drives.ensures) w.in_ok-pins.ensures in
+      let pushed : w.add.new.self ≡ c.loop-i.pins ++ q ∷ [] = rw (at, ← w.drives_at-drives.ensures) w.in_ok-add.ensures.pins in
       let len = ap length w.pins-is in
       let len' = ap length pushed in
       let len'' = length_push c.loop-i.pins q in

@@ -12,7 +12,7 @@ loop-seen-preserved c =
     let next : c.loop-seen.left ≡ shown c.in-Some.line ∷ c.next.new.self = rw c.in-Some.is at c.in_ok-line.ensures.some in
     let here = rw next at c.loop-seen.invariant in
     let ok = rw c.deref.ensures.value at c.in_ok-check_line.ensures in
-    let new = rw c.deref-in-Some.ensures.value at c.in_ok-seen.ensures in
+    let new = rw c.deref-in-Some.ensures.value at c.in_ok-take_line.ensures in
     step c.args.arch.now.pins.items (lines c.args.bytes.now) (shown c.in-Some.line) c.next.new.self _ _ here ok new
 
 pub returns-clause-said : goal.returns-clause-said
