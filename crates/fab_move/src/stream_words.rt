@@ -1,6 +1,7 @@
 //! The random words of a seed, from the ChaCha cipher.
 
 ghost use Rattle.std.specs.Prelude.{◌≡◌, ℕ, ◌+◌, ◌*◌, ◌<◌, ◌^◌, [], length, slice_index_or};
+ghost use Rattle.rand_chacha.specs.ChaCha.{key_of, word_at};
 ghost use Rattle.fab_move.specs.Stream.{cipher_seed, stream_moves, stream_starts, stream_word, words_from};
 
 use fab_site::Words;
@@ -37,6 +38,16 @@ impl StreamWords {
             cipher_seed: cipher_seed_of(seed),
         }
     }
+
+    /// The cipher before start word `i`.
+    fn starts_from(&self, i: u32) -> ChaCha8Rng
+        ensures { result ≡ record { key = key_of (cipher_seed self.now); stream = 1; word_pos = i } }
+    {
+        let mut stream = ChaCha8Rng::from_seed(self.cipher_seed);
+        stream.set_stream(1);
+        stream.set_word_pos(u128::from(i));
+        stream
+    }
 }
 
 impl Words for StreamWords {
@@ -62,10 +73,12 @@ impl Words for StreamWords {
     }
 
     fn start_word(&self, i: u32) -> u32 {
-        let mut stream = ChaCha8Rng::from_seed(self.cipher_seed);
-        stream.set_stream(1);
-        stream.set_word_pos(u128::from(i));
-        stream.next_word()
+        self.starts_from(i).next_word()
+    }
+
+    // The words stand in a row: one cipher makes 64 of them at once.
+    fn fill_starts(&self, first: u32, out: &mut [u32]) {
+        fill_in_row(&mut self.starts_from(first), out);
     }
 }
 
@@ -88,6 +101,16 @@ fn fill_from(stream: &mut ChaCha8Rng, out: &mut [[u32; 4]])
     'entries: for i in 0..out.len() {
         out[i] = next_four(stream);
         pass_twelve(stream);
+    }
+}
+
+/// Writes the next words, one after the other.
+fn fill_in_row(stream: &mut ChaCha8Rng, out: &mut [u32])
+    requires { stream.old.word_pos + length out.old < 2 ^ 68 }
+    ensures { (i : ℕ) → i < length out.new → slice_index_or out.new i 0 ≡ word_at 4 stream.old.key stream.old.stream (stream.old.word_pos + i) }
+{
+    'entries: for i in 0..out.len() {
+        out[i] = stream.next_word();
     }
 }
 

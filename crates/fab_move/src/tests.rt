@@ -514,6 +514,37 @@ fn agree<W: Words>(words: &W, first: u64) -> bool
     is_so
 }
 
+// Whether a hundred start words at once are those that are asked for one by one.
+fn agree_at_start<W: Words>(words: &W, first: u32) -> bool
+    requires { first < 1000 }
+{
+    let mut run = [1; 100];
+    words.fill_starts(first, &mut run);
+    words.fill_starts(first, &mut run[..0]);
+    let mut is_so = true;
+    for (i, word) in run.iter().enumerate() {
+        is_so = is_so && *word == words.start_word(first + i as u32);
+    }
+    is_so
+}
+
+#[test]
+fn a_hundred_start_words_at_once(rt: HostRuntime) -> Result<(), Fail> {
+    let mut starts = Vec::new(rt.alloc());
+    for i in 0..60 {
+        starts.push(1000 - i)?;
+    }
+    let listed = ListWords {
+        starts,
+        moves: Vec::new(rt.alloc()),
+    };
+    for first in [0, 5, 64] {
+        assert!(rt; agree_at_start(&StreamWords::new(3), first));
+        assert!(rt; agree_at_start(&listed, first));
+    }
+    Ok(())
+}
+
 #[test]
 fn words_of_nine_moves_at_once(rt: HostRuntime) -> Result<(), Fail> {
     let alloc = rt.alloc();

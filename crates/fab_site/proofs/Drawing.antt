@@ -188,6 +188,35 @@ kind_there (k ∷ kinds) zero given e lt = (k, refl)
 kind_there (k ∷ kinds) (suc b) [] e lt = absurd (omega arith)
 kind_there (k ∷ kinds) (suc b) (o ∷ given) e lt = kind_there kinds b given (omega (arith, e)) (omega arith)
 
+-- one more block is looked at, which draws or not
+pub draws_more : (given : List (Option Site)) (kinds : List BlockKind) (b count : ℕ) → length given ≡ length kinds → slice_get given b ≡ Some None → count + drawing (drop b given) (drop b kinds) ≡ drawing given kinds
+    → count + 1 + drawing (drop (b + 1) given) (drop (b + 1) kinds) ≡ drawing given kinds
+draws_more given kinds b count e h c =
+    let k = kind_there kinds b given e (slice_get_within given b None h) in
+    let all : count + (cond (is_logic k.0) 1 0 + waiting is_logic (drop (b + 1) given) (drop (b + 1) kinds) + (cond (is_pad k.0) 1 0 + waiting is_pad (drop (b + 1) given) (drop (b + 1) kinds))) ≡ drawing given kinds = rw (drop_get given b None h, drop_get kinds b k.0 k.1) at c in
+    let one = either (is_logic k.0) in
+    omega (arith, all, one)
+  where
+    either : (x : Bool) → cond x 1 0 + cond (not x) 1 0 ≡ 1
+    either true = refl
+    either false = refl
+
+pub draws_as_many : (given : List (Option Site)) (kinds : List BlockKind) (b count : ℕ) (s : Site) → length given ≡ length kinds → slice_get given b ≡ Some (Some s) → count + drawing (drop b given) (drop b kinds) ≡ drawing given kinds
+    → count + drawing (drop (b + 1) given) (drop (b + 1) kinds) ≡ drawing given kinds
+draws_as_many given kinds b count s e h c =
+    let k = kind_there kinds b given e (slice_get_within given b (Some s) h) in
+    rw (drop_get given b (Some s) h, drop_get kinds b k.0 k.1) at c
+
+pub draws_none_left : (given : List (Option Site)) (kinds : List BlockKind) (b count : ℕ) → length given ≡ length kinds → length kinds ≤ b → count + drawing (drop b given) (drop b kinds) ≡ drawing given kinds → count ≡ drawing given kinds
+draws_none_left given kinds b count e h c =
+    let g : drop b given ≡ [] = drop_past given b (omega (arith, e, h)) in
+    let d : count + drawing [] (drop b kinds) ≡ drawing given kinds = rw g at c in
+    omega (arith, d)
+
+-- a block that draws has a word
+pub draws_within : (given : List (Option Site)) (kinds : List BlockKind) (b drawn : ℕ) → length given ≡ length kinds → slice_get given b ≡ Some None → drawn + drawing (drop b given) (drop b kinds) ≡ drawing given kinds → drawn < drawing given kinds
+draws_within given kinds b drawn e h c = omega (arith, draws_more given kinds b drawn e h c)
+
 -- a given block
 pub turn_given : (word : ℕ → ℕ) (whole : List Site) (given : List (Option Site)) (kinds : List BlockKind) (b drawn : ℕ) (logic pads sites : List Site) (s : Site) → length given ≡ length kinds → slice_get given b ≡ Some (Some s)
     → Drawing word whole given kinds b drawn logic pads sites → Drawing word whole given kinds (b + 1) drawn logic pads (sites ++ s ∷ [])

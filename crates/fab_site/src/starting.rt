@@ -1,6 +1,6 @@
 //! The start placement: given blocks at their sites, and the others on sites that they draw.
 
-ghost use Rattle.std.specs.Prelude.{◌≡◌, ◌++◌, ℕ, ◌+◌, ◌^◌, ◌<◌, ◌≤◌, [], ◌∷◌, length, map, slice_get, Some, IsTrue, IfOk, OnOk};
+ghost use Rattle.std.specs.Prelude.{◌≡◌, ◌++◌, ℕ, ◌+◌, ◌^◌, ◌<◌, ◌≤◌, [], ◌∷◌, length, map, slice_get, slice_index_or, Some, IsTrue, IfOk, OnOk};
 ghost use Rattle.std.specs.List.{range_with_len};
 ghost use Rattle.fab_arch.specs.declared.array.Site.{Site};
 ghost use Rattle.fab_arch.specs.Grid.{Holds};
@@ -164,6 +164,46 @@ fn draw_for(kind: BlockKind, word: u32, logic: &mut Vec<Site>, pads: &mut Vec<Si
     }
 }
 
+#[tactic(auto, using(crate::proofs::Drawing::draws_none_left))]
+/// How many blocks draw a site: those that are not given.
+fn count_of_draws(design: &Design, given: &Draft) -> usize
+    requires { length given.now.sites ≡ length design.now.kinds }
+    ensures count { result ≡ drawing given.now.sites design.now.kinds }
+    ensures few { result ≤ 65535 }
+{
+    let mut count = 0;
+    'blocks: for number in 0..design.blocks() {
+        match given.site_of(BlockId(number as u32)) {
+            Some(_) => {}
+            None => count += 1,
+        }
+    }
+    count
+}
+
+/// The start words of the blocks that draw a site.
+fn words_drawn<W: Words>(
+    alloc: Global,
+    design: &Design,
+    given: &Draft,
+    words: &W,
+) -> Result<Vec<u32>, AllocError>
+    requires { length given.now.sites ≡ length design.now.kinds }
+    ensures many { IfOk result (λ v. length v.items ≡ drawing given.now.sites design.now.kinds) }
+    ensures words { IfOk result (λ v. (i : ℕ) → i < length v.items → slice_index_or v.items i 0 ≡ W.starts words.now i) }
+{
+    let mut drawn = vec![in alloc; 0u32; count_of_draws(design, given)]?;
+    words.fill_starts(0, &mut drawn);
+    Ok(drawn)
+}
+
+fn word_at(words: &[u32], place: u32) -> u32
+    requires { place < length words.now }
+    ensures { result ≡ slice_index_or words.now place 0 }
+{
+    words[place as usize]
+}
+
 /// The sites of all blocks; blocks that are not given draw from the two lists.
 fn deal<W: Words>(
     alloc: Global,
@@ -182,6 +222,7 @@ fn deal<W: Words>(
 {
     let mut logic_sites = logic;
     let mut pad_sites = pads;
+    let drawn_words = words_drawn(alloc, design, given, words)?;
     let mut sites = Vec::new(alloc);
     let mut drawn = 0u32;
     for number in 0..design.blocks() {
@@ -190,7 +231,7 @@ fn deal<W: Words>(
             Some(site) => sites.push(site)?,
             None => {
                 let kind = design.kind(block);
-                let word = words.start_word(drawn);
+                let word = word_at(&drawn_words, drawn);
                 let site = draw_for(kind, word, &mut logic_sites, &mut pad_sites);
                 sites.push(site)?;
                 drawn += 1;

@@ -29,6 +29,16 @@ pub trait Words {
         }
     }
 
+    /// Writes the start words from `first` on.
+    fn fill_starts(&self, first: u32, out: &mut [u32])
+        requires { first + length out.old < 2 ^ 32 }
+        ensures { (i : ℕ) → i < length out.new → slice_index_or out.new i 0 ≡ starts self.now (first + i) }
+    {
+        for i in 0..out.len() {
+            out[i] = self.start_word(first + i as u32);
+        }
+    }
+
     /// The words of move `k`, for a caller that has them already and judges the move again.
     fn words_again(&self, k: u64, words: [u32; 4]) -> [u32; 4]
         requires { words ≡ moves self.now k }

@@ -1,9 +1,10 @@
-use Rattle.std.proofs.Common.{◌≡◌, ◌<◌, ◌^◌, true, refl, inl, inr}
+use Rattle.std.proofs.Common.{arith, ◌≡◌, ◌<◌, ◌^◌, ◌∙◌, ap, length, true, refl, inl, inr}
+use Rattle.std.specs.Prelude.{slice_index_or}
 use Rattle.std.proofs.lemmas.Bool.{cases_Bool}
 use Rattle.fab_net.specs.Netlist.{is_logic}
 use Rattle.fab_site.specs.Placement.{site_of}
 use Rattle.fab_site.specs.Start.{entry_of, without, is_pad}
-use Rattle.fab_site.proofs.Drawing.{logic_some, pads_some, not_pad, turn_given, turn_logic, turn_pad}
+use Rattle.fab_site.proofs.Drawing.{draws_within, logic_some, pads_some, not_pad, turn_given, turn_logic, turn_pad}
 use Rattle.fab_site.proofs.starting.deal.Goals as goal
 use Rattle.fab_site.proofs.starting.deal.Goals.{in-Some+in_ok-push-in-Some, in-None+in_ok-push-in-None}
 
@@ -32,20 +33,30 @@ loop-number-preserved g c =
           rw (w.drawn-is, w.logic_sites-is, w.pad_sites-is, w.sites-is, w.in_ok-push-in-Some.ensures.items)
           (turn_given word _ given kinds b drawn logic pads sites w.in-Some.site c.requires.all w.in-Some.ensures c.loop-number.invariant)
       | in-None+in_ok-push-in-None w ↦
-          let small : word drawn < 2 ^ 32 = rw (← w.start_word-word.ensures) w.start_word-word.type_inv in
+          let lt = draws_within given kinds b drawn c.requires.all w.in-None.ensures c.loop-number.invariant.count in
+          let many = c.in_ok-drawn_words.ensures.many in
+          let told : w.word_at-word.result ≡ word drawn = w.word_at-word.ensures ∙ (ap (λ l. slice_index_or l drawn 0) w.deref.ensures.value ∙ c.in_ok-drawn_words.ensures.words drawn (omega (arith, lt, many))) in
+          let small : word drawn < 2 ^ 32 = rw (← told) w.word_at-word.type_inv in
           elim (cases_Bool (is_logic w.kind-kind.result)) [
             | inl y ↦
                 let e = w.draw_for-site.ensures.logic y in
-                let here : w.draw_for-site.result ≡ site_of logic (entry_of (word drawn) logic) = rw (← w.start_word-word.ensures) e.0 in
-                let less : w.draw_for-site.new.logic.items ≡ without logic (entry_of (word drawn) logic) = rw (← w.start_word-word.ensures) e.1 in
+                let here : w.draw_for-site.result ≡ site_of logic (entry_of (word drawn) logic) = rw (← told) e.0 in
+                let less : w.draw_for-site.new.logic.items ≡ without logic (entry_of (word drawn) logic) = rw (← told) e.1 in
                 rw (w.drawn-is, w.logic_sites-is, w.pad_sites-is, w.sites-is, w.in_ok-push-in-None.ensures.items, e.2)
                 (turn_logic word _ given kinds b drawn logic pads sites w.kind-kind.result w.draw_for-site.result w.draw_for-site.new.logic.items w.in-None.ensures w.kind-kind.ensures y small here less c.loop-number.invariant)
             | inr n ↦
                 let pad : is_pad w.kind-kind.result ≡ true = rw n refl in
                 let e = w.draw_for-site.ensures.pads pad in
-                let here : w.draw_for-site.result ≡ site_of pads (entry_of (word drawn) pads) = rw (← w.start_word-word.ensures) e.0 in
-                let less : w.draw_for-site.new.pads.items ≡ without pads (entry_of (word drawn) pads) = rw (← w.start_word-word.ensures) e.1 in
+                let here : w.draw_for-site.result ≡ site_of pads (entry_of (word drawn) pads) = rw (← told) e.0 in
+                let less : w.draw_for-site.new.pads.items ≡ without pads (entry_of (word drawn) pads) = rw (← told) e.1 in
                 rw (w.drawn-is, w.logic_sites-is, w.pad_sites-is, w.sites-is, w.in_ok-push-in-None.ensures.items, e.2)
                 (turn_pad word _ given kinds b drawn logic pads sites w.kind-kind.result w.draw_for-site.result w.draw_for-site.new.pads.items w.in-None.ensures w.kind-kind.ensures n small here less c.loop-number.invariant)
           ]
     ]
+
+pub word_at-word-requires : goal.word_at-word-requires
+word_at-word-requires g c =
+    let lt = draws_within c.args.given.now.sites c.args.design.now.kinds c.loop-number.number c.loop-number.drawn c.requires.all c.in-None.ensures c.loop-number.invariant.count in
+    let many = c.in_ok-drawn_words.ensures.many in
+    let same = ap length c.deref.ensures.value in
+    omega (arith, lt, many, same)
