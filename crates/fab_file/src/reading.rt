@@ -38,8 +38,10 @@ pub fn read_place(
     let mut left = Lines::new(alloc, bytes);
     let (nx, ny) = take_size(&mut left)?;
     check_size(grid, nx, ny)?;
-    while let Some(line) = left.next()? {
+    let mut done = None;
+    while let Some(line) = left.next_in_room_of(done)? {
         placed.take(&line)?;
+        done = Some(line);
     }
     placed.finish()
 }

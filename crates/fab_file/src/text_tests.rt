@@ -1,5 +1,5 @@
 use fab_text::{
-    Counted, Lines, NumFault, Sink, Span, WriteFault, decimal, push_fixed3, push_fixed4,
+    Counted, Line, Lines, NumFault, Sink, Span, WriteFault, decimal, push_fixed3, push_fixed4,
     push_number, write_whole,
 };
 use std::io;
@@ -61,6 +61,44 @@ fn one_backslash_is_dropped(rt: HostRuntime) -> Result<(), Fail> {
     assert_eq!(rt; line.words[1], b"a\\".as_slice());
     assert_eq!(rt; line.words[2], b"b".as_slice());
     assert!(rt; lines.next()?.is_some());
+    Ok(())
+}
+
+// Whether two lines are the same.
+fn are_same(one: &Line, other: &Line) -> bool {
+    one.number == other.number
+        && one.spans == other.spans
+        && one.words.as_slice() == other.words.as_slice()
+}
+
+// Lines of few and of many words by turns, on both sides of what room is made for at once and kept for the next line.
+#[test]
+fn lines_in_the_room_of_the_line_before(rt: HostRuntime) -> Result<(), Fail> {
+    let mut text = Vec::new(rt.alloc());
+    for words in [1, 63, 2, 64, 65, 3, 255, 256, 257, 1, 1000, 2] {
+        for word in 0..words {
+            push_number(&mut text, word)?;
+            text.extend_from_slice(if word % 50 == 49 { b" \\\n" } else { b" " })?;
+        }
+        text.extend_from_slice(b"end # of the line\n\n\t#\n")?;
+    }
+    let mut lines = Lines::new(rt.alloc(), &text);
+    let mut roomy = Lines::new(rt.alloc(), &text);
+    let mut done = None;
+    let mut count = 0u64;
+    for _line in 0..20u64 {
+        let line = lines.next()?;
+        let same = roomy.next_in_room_of(done)?;
+        match (&line, &same) {
+            (Some(one), Some(other)) => {
+                assert!(rt; are_same(one, other));
+                count = count.saturating_add(1);
+            }
+            _ => assert!(rt; line.is_none() && same.is_none()),
+        }
+        done = same;
+    }
+    assert_eq!(rt; count, 12);
     Ok(())
 }
 

@@ -392,9 +392,11 @@ fn read<'a>(alloc: Global, bytes: &'a [u8], arch: &Arch) -> Result<Seen<'a>, Net
         pins: Pins::new(alloc),
         globals: Vec::new(alloc),
     };
-    while let Some(line) = left.next()? {
+    let mut done = None;
+    while let Some(line) = left.next_in_room_of(done)? {
         seen.check_line(&arch.pins, &line)?;
         seen.take_line(alloc, &arch.pins, &line)?;
+        done = Some(line);
     }
     Ok(seen)
 }

@@ -98,6 +98,9 @@ fn kept_len(before: &[u8]) -> (bool, usize)
 // The most words that room is made for before they are found.
 const MOST_ROOM: usize = 64;
 
+// The most words whose room is used for the next line, too.
+const MOST_KEPT: usize = 256;
+
 /// The words found so far, each as bytes and as a place in the text.
 #[derive(Drop)]
 struct Gathered<'a> {
@@ -116,6 +119,26 @@ impl<'a> Gathered<'a> {
             words: Vec::new(alloc),
             spans: Vec::new(alloc),
         }
+    }
+
+    /// Nothing yet, in the room of a line that nobody needs any more. Much room is given back.
+    fn in_room_of(alloc: Global, text: &'a [u8], line: Option<Line<'a>>) -> Self
+        ensures { (result.text.now ≡ text.now) × (result.spans.items ≡ []) }
+    {
+        let Some(line) = line else {
+            return Gathered::new(alloc, text);
+        };
+        if line.words.capacity() > MOST_KEPT || line.spans.capacity() > MOST_KEPT {
+            return Gathered::new(alloc, text);
+        }
+        let Line {
+            number: _,
+            mut words,
+            mut spans,
+        } = line;
+        words.clear();
+        spans.clear();
+        Gathered { text, words, spans }
     }
 
     fn push(&mut self, start: usize, stop: usize) -> Result<(), AllocError>
@@ -153,9 +176,10 @@ impl<'a> Gathered<'a> {
         if from < to {
             self.reserve(to - from)?;
         }
+        let text = self.text;
         let mut begun = None;
         for i in from..to {
-            if is_separator(self.text[i]) {
+            if is_separator(text[i]) {
                 if let Some(start) = begun {
                     self.push(start, i)?;
                     begun = None;
@@ -184,13 +208,16 @@ impl<'a> Gathered<'a> {
     }
 }
 
-/// The whole line at a place before the end: its words, where the next line begins, and that line's number.
+/// The whole line at a place before the end: its words, where the next line begins, and that line's number. The words are put where none
+/// are yet.
 fn read_joined<'a>(
-    alloc: Global,
+    empty: Gathered<'a>,
     text: &'a [u8],
     at: usize,
     number: u64,
 ) -> Result<(Gathered<'a>, usize, u64), AllocError>
+    requires of { empty.text.now ≡ text.now }
+    requires empty { empty.spans.items ≡ [] }
     requires within { at < length text.now }
     requires small { number ≤ at + 1 }
     ensures text { IfOk result (λ r. r.0.text.now ≡ text.now) }
@@ -198,7 +225,7 @@ fn read_joined<'a>(
     ensures line { IfOk result (λ r. joined number (physical at (drop at text.now))
         ≡ record { number = number; spans = r.0.spans.items } ∷ joined r.2 (physical r.1 (drop r.1 text.now))) }
 {
-    let mut found = Gathered::new(alloc, text);
+    let mut found = empty;
     let mut place = at;
     let mut next_number = number;
     loop {
@@ -211,23 +238,27 @@ fn read_joined<'a>(
     }
 }
 
-/// The first line with words from a place on, and where the rest begins, with the number of the line there.
+/// The first line with words from a place on, and where the rest begins, with the number of the line there. The words are put where none
+/// are yet.
 fn next_line<'a>(
-    alloc: Global,
+    empty: Gathered<'a>,
     text: &'a [u8],
     at: usize,
     at_number: u64,
 ) -> Result<(Option<Line<'a>>, usize, u64), AllocError>
+    requires of { empty.text.now ≡ text.now }
+    requires empty { empty.spans.items ≡ [] }
     requires within { at ≤ length text.now }
     requires small { at_number ≤ at + 1 }
     ensures next { IfOk result (λ r. (r.1 ≤ length text.now) × (r.2 ≤ r.1 + 1)) }
     ensures some { IfOk result (λ r. IfSome r.0 (λ line. lines_from text.now at at_number ≡ shown line ∷ lines_from text.now r.1 r.2)) }
     ensures none { IfOk result (λ r. IfNone r.0 ((lines_from text.now at at_number ≡ []) × (lines_from text.now r.1 r.2 ≡ []))) }
 {
+    let mut nothing = empty;
     let mut place = at;
     let mut number = at_number;
     while place < text.len() {
-        let (found, after, next_number) = read_joined(alloc, text, place, number)?;
+        let (found, after, next_number) = read_joined(nothing, text, place, number)?;
         if !found.spans.is_empty() {
             let Gathered { words, spans, .. } = found;
             let line = Line {
@@ -237,6 +268,7 @@ fn next_line<'a>(
             };
             return Ok((Some(line), after, next_number));
         }
+        nothing = found;
         place = after;
         number = next_number;
     }
@@ -287,7 +319,21 @@ impl<'a> Lines<'a> {
         ensures none { IfOk result (λ r. IfNone r ((self.old ≡ []) × (self.new ≡ []))) }
         ensures err { OnErr result (self.new ≡ self.old) }
     {
-        let (line, place, number) = next_line(self.alloc, self.text, self.place, self.next_number)?;
+        self.next_in_room_of(None)
+    }
+
+    /// Takes the next line as [`Lines::next`] does. It uses the room of a line that nobody needs any more, so that few lines need
+    /// memory of their own.
+    pub fn next_in_room_of(
+        &mut self,
+        done: Option<Line<'a>>,
+    ) -> Result<Option<Line<'a>>, AllocError>
+        ensures some { IfOk result (λ r. IfSome r (λ line. self.old ≡ shown line ∷ self.new)) }
+        ensures none { IfOk result (λ r. IfNone r ((self.old ≡ []) × (self.new ≡ []))) }
+        ensures err { OnErr result (self.new ≡ self.old) }
+    {
+        let empty = Gathered::in_room_of(self.alloc, self.text, done);
+        let (line, place, number) = next_line(empty, self.text, self.place, self.next_number)?;
         self.place = place;
         self.next_number = number;
         Ok(line)

@@ -26,24 +26,24 @@ loop-placed-init c =
 
 pub returns-in_err-take-clause-only : goal.returns-in_err-take-clause-only
 returns-in_err-take-clause-only c sites one =
-    let next : c.loop-placed.left ≡ shown c.in-Some.line ∷ c.next.new.self = rw c.in-Some.is at c.in_ok-line.ensures.some in
+    let next : c.loop-placed.left ≡ shown c.in-Some.line ∷ c.next_in_room_of.new.self = rw c.in-Some.is at c.in_ok-line.ensures.some in
     let here = rw next at c.loop-placed.invariant in
-    let first = fails c.args.design.now c.args.grid.now (lines c.args.bytes.now) c.next.new.self (shown c.in-Some.line) c.loop-placed.placed _ here c.in_err-take.ensures.fault in
+    let first = fails c.args.design.now c.args.grid.now (lines c.args.bytes.now) c.next_in_room_of.new.self (shown c.in-Some.line) c.loop-placed.placed _ here c.in_err-take.ensures.fault in
     absurd (none_some _ (sym (no_fault_in c.args.design.now c.args.grid.now (lines c.args.bytes.now) sites c.in_ok-placed.ensures.lawful one) ∙ first))
 
 pub returns-in_err-take-clause-fault : goal.returns-in_err-take-clause-fault
 returns-in_err-take-clause-fault c =
     let p = err_from_is_err_and c.from_residual-in_err-take.result c.from_residual-in_err-take.ensures.1 in
-    let next : c.loop-placed.left ≡ shown c.in-Some.line ∷ c.next.new.self = rw c.in-Some.is at c.in_ok-line.ensures.some in
+    let next : c.loop-placed.left ≡ shown c.in-Some.line ∷ c.next_in_room_of.new.self = rw c.in-Some.is at c.in_ok-line.ensures.some in
     let here = rw next at c.loop-placed.invariant in
-    let first = fails c.args.design.now c.args.grid.now (lines c.args.bytes.now) c.next.new.self (shown c.in-Some.line) c.loop-placed.placed _ here c.in_err-take.ensures.fault in
+    let first = fails c.args.design.now c.args.grid.now (lines c.args.bytes.now) c.next_in_room_of.new.self (shown c.in-Some.line) c.loop-placed.placed _ here c.in_err-take.ensures.fault in
     rw (p.1, p.2) (fault_is _ _ first)
 
 pub loop-placed-preserved : goal.loop-placed-preserved
 loop-placed-preserved c =
-    let next : c.loop-placed.left ≡ shown c.in-Some.line ∷ c.next.new.self = rw c.in-Some.is at c.in_ok-line.ensures.some in
+    let next : c.loop-placed.left ≡ shown c.in-Some.line ∷ c.next_in_room_of.new.self = rw c.in-Some.is at c.in_ok-line.ensures.some in
     let here = rw next at c.loop-placed.invariant in
-    step c.args.design.now c.args.grid.now (lines c.args.bytes.now) c.next.new.self (shown c.in-Some.line) c.loop-placed.placed c.take.new.self c.in_ok-placed.ensures.lawful here c.in_ok-take.ensures.ok c.in_ok-take.ensures.taken
+    step c.args.design.now c.args.grid.now (lines c.args.bytes.now) c.next_in_room_of.new.self (shown c.in-Some.line) c.loop-placed.placed c.take.new.self c.in_ok-placed.ensures.lawful here c.in_ok-take.ensures.ok c.in_ok-take.ensures.taken
 
 pub returns-clause-found : goal.returns-clause-found
 returns-clause-found c =

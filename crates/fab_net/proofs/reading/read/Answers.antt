@@ -9,11 +9,11 @@ use Rattle.fab_net.proofs.reading.read.Goals as goal
 
 pub loop-seen-preserved : goal.loop-seen-preserved
 loop-seen-preserved c =
-    let next : c.loop-seen.left ≡ shown c.in-Some.line ∷ c.next.new.self = rw c.in-Some.is at c.in_ok-line.ensures.some in
+    let next : c.loop-seen.left ≡ shown c.in-Some.line ∷ c.next_in_room_of.new.self = rw c.in-Some.is at c.in_ok-line.ensures.some in
     let here = rw next at c.loop-seen.invariant in
     let ok = rw c.deref.ensures.value at c.in_ok-check_line.ensures in
     let new = rw c.deref-in-Some.ensures.value at c.in_ok-take_line.ensures in
-    step c.args.arch.now.pins.items (lines c.args.bytes.now) (shown c.in-Some.line) c.next.new.self _ _ here ok new
+    step c.args.arch.now.pins.items (lines c.args.bytes.now) (shown c.in-Some.line) c.next_in_room_of.new.self _ _ here ok new
 
 pub returns-clause-said : goal.returns-clause-said
 returns-clause-said c =
@@ -38,7 +38,7 @@ returns-clause-clean c =
 pub returns-in_err-check_line-clause-fault : goal.returns-in_err-check_line-clause-fault
 returns-in_err-check_line-clause-fault c =
     let p = err_from_is_err_and c.from_residual-in_err-check_line.result c.from_residual-in_err-check_line.ensures.1 in
-    let next : c.loop-seen.left ≡ shown c.in-Some.line ∷ c.next.new.self = rw c.in-Some.is at c.in_ok-line.ensures.some in
+    let next : c.loop-seen.left ≡ shown c.in-Some.line ∷ c.next_in_room_of.new.self = rw c.in-Some.is at c.in_ok-line.ensures.some in
     let here = rw next at c.loop-seen.invariant in
     let err = rw c.deref.ensures.value at c.in_err-check_line.ensures in
-    rw (p.1, p.2) (fails c.args.arch.now.pins.items (lines c.args.bytes.now) (shown c.in-Some.line) c.next.new.self _ _ here err)
+    rw (p.1, p.2) (fails c.args.arch.now.pins.items (lines c.args.bytes.now) (shown c.in-Some.line) c.next_in_room_of.new.self _ _ here err)
