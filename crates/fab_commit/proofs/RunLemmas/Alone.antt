@@ -10,7 +10,7 @@ use Rattle.fab_commit.specs.Run.Pipelines.{IsBehind}
 use Rattle.fab_commit.specs.declared.run.pipeline.Pipeline.{Pipeline}
 use Rattle.std.specs.Arc.{arc_value}
 use Rattle.fab_commit.specs.Run.Commits.{IsSound, standing_of}
-use Rattle.fab_commit.specs.Run.Owners.{HasMade, IsOwned, since}
+use Rattle.fab_commit.specs.Run.Owners.{HasMade, IsOwned, Leads, since}
 use Rattle.fab_commit.specs.Run.StampTables.{AreStamps, IsTable, kept_stamp}
 use Rattle.fab_commit.specs.Model.TurnEvents.{LastTurn, is_redone_behind, next_turn, stands}
 use Rattle.fab_commit.specs.Model.Turns.{last_turn}
@@ -136,6 +136,11 @@ owned_cleared r s cleared owned state stamps redone =
       table = subst (IsTable r.problem.design r.problem.grid) (sym stamps) owned.table;
       counted = omega (arith, counted, done, redone);
     }
+
+-- no swaps lead to where it was
+pub led_nowhere : (r : Run) (s o : Owner) → IsReadied s o → Leads r.problem.grid s.state.placement.sites o.swaps.items o.state.placement.sites
+led_nowhere r s o ready =
+    subst (λ l. Leads r.problem.grid s.state.placement.sites l o.state.placement.sites) (sym ready.swaps) (ap (λ (x : Standing). x.sites) (sym ready.stands))
 
 -- the moves that count as judged ahead are open
 pub open_ahead : (r : Run) (t : LastTurn) (s o : Owner) (ahead : Ahead) (n : ℕ) → IsAlone r t s ahead → IsReadied s o → n ≤ ahead.moves → IsOpenNext r o ahead.base n t.start

@@ -1,7 +1,7 @@
 //! Stages whose moves the owner judges itself, each on the live placement. Most judgements made ahead would be spoilt there, and the owner
 //! counts those that would.
 
-ghost use Rattle.std.specs.Prelude.{◌≡◌, ℕ, ◌+◌, ◌<◌, ◌≤◌, ◌++◌, [], ◌∷◌, false, length, Some, MatchResult, OnOk, OnErr};
+ghost use Rattle.std.specs.Prelude.{◌≡◌, ℕ, ◌+◌, ◌<◌, ◌≤◌, ◌++◌, [], ◌∷◌, false, length, Some, IsTrue, MatchResult, OnOk, OnErr};
 ghost use Rattle.std.specs.Arc.{arc_value};
 ghost use Rattle.std.specs.List.{count_by, range_with_len};
 ghost use Rattle.fab_sched.specs.Annealing.{IsLawful};
@@ -10,20 +10,21 @@ ghost use Rattle.fab_move.specs.Judge.{IsDecision};
 ghost use Rattle.fab_commit.specs.Serial.{judged_here, moves_left};
 ghost use Rattle.fab_commit.specs.Run.Alone.{AreOpen, AreWords, HasFinished, HasGone, HaveGone, IsAlone, LeadsTo, LeadsWithin, is_touched_here};
 ghost use Rattle.fab_commit.specs.Run.Commits.{IsSound, run_for, standing_of};
-ghost use Rattle.fab_commit.specs.Run.Owners.{HasMade, HasRoom, IsOwned};
+ghost use Rattle.fab_commit.specs.Run.Owners.{HasMade, HasRoom, IsOwned, Leads};
 ghost use Rattle.fab_commit.specs.Run.Pipelines.{HasTurn, IsBehind};
 ghost use Rattle.fab_commit.specs.Run.Readings.{reading_at};
 ghost use Rattle.fab_commit.specs.Model.History.{is_redone};
 ghost use Rattle.fab_commit.specs.Model.TurnEvents.{LastTurn, next_turn};
 
 use crate::run::owner::{Owner, stamp};
-use crate::run::pipeline::{Pipeline, reserve};
+use crate::run::pipeline::{Pipeline, catch_up_alone, reserve};
 use crate::run::state::{Given, State, commit, moves_left, view_of};
-use crate::run::swaps::enter;
+use crate::run::swaps::{Accepted, enter};
 use fab_board::Gate;
 use fab_cost::WireCost;
 use fab_dial::{Dial, Reading, Shower};
 use fab_move::{Decision, propose, weigh};
+use fab_site::index::site_count;
 use fab_site::{Swap, Words};
 use std::alloc::AllocError;
 use std::sync::{Arc, Wait};
@@ -153,6 +154,7 @@ pub(crate) fn turn_alone<W: Words, G: Gate>(
     requires alone { (t : LastTurn) × IsAlone (run_for W.moves given.now) t owner.old ahead }
     requires batch { (1 ≤ batch) × (batch ≤ 4096) }
     ensures ok { MatchResult result (λ due. (t : LastTurn) → IsAlone (run_for W.moves given.now) t owner.old ahead → HasGone (run_for W.moves given.now) t owner.old (next_turn (run_for W.moves given.now) batch t).made (next_turn (run_for W.moves given.now) batch t).ahead owner.new due) (λ _. (t : LastTurn) → IsAlone (run_for W.moves given.now) t owner.old ahead → HasGone (run_for W.moves given.now) t owner.old 0 0 owner.new (record { base = owner.old.state.done; moves = 0 })) }
+    ensures leads { OnOk result (Leads given.now.grid.now owner.old.state.placement.sites owner.new.swaps.items owner.new.state.placement.sites) }
 {
     let start = owner.state.done;
     let left = moves_left(&given.schedule, &owner.state);
@@ -189,12 +191,34 @@ fn show_state<W: Words, R: Wait>(
     dial.show(rt, shower, reading);
 }
 
+/// Makes the swaps of a turn on the older state too, if it follows after each turn.
+fn follow_turn<W: Words, R: Wait>(
+    rt: &R,
+    given: &Given<'_, W>,
+    older: &mut Arc<State>,
+    each: bool,
+    live: &State,
+    swaps: &[Accepted],
+)
+    requires older { IsSound (run_for W.moves given.now) (arc_value older.old) }
+    requires live { IsSound (run_for W.moves given.now) live.now }
+    requires leads { IsTrue each → Leads given.now.grid.now (arc_value older.old).placement.sites swaps.now live.now.placement.sites }
+    ensures same { IsTrue each → standing_of (arc_value older.new) ≡ standing_of live.now }
+    ensures sound { IsSound (run_for W.moves given.now) (arc_value older.new) }
+{
+    if each {
+        catch_up_alone(rt, given, older, live, swaps);
+    }
+}
+
 /// Makes the moves that are left in the running stage, in turns of `batch` moves, and shows after each turn how far the run has come. If
-/// memory runs out, the turns that were made stay.
+/// memory runs out, the turns that were made stay. The older state follows after each turn, if `each` says so.
 fn turns_alone<W: Words, G: Gate, R: Wait>(
     rt: &R,
     given: &Given<'_, W>,
     owner: &mut Owner,
+    older: &mut Arc<State>,
+    each: bool,
     ahead: &mut Ahead,
     batch: u64,
     gate: &G,
@@ -203,8 +227,12 @@ fn turns_alone<W: Words, G: Gate, R: Wait>(
 ) -> Result<(), AllocError>
     requires alone { (t : LastTurn) × IsAlone (run_for W.moves given.now) t owner.old ahead.old }
     requires some { 0 < moves_left (run_for W.moves given.now) (standing_of owner.old.state) }
+    requires older { IsSound (run_for W.moves given.now) (arc_value older.old) }
+    requires same { IsTrue each → standing_of (arc_value older.old) ≡ standing_of owner.old.state }
     requires batch { (1 ≤ batch) × (batch ≤ 4096) }
     requires own { shower.old.dial ≡ dial.now }
+    ensures older { IsSound (run_for W.moves given.now) (arc_value older.new) }
+    ensures same { IsTrue each → standing_of (arc_value older.new) ≡ standing_of owner.new.state }
     ensures left { (t : LastTurn) × IsAlone (run_for W.moves given.now) t owner.new ahead.new }
     ensures none { ahead.new.moves ≡ 0 }
     ensures gone { OnOk result ((t : LastTurn) → IsAlone (run_for W.moves given.now) t owner.old ahead.old → (n : ℕ) × HaveGone (run_for W.moves given.now) batch t owner.old n (moves_left (run_for W.moves given.now) (standing_of owner.old.state)) owner.new ahead.new) }
@@ -225,6 +253,7 @@ fn turns_alone<W: Words, G: Gate, R: Wait>(
                 return Err(error);
             }
         }
+        follow_turn(rt, given, older, each, &owner.state, &owner.swaps);
         show_state(rt, given, &owner.state, dial, shower);
         left -= owner.state.done - before;
     }
@@ -268,6 +297,40 @@ fn follow_alone<W: Words, R: Wait>(
     unreachable!()
 }
 
+/// Makes the older state the same as the live one, if it did not follow after each turn.
+fn follow_at_end<W: Words, R: Wait>(
+    rt: &R,
+    given: &Given<'_, W>,
+    older: &mut Arc<State>,
+    each: bool,
+    live: &State,
+)
+    requires older { IsSound (run_for W.moves given.now) (arc_value older.old) }
+    requires live { IsSound (run_for W.moves given.now) live.now }
+    requires same { IsTrue each → standing_of (arc_value older.old) ≡ standing_of live.now }
+    ensures stands { standing_of (arc_value older.new) ≡ standing_of live.now }
+    ensures sound { IsSound (run_for W.moves given.now) (arc_value older.new) }
+{
+    if each {
+        return;
+    }
+    follow_alone(rt, given, older, live);
+}
+
+/// If a stage has fewer than one move for so many blocks, nets and sites, the older state follows by the swaps of each turn. Else it is
+/// copied whole at the end of the stage.
+const ENTRIES_A_MOVE: u64 = 16;
+
+/// Whether the older state follows after each turn of a stage of `left` moves.
+fn is_short<W: Words>(given: &Given<'_, W>, left: u64) -> bool {
+    let entries = given
+        .design
+        .blocks()
+        .saturating_add(given.design.nets())
+        .saturating_add(site_count(given.grid));
+    left.saturating_mul(ENTRIES_A_MOVE) < entries as u64
+}
+
 /// Makes the moves that are left in the running stage, each judged by the owner, in turns of `batch` moves. If memory runs out, the turns
 /// that were made stay, and nothing is judged ahead.
 pub(crate) fn finish_alone<W: Words, G: Gate, R: Wait>(
@@ -293,17 +356,20 @@ pub(crate) fn finish_alone<W: Words, G: Gate, R: Wait>(
         base: state.base,
         moves: state.ahead.len() as u64,
     };
+    let each = is_short(given, moves_left(&given.schedule, &state.owner.state));
     let made = turns_alone(
         rt,
         given,
         &mut state.owner,
+        &mut state.older,
+        each,
         &mut ahead,
         batch,
         gate,
         dial,
         shower,
     );
-    follow_alone(rt, given, &mut state.older, &state.owner.state);
+    follow_at_end(rt, given, &mut state.older, each, &state.owner.state);
     state.base = ahead.base;
     state.ahead.clear();
     made

@@ -207,7 +207,7 @@ fn catch_up<W: Words>(given: &Given<'_, W>, older: &mut State, live: &State, swa
 }
 
 /// Makes the older placement the same as the live one, as soon as no worker holds it any more.
-fn catch_up_alone<W: Words, R: Wait>(
+pub(crate) fn catch_up_alone<W: Words, R: Wait>(
     rt: &R,
     given: &Given<'_, W>,
     older: &mut Arc<State>,

@@ -1,4 +1,4 @@
-use Rattle.std.proofs.Common.{◌≡◌, ◌+◌, ◌-◌, ◌≤◌, Bool, true, false, length, refl, ap, ◌∙◌, arith}
+use Rattle.std.proofs.Common.{◌≡◌, ◌+◌, ◌≤◌, Bool, true, false, length, refl, ap, ◌∙◌, arith}
 use mir.Val.{bool_byte}
 use Rattle.fab_commit.specs.declared.run.owner.Owner.{Owner}
 use Rattle.fab_commit.specs.Serial.{Standing, judged_here, one_if}

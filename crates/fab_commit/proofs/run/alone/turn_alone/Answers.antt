@@ -6,7 +6,7 @@ use Rattle.fab_commit.specs.Serial.{moves_left}
 use Rattle.fab_commit.specs.Run.Commits.{run_for, standing_of}
 use Rattle.fab_commit.specs.Run.Owners.{HasMade}
 use Rattle.fab_commit.specs.Model.TurnEvents.{is_redone_behind, next_turn, stands}
-use Rattle.fab_commit.proofs.RunLemmas.Alone.{both_counted, gone, gone_nowhere, open_ahead, open_here, owned_cleared, readied}
+use Rattle.fab_commit.proofs.RunLemmas.Alone.{both_counted, gone, gone_nowhere, led_nowhere, open_ahead, open_here, owned_cleared, readied}
 use Rattle.fab_commit.proofs.RunLemmas.Owning.{made_more}
 use Rattle.fab_commit.proofs.run.alone.turn_alone.Goals as goal
 
@@ -20,6 +20,7 @@ returns-in_err-reserve g c =
       ok = λ t alone.
           let made = c.in_err-reserve.ensures.same r (owned_cleared r s cleared alone.owned refl refl refl) in
           gone_nowhere r t s c.reserve.new.owner c.args.ahead _ alone (readied r s cleared c.reserve.new.owner refl c.clear.ensures.items refl refl made c.in_err-reserve.ensures.stamps c.in_err-reserve.ensures.redone) made.owned refl refl;
+      leads = tt;
     })
 
 pub commit_alone-requires-clause-owned : goal.commit_alone-requires-clause-owned
@@ -101,4 +102,13 @@ returns g c = record {
       let made : HasMade r o next.made now = subst (λ k. HasMade r o k now) all (made_more r o mid now n m c.commit_alone.ensures.made c.commit_alone-2.ensures.made) in
       gone r t s o now c.args.ahead _ next.made next.ahead alone ready made (omega (arith, made_is, ahead_is, moves, ahead, left, there)) refl ahead_is
       (subst (λ k. now.redone ≡ o.redone + count_by (is_redone_behind r t) (range_with_len (stands r t).done k)) made_is counted);
+  leads =
+      let r = run_for g.W.Words.moves c.args.given.now in
+      let s = c.args.owner.now in
+      let o = c.reserve.new.owner in
+      let alone = c.requires.alone.1 in
+      let cleared : Owner = record { state = s.state; swaps = c.clear.new.self; stamps = s.stamps; redone = s.redone } in
+      let none = c.in_ok-reserve.ensures.same r (owned_cleared r s cleared alone.owned refl refl refl) in
+      let ready = readied r s cleared o refl c.clear.ensures.items refl refl none c.in_ok-reserve.ensures.stamps c.in_ok-reserve.ensures.redone in
+      c.commit_alone-2.ensures.made.leads s.state.placement.sites (c.commit_alone.ensures.made.leads s.state.placement.sites (led_nowhere r s o ready));
 }

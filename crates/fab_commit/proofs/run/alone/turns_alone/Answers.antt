@@ -1,7 +1,9 @@
 use Rattle.std.proofs.Common.{◌≡◌, ◌+◌, ◌-◌, min, replicate, refl, sym, ap, subst, ◌∙◌, arith}
+use Rattle.std.specs.Arc.{arc_value}
 use Rattle.fab_commit.specs.Serial.{Standing, from, moves_left}
 use Rattle.fab_commit.specs.Run.Alone.{HaveGone}
 use Rattle.fab_commit.specs.Run.Commits.{run_for, standing_of}
+use Rattle.fab_commit.specs.Run.Owners.{Leads}
 use Rattle.fab_commit.specs.Model.TurnEvents.{next_turn, stands}
 use Rattle.fab_commit.specs.Model.Turns.{last_turn}
 use Rattle.fab_commit.proofs.RunLemmas.Alone.{have_more, none_gone}
@@ -24,6 +26,8 @@ loop-left-init g c =
       done = omega (arith, zero);
       none = λ e. absurd (omega (arith, left, e, some));
       gone = λ t a. (0, subst (λ k. HaveGone r c.args.batch t o 0 k o c.args.ahead.now) (sym zero) (none_gone r c.args.batch t o c.args.ahead.now a));
+      older = c.requires.older;
+      same = c.requires.same;
       dial = refl;
       shown = λ z before h. h;
     }
@@ -66,6 +70,13 @@ loop-left-smaller g c =
     let long = left_from r x (moves_left r x - c.loop-left.left) (omega (arith, low, more)) in
     omega (arith, made, there, same, long, low, more, one)
 
+pub follow_turn-requires-clause-leads : goal.follow_turn-requires-clause-leads
+follow_turn-requires-clause-leads g c each =
+    let grid = c.args.given.now.grid.now in
+    let there = c.turn_alone.new.owner.state.placement.sites in
+    subst (λ l. Leads grid (arc_value c.loop-left.older).placement.sites l there) (sym c.deref.ensures.value)
+    (subst (λ (v : Standing). Leads grid v.sites c.turn_alone.new.owner.swaps.items there) (sym (c.loop-left.invariant.same each)) c.in-Ok.ensures.leads)
+
 pub loop-left-preserved : goal.loop-left-preserved
 loop-left-preserved g c =
     let r = run_for g.W.Words.moves c.args.given.now in
@@ -105,6 +116,8 @@ loop-left-preserved g c =
           let on = c.in-Ok.ensures.ok (last_turn r u (replicate h.0 batch)) h.1.alone in
           let again = on.done in
           (h.0 + 1, have_more r batch u o mid now c.loop-left.ahead c.in-Ok.next h.0 (all - left) (all - (left - m)) h.1 on (omega (arith, again, made, sum)));
+      older = c.follow_turn.ensures.sound;
+      same = c.follow_turn.ensures.same;
       dial = c.show_state.ensures.dial ∙ inv.dial;
       shown = λ z before h.
           shown_on r batch z before y c.loop-left.shower.shown (standing_of now.state) c.show_state.new.shower.shown next.made (inv.shown z before h)

@@ -1,7 +1,8 @@
-use Rattle.std.proofs.Common.{◌≡◌, ℕ, ◌+◌, ◌-◌, ◌≤◌}
+use Rattle.std.proofs.Common.{◌≡◌, ℕ, ◌+◌, ◌-◌, ◌≤◌, IsTrue}
+use Rattle.std.specs.Arc.{arc_value}
 use Rattle.fab_commit.specs.Serial.{from, moves_left}
 use Rattle.fab_commit.specs.Run.Alone.{HaveGone, IsAlone, LeadsTo}
-use Rattle.fab_commit.specs.Run.Commits.{run_for, standing_of}
+use Rattle.fab_commit.specs.Run.Commits.{IsSound, run_for, standing_of}
 use Rattle.fab_commit.specs.Model.TurnEvents.{LastTurn}
 use Rattle.fab_commit.proofs.run.alone.turns_alone.Given as goal
 
@@ -18,6 +19,8 @@ invariant-loop-left g l =
       done : l.owner.state.done ≡ o.state.done + (all - l.left);
       none : l.left ≡ 0 → l.ahead.moves ≡ 0;
       gone : (t : LastTurn) → IsAlone r t o l.initial.ahead → (n : ℕ) × HaveGone r l.batch t o n (all - l.left) l.owner l.ahead;
+      older : IsSound r (arc_value l.older);
+      same : IsTrue l.each → standing_of (arc_value l.older) ≡ standing_of l.owner.state;
       dial : l.shower.dial ≡ l.initial.shower.dial;
       shown : LeadsTo r l.batch x (standing_of l.owner.state) l.initial.shower.shown l.shower.shown;
     }
