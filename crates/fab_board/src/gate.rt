@@ -8,6 +8,12 @@ pub trait Gate: Sync {
     fn after_judge(&self, k: u64);
 
     fn before_commit(&self, k: u64);
+
+    /// Whether each call returns whatever other calls are made, so that one thread may make them all. A gate that does not say so may
+    /// wait in one call for another; a run then has its crew judge ahead in every stage.
+    fn never_waits(&self) -> bool {
+        false
+    }
 }
 
 /// The gate that does nothing.
@@ -20,4 +26,8 @@ impl Gate for NoGate {
     fn after_judge(&self, _k: u64) {}
 
     fn before_commit(&self, _k: u64) {}
+
+    fn never_waits(&self) -> bool {
+        true
+    }
 }

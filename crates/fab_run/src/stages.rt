@@ -92,21 +92,17 @@ fn make_part<'a, V: Words + Sync + Drop, G: Gate, J: Naming, R: Threads + Wait +
 /// If more than one in this many moves is judged again, a crew costs more time than it saves.
 const ONE_IN: u64 = 32;
 
-/// A run's first stage is the hottest: most of its moves are accepted. So the owner makes it alone, if it has so many moves.
+/// A piece begins with a stage of which nothing is known. In a run's first stage most moves are accepted, so the owner makes it alone, if it
+/// has so many moves.
 const LONG_STAGE: u64 = 4096;
 
-/// The owner makes a stage alone only if it has at least one move for so many blocks: the older placement follows at the end, with an entry
-/// for each block.
-const BLOCKS_A_MOVE: u64 = 4;
-
-/// Whether the owner is faster alone, in a stage of `left` moves: so many of the run's `moves` were judged again.
-fn is_futile(again: u64, moves: u64, left: u64, blocks: usize) -> bool {
-    let is_spoilt = if moves == 0 {
+/// Whether the owner is faster alone, in a stage of `left` moves: so many of the piece's `moves` were judged again.
+fn is_futile(again: u64, moves: u64, left: u64) -> bool {
+    if moves == 0 {
         left >= LONG_STAGE
     } else {
         again.saturating_mul(ONE_IN) > moves
-    };
-    is_spoilt && left.saturating_mul(BLOCKS_A_MOVE) >= blocks as u64
+    }
 }
 
 /// Makes the `left` moves that are left in the running stage, in turns of one batch, whose moves are judged ahead.
@@ -141,10 +137,12 @@ fn make_turns<'a, V: Words + Sync + Drop, G: Gate, J: Naming, R: Threads + Wait 
 }
 
 /// Makes the `left` moves that are left in the running stage, in turns of one batch. Where it did not pay so far to judge moves ahead, the
-/// owner judges each itself. The moves, their costs and how many count as judged again are the same.
+/// owner judges each itself, unless the gate may hold one thread until another calls it. The moves, their costs and how many count as
+/// judged again are the same. The piece has made about `made` moves.
 fn make_rest<'a, V: Words + Sync + Drop, G: Gate, J: Naming, R: Threads + Wait + Sync>(
     rt: &R,
     anneal: &mut Anneal<'a, V>,
+    made: u64,
     left: u64,
     batch: u64,
     workers: &mut Workers<'a, '_, V, G, J>,
@@ -163,8 +161,8 @@ fn make_rest<'a, V: Words + Sync + Drop, G: Gate, J: Naming, R: Threads + Wait +
     ensures shown { OnOk result (LeadsShown (run_of V.moves anneal.old) batch anneal.old.standing anneal.new.standing shower.old.shown shower.new.shown) }
     ensures shown_cut { OnErr result (LeadsShownWithin (run_of V.moves anneal.old) batch anneal.old.standing left shower.old.shown shower.new.shown) }
 {
-    let blocks = anneal.placement().blocks();
-    if 0 < left && is_futile(anneal.redone(), anneal.done(), left, blocks) {
+    let is_better = workers.gate().never_waits() && is_futile(anneal.redone(), made, left);
+    if 0 < left && is_better {
         anneal.finish_stage_alone(rt, batch, workers.gate(), dial, shower)?;
         return Ok(());
     }
@@ -204,7 +202,9 @@ fn end_stage<'a, V: Words + Sync + Drop, G: Gate, J: Naming, R: Threads + Wait +
     let before = anneal.total();
     let _begun = anneal.done();
     let left = moves - stage.done;
-    make_rest(rt, anneal, left, batch, workers, dial, shower)?;
+    // There is a cost at the start of the piece and one for each stage that it has ended.
+    let made = (costs.len() as u64).saturating_sub(1).saturating_mul(moves);
+    make_rest(rt, anneal, made, left, batch, workers, dial, shower)?;
     let _made = anneal.done();
     let cost = anneal.cost();
     let accepted = stage.accepted + (anneal.total() - before);

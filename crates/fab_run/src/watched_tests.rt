@@ -194,16 +194,20 @@ struct Overlap<'a> {
     judged: AtomicU64,
 }
 
-impl Overlap<'_> {
-    // Waits until this is no longer 0.
-    fn hold(&self, until: &AtomicU64) {
-        for _turn in 0..10_000u64 {
-            if until.load(Ordering::SeqCst) != 0 {
-                return;
-            }
-            thread::sleep(self.rt, Duration::from_millis(1));
+// Waits until this is no longer 0, for at most ten seconds; then the test has failed.
+fn hold(rt: &HostRuntime, until: &AtomicU64, failed: &AtomicU64) {
+    for _turn in 0..10_000u64 {
+        if until.load(Ordering::SeqCst) != 0 {
+            return;
         }
-        self.failed.store(1, Ordering::SeqCst);
+        thread::sleep(rt, Duration::from_millis(1));
+    }
+    failed.store(1, Ordering::SeqCst);
+}
+
+impl Overlap<'_> {
+    fn hold(&self, until: &AtomicU64) {
+        hold(self.rt, until, &self.failed);
     }
 }
 
@@ -326,5 +330,73 @@ fn each_reading_is_that_after_single_moves(rt: HostRuntime) -> Result<(), Fail> 
     let alone = last_shown(&rt, &SEVEN, &LONG, *first, &NoGate)?;
     assert_eq!(rt; alone.0, *last);
     assert_eq!(rt; watched(&rt, true, &LONG, &alone.1, &each)?, *last);
+    Ok(())
+}
+
+// Holds the first commit of the second stage until a move of the next batch is judged. Judgements are counted.
+#[derive(Drop)]
+struct SecondStage<'a> {
+    rt: &'a HostRuntime,
+    first: u64,
+    next_judged: AtomicU64,
+    failed: AtomicU64,
+    judged: AtomicU64,
+}
+
+impl Gate for SecondStage<'_> {
+    fn before_judge(&self, _k: u64) {}
+
+    fn after_judge(&self, k: u64) {
+        self.judged.fetch_add(1, Ordering::SeqCst);
+        if k > self.first && k - self.first >= SHORT.batch {
+            self.next_judged.store(1, Ordering::SeqCst);
+        }
+    }
+
+    fn before_commit(&self, k: u64) {
+        if k == self.first {
+            hold(self.rt, &self.next_judged, &self.failed);
+        }
+    }
+}
+
+// A gate that waits for nothing lets the owner make the second stage alone, and a first stage of 4,096 moves.
+#[test]
+fn a_gate_that_may_wait_has_a_crew_in_each_stage(rt: HostRuntime) -> Result<(), Fail> {
+    for moves in [3000, 4095, 4096] {
+        let gate = SecondStage {
+            rt: &rt,
+            first: moves,
+            next_judged: AtomicU64::new(0),
+            failed: AtomicU64::new(0),
+            judged: AtomicU64::new(0),
+        };
+        let options = Options {
+            moves: Moves::Given(moves),
+            ..SHORT
+        };
+        let held = last_shown(&rt, &SEVEN, &options, after(0), &gate)?;
+        let free = last_shown(&rt, &SEVEN, &options, after(0), &NoGate)?;
+        assert_eq!(rt; held.0, free.0);
+        assert!(rt; held.1 == free.1);
+        assert_eq!(rt; gate.failed.load(Ordering::SeqCst), 0);
+        // Each move is judged ahead once.
+        assert_eq!(rt; gate.judged.load(Ordering::SeqCst), moves.saturating_mul(4));
+    }
+    Ok(())
+}
+
+// In each run a crew judges the first stage ahead, and the owner makes the other three alone: both have to hand over and to end.
+#[test]
+fn many_runs_end_in_which_crew_and_owner_judge_by_turns(rt: HostRuntime) -> Result<(), Fail> {
+    let once = last_shown(&rt, &SEVEN, &LONG, after(0), &NoGate)?;
+    for workers in [1, 2, 3] {
+        let options = Options { workers, ..LONG };
+        for _run in 0..20u64 {
+            let again = last_shown(&rt, &SEVEN, &options, after(0), &NoGate)?;
+            assert_eq!(rt; again.0, once.0);
+            assert!(rt; again.1 == once.1);
+        }
+    }
     Ok(())
 }
