@@ -1,7 +1,8 @@
 //! What a caller does around judgements and commits.
 
 /// What a caller does before and after each judgement that is made ahead, and before each commit. For example, a test holds one back
-/// until another is made. `k` is the number that is judged or committed. Threads call it concurrently, and each call must return.
+/// until another is made. `k` is the number that is judged or committed. Threads call it concurrently, and each call must return. Where
+/// nothing is judged ahead, one thread makes all calls: before and after a judgement and then before its commit.
 pub trait Gate: Sync {
     fn before_judge(&self, k: u64);
 

@@ -1,4 +1,4 @@
-// How often the words of moves are asked for, in runs with a crew from the first move to the last.
+// How often the words of moves are asked for, in runs with a crew that stands from the first move to the last.
 ghost use Rattle.std.specs.Prelude.{◌≡◌, ◌≤◌};
 ghost use Rattle.fab_sched.specs.Annealing.{IsLawful};
 

@@ -74,8 +74,9 @@ fn begin<'a>(
 /// at the end of the last one. Turns have `batch` moves, counted from the first move of each stage; the last one of a stage or of a
 /// stopped run may be shorter. The shower must be one of this dial.
 ///
-/// The gate is called before and after each judgement that is made ahead, and before each commit. The placement and the output are
-/// those of `place_run`, whatever the gate does, if its calls return.
+/// The gate is called before and after each judgement that is made ahead, and before each commit. If it says that it never waits, stages
+/// may be made in which nothing is judged ahead; there one thread makes these calls for each move. The placement and the output are those
+/// of `place_run`, whatever the gate does, if its calls return.
 pub fn place_run_shown<G: Gate, R: AllocGlobal + Threads + Wait + Sync, W: Sink, P: Sink>(
     rt: &R,
     inputs: &Inputs,

@@ -386,17 +386,125 @@ fn a_gate_that_may_wait_has_a_crew_in_each_stage(rt: HostRuntime) -> Result<(), 
     Ok(())
 }
 
+// Follows the calls from a move on. They are right if those of each move come by themselves, in order of number, as they do if the owner
+// judges alone.
+#[derive(Drop)]
+struct InOrder {
+    from: u64,
+    next: AtomicU64,
+    wrong: AtomicU64,
+}
+
+impl InOrder {
+    fn follow(&self, k: u64, step: u64) {
+        if k < self.from {
+            return;
+        }
+        let call = k.saturating_mul(3).saturating_add(step);
+        if self.next.load(Ordering::SeqCst) != call {
+            self.wrong.store(1, Ordering::SeqCst);
+        }
+        self.next.store(call.saturating_add(1), Ordering::SeqCst);
+    }
+}
+
+impl Gate for InOrder {
+    fn before_judge(&self, k: u64) {
+        self.follow(k, 0);
+    }
+
+    fn after_judge(&self, k: u64) {
+        self.follow(k, 1);
+    }
+
+    fn before_commit(&self, k: u64) {
+        self.follow(k, 2);
+    }
+
+    fn never_waits(&self) -> bool {
+        true
+    }
+}
+
+// What a run of four stages of so many moves shows at its end and writes. Fails if the owner does not judge alone from this move on.
+fn alone_from<R: AllocGlobal + Threads + Wait + Sync>(
+    rt: &R,
+    options: &Options,
+    moves: u64,
+    from: u64,
+) -> Result<(Reading, Vec<u8>), Fail> {
+    let gate = InOrder {
+        from,
+        next: AtomicU64::new(from.saturating_mul(3)),
+        wrong: AtomicU64::new(0),
+    };
+    let out = last_shown(rt, &SEVEN, options, after(0), &gate)?;
+    let calls = moves.saturating_mul(12);
+    if gate.wrong.load(Ordering::SeqCst) != 0 || gate.next.load(Ordering::SeqCst) != calls {
+        return Err(Fail::from("the owner is not alone"));
+    }
+    Ok(out)
+}
+
+#[test]
+fn the_owner_alone_makes_a_long_first_stage(rt: HostRuntime) -> Result<(), Fail> {
+    let options = Options {
+        moves: Moves::Given(4096),
+        ..SHORT
+    };
+    let alone = alone_from(&rt, &options, 4096, 0)?;
+    assert_eq!(rt;
+        alone.0,
+        last_shown(&rt, &SEVEN, &options, after(0), &NoGate)?.0
+    );
+    Ok(())
+}
+
 // In each run a crew judges the first stage ahead, and the owner makes the other three alone: both have to hand over and to end.
 #[test]
 fn many_runs_end_in_which_crew_and_owner_judge_by_turns(rt: HostRuntime) -> Result<(), Fail> {
-    let once = last_shown(&rt, &SEVEN, &LONG, after(0), &NoGate)?;
+    let options = Options {
+        moves: Moves::Given(300),
+        ..SHORT
+    };
+    let once = last_shown(&rt, &SEVEN, &options, after(0), &NoGate)?;
     for workers in [1, 2, 3] {
-        let options = Options { workers, ..LONG };
+        let options = Options { workers, ..options };
         for _run in 0..20u64 {
-            let again = last_shown(&rt, &SEVEN, &options, after(0), &NoGate)?;
+            let again = alone_from(&rt, &options, 300, 300)?;
             assert_eq!(rt; again.0, once.0);
             assert!(rt; again.1 == once.1);
         }
+    }
+    Ok(())
+}
+
+// The seven blocks on an array so large that the older placement follows after each turn of a stage that the owner makes alone.
+const SPARSE: Options = Options {
+    size: Some((60, 60)),
+    init_t: 4_000_000,
+    exit_t: 1_000_000,
+    moves: Moves::Given(100),
+    batch: 8,
+    ..SHORT
+};
+
+#[test]
+fn many_runs_end_with_short_stages_on_a_large_array(rt: HostRuntime) -> Result<(), Fail> {
+    // This gate holds nothing, but does not say so.
+    let gate = SecondStage {
+        rt: &rt,
+        first: u64::MAX,
+        next_judged: AtomicU64::new(0),
+        failed: AtomicU64::new(0),
+        judged: AtomicU64::new(0),
+    };
+    let crew = last_shown(&rt, &SEVEN, &SPARSE, after(0), &gate)?;
+    assert_eq!(rt; gate.judged.load(Ordering::SeqCst), 400);
+    for _run in 0..20u64 {
+        let alone = alone_from(&rt, &SPARSE, 100, 100)?;
+        assert_eq!(rt; alone.0, crew.0);
+        assert!(rt; alone.1 == crew.1);
     }
     Ok(())
 }
