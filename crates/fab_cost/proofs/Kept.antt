@@ -16,8 +16,8 @@ use Rattle.fab_cost.specs.declared.runs.Runs.{Runs}
 use Rattle.fab_cost.specs.Cost.{clip, cost_of}
 use Rattle.fab_cost.specs.Boxes.{Counts}
 use Rattle.fab_cost.specs.Edges.{counted_box, counted_on, counts_of, edge_counts, edges_of}
-use Rattle.fab_cost.specs.Swapping.{CountedBoxesOf, CountedStandsFor, HaveBoxes, Position, position_at, blocks_of, counted_at, counted_blocks, nothing_counted}
-use Rattle.fab_cost.specs.Runs.{AreMost, HasRecords, IsKept, box_seen, boxes_seen, counted_over, is_large, large_of, lanes_at, lanes_for, no_position, no_lanes, positions_after, positions_in, positions_with, table_from, table_of}
+use Rattle.fab_cost.specs.Swapping.{CountedBoxesOf, CountedStandsFor, HaveBoxes, Position, position_at, blocks_of, counted_at, counted_blocks, nothing_counted, positions_after, positions_with}
+use Rattle.fab_cost.specs.Runs.{AreMost, HasRecords, IsKept, box_seen, boxes_seen, counted_over, is_large, large_of, lanes_at, lanes_for, no_position, no_lanes, positions_in, table_from, table_of}
 use Rattle.fab_cost.proofs.Alike.{alike, row_is}
 use Rattle.fab_cost.proofs.Large.{box_large, counts_large, large_counts}
 use Rattle.fab_cost.proofs.Listings.{listed_row}
@@ -187,6 +187,12 @@ kept_after old new r boxes kept most left was total is long vectors kept_long sa
   within = λ n i h. let w = is.within n i h in omega (arith, w, long);
   runs = λ e same kinds. is.runs e same (sym long ∙ kinds);
 }
+
+pub kept_swapped : (old new : List (List ℕ)) (g : GridShape) (s : Swap) (r : Runs) (boxes kept : List CountedBox) (most left : List ℕ) (was total : ℕ) → IsKept old r boxes most was → new ≡ table_from (positions_after g (positions_in old) s) → length kept ≡ length boxes → left ≡ most → total < 2 ^ 43
+    → IsKept new r kept left total
+kept_swapped old new g s r boxes kept most left was total is e long same low =
+    let at = positions_of_from (positions_after g (positions_in old) s) new e in
+    kept_after old new r boxes kept most left was total is (ap length at ∙ length_after g (positions_in old) s) (e ∙ ap table_from (sym at)) long same low
 
 pub stands_by : (d : Netlist) (g : GridShape) (sites : List Site) (table : List (List ℕ)) (r : Runs) (kept : List CountedBox) (total : ℕ) → IsLawful d → length d.kinds ≡ length sites → table ≡ table_of g sites → r.terminals ≡ counted_blocks d → HaveBoxes kept (large_of d) g sites → total ≡ cost_of d g sites
     → CountedStandsFor (record { nets = r.terminals; positions = positions_in table; boxes = boxes_seen r.terminals (positions_in table) kept; total = total }) d g sites

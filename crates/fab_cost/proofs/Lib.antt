@@ -24,6 +24,7 @@ pub mod Over
 pub mod Kept
 pub mod Alike
 pub mod Way
+pub mod Standing
 pub mod EdgeLanes
 pub mod Passing
 pub mod Held

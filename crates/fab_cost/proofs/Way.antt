@@ -13,8 +13,8 @@ use Rattle.fab_cost.specs.declared.edge_counts.CountedBox.{CountedBox}
 use Rattle.fab_cost.specs.Boxes.{Counts}
 use Rattle.fab_cost.specs.Cost.{cost_of, sites_on}
 use Rattle.fab_cost.specs.Edges.{counted_box, counted_on, edges_of}
-use Rattle.fab_cost.specs.Swapping.{CountedBoxesOf, CountedStandsFor, HaveBoxes, IsOnTheWay, Position, position_at, blocks_of, counted_at, counted_blocks, has_block, is_on_swap}
-use Rattle.fab_cost.specs.Runs.{boxes_seen, counted_over, no_position, positions_after, positions_with}
+use Rattle.fab_cost.specs.Swapping.{CountedBoxesOf, CountedStandsFor, HaveBoxes, IsOnTheWay, Position, position_at, blocks_of, counted_at, counted_blocks, has_block, is_on_swap, positions_after, positions_with}
+use Rattle.fab_cost.specs.Runs.{boxes_seen, counted_over, no_position}
 use Rattle.fab_cost.proofs.Kept.{nets_long, over_is, row_counted, seen_large, seen_long, seen_small, map_each}
 use Rattle.fab_cost.proofs.Renewals.{none_left}
 use Rattle.fab_cost.proofs.Split.{same_sites}

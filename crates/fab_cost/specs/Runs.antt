@@ -1,12 +1,11 @@
 -- Positions as vectors of lanes, the nets of a block as records of the other blocks on them, and what is kept so (our own).
-use Rattle.std.specs.Prelude.{ℕ, ◌≡◌, ◌+◌, ◌*◌, ◌^◌, Option, ◌-◌, ◌<◌, ◌≤◌, ◌==◌, ◌&&◌, ◌||◌, not, nat_lt, nat_le, min, if◌then◌else◌, Bool, true, List, [], ◌∷◌, ◌++◌, map, take, filter, length, slice_index, slice_index_or, slice_set, Some, None, refl}
+use Rattle.std.specs.Prelude.{ℕ, ◌≡◌, ◌+◌, ◌*◌, ◌^◌, ◌-◌, ◌<◌, ◌≤◌, ◌==◌, ◌&&◌, ◌||◌, not, nat_lt, nat_le, min, if◌then◌else◌, Bool, true, List, [], ◌∷◌, ◌++◌, map, take, filter, length, slice_index, slice_index_or, refl}
 use Rattle.std.specs.List.{sum_by, range_with_len}
 use lib.Lanes.{Each1, zip2, fold_l, sum_l}
 use Rattle.fab_arch.specs.declared.array.Site.{Site}
 use Rattle.fab_arch.specs.Grid.{GridShape}
 use Rattle.fab_net.specs.Rows.{row_of}
 use Rattle.fab_net.specs.Netlist.{Netlist, net_at, nets_of, counted, has_number}
-use Rattle.fab_net.specs.declared.pieces.BlockId.{BlockId}
 use Rattle.fab_site.specs.declared.pieces.Swap.{Swap}
 use Rattle.fab_cost.specs.declared.records.Record.{Record}
 use Rattle.fab_cost.specs.declared.runs.Runs.{Runs}
@@ -88,19 +87,18 @@ positions_in table = map (λ v. record { x = slice_index v 0; y = slice_index v 
 abbrev pub table_from : List Position → List (List ℕ)
 table_from positions = map lanes_for positions ++ no_lanes ∷ []
 
--- the positions with those of a swap's blocks after it
-abbrev pub positions_with : GridShape → List Position → Option BlockId → Site → List Position
-positions_with g positions None s = positions
-positions_with g positions (Some b) s = slice_set positions b.0 (position_at g s)
-
-abbrev pub positions_after : GridShape → List Position → Swap → List Position
-positions_after g positions s = positions_with g (slice_set positions s.block.0 (position_at g s.to)) s.other s.from
-
 -- the vector of a block, where one block is seen at another place
 abbrev pub seen_in : List (List ℕ) → ℕ → List ℕ → ℕ → List ℕ
 seen_in table moved to k = if k == moved then to else slice_index_or table k no_lanes
 
--- so each block is seen at its site
+-- block 1 is seen at another place than the table's, block 0 at its own
+pub seen_at_another_place : seen_in (four 1 9 2 8 ∷ four 3 7 4 6 ∷ []) 1 (four 5 5 5 5) 1 ≡ four 5 5 5 5
+seen_at_another_place = refl
+
+pub seen_at_its_own_place : seen_in (four 1 9 2 8 ∷ four 3 7 4 6 ∷ []) 1 (four 5 5 5 5) 0 ≡ four 1 9 2 8
+seen_at_its_own_place = refl
+
+-- each block is seen at its site, if one block is seen at another place than the table's
 pub record AreSeen (g : GridShape) (sites : List Site) (table : List (List ℕ)) (moved : ℕ) (to : List ℕ) : Type 0 where
   pub each : (k : ℕ) → seen_in table moved to k ≡ lanes_in g sites k
 

@@ -17,7 +17,10 @@ pub struct Record<const W: usize> {
     pub factor: u16,
 }
 
-/// A block that is seen at another place than the table's. No block has the number 65,536.
+/// No block has this number.
+pub(crate) const NO_BLOCK: u32 = 65536;
+
+/// A block that is seen at another place than the table's, or no block.
 #[derive(Clone, Copy)]
 pub(crate) struct Moved {
     pub(crate) block: u32,

@@ -7,13 +7,13 @@ ghost use Rattle.std.specs.List.{All};
 ghost use Rattle.fab_arch.specs.declared.array.Site.{Site as ArraySite};
 ghost use Rattle.fab_net.specs.Netlist.{nets_of};
 ghost use Rattle.fab_site.specs.Placement.{swapped, IsSwapOf};
-ghost use Rattle.fab_cost.specs.Runs.{AreSeen, HasRecords, IsStep, counted_over, few_all, few_cost, positions_after, positions_in, table_from, table_of};
-ghost use Rattle.fab_cost.specs.Swapping.{Position};
+ghost use Rattle.fab_cost.specs.Runs.{AreSeen, HasRecords, IsStep, counted_over, few_all, few_cost, positions_in, table_from, table_of};
+ghost use Rattle.fab_cost.specs.Swapping.{Position, positions_after};
 
 use crate::edge_boxes::{Tally, plus};
 use crate::edge_counts::{CountedBox, Edges, NOTHING};
 use crate::lanes::{lanes_of, nowhere};
-use crate::records::{Moved, change_of_run};
+use crate::records::{Moved, NO_BLOCK, change_of_run};
 use crate::runs::Runs;
 use fab_arch::{Grid, Site};
 use fab_net::{BlockId, Design};
@@ -39,9 +39,6 @@ pub(crate) fn lanes_for(
     lanes.push(nowhere())?;
     Ok(lanes)
 }
-
-// No block has this number.
-const NO_BLOCK: u32 = 65536;
 
 /// A block that goes from one site to another.
 #[derive(Clone, Copy)]

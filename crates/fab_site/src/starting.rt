@@ -197,7 +197,8 @@ fn words_drawn<W: Words>(
     Ok(drawn)
 }
 
-fn word_at(words: &[u32], place: u32) -> u32
+/// The word that was drawn at a place of the list.
+fn drawn_word(words: &[u32], place: u32) -> u32
     requires { place < length words.now }
     ensures { result ≡ slice_index_or words.now place 0 }
 {
@@ -231,7 +232,7 @@ fn deal<W: Words>(
             Some(site) => sites.push(site)?,
             None => {
                 let kind = design.kind(block);
-                let word = word_at(&drawn_words, drawn);
+                let word = drawn_word(&drawn_words, drawn);
                 let site = draw_for(kind, word, &mut logic_sites, &mut pad_sites);
                 sites.push(site)?;
                 drawn += 1;

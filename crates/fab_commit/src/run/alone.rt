@@ -211,39 +211,48 @@ fn follow_turn<W: Words, R: Wait>(
     }
 }
 
-/// Makes the moves that are left in the running stage, in turns of `batch` moves, and shows after each turn how far the run has come. If
-/// memory runs out, the turns that were made stay. The older state follows after each turn, if `each` says so.
+/// How the rest of a stage is made alone.
+#[derive(Drop)]
+pub(crate) struct AlonePlan<'g, G: Gate> {
+    /// How many moves a turn has at most.
+    pub(crate) batch: u64,
+    /// Whether the older state follows after each turn; else it is copied whole at the end.
+    pub(crate) each: bool,
+    /// The gate of the judgements and the commits.
+    pub(crate) gate: &'g G,
+    /// The dial that shows each turn.
+    pub(crate) dial: &'g Dial,
+}
+
+/// Makes the moves that are left in the running stage, by turns, and shows after each turn how far the run has come. If memory runs out,
+/// the turns that were made stay.
 fn turns_alone<W: Words, G: Gate, R: Wait>(
     rt: &R,
     given: &Given<'_, W>,
-    owner: &mut Owner,
-    older: &mut Arc<State>,
-    each: bool,
+    state: &mut Pipeline,
+    plan: &AlonePlan<'_, G>,
     ahead: &mut Ahead,
-    batch: u64,
-    gate: &G,
-    dial: &Dial,
     shower: &mut Shower,
 ) -> Result<(), AllocError>
-    requires alone { (t : LastTurn) × IsAlone (run_for W.moves given.now) t owner.old ahead.old }
-    requires some { 0 < moves_left (run_for W.moves given.now) (standing_of owner.old.state) }
-    requires older { IsSound (run_for W.moves given.now) (arc_value older.old) }
-    requires same { IsTrue each → standing_of (arc_value older.old) ≡ standing_of owner.old.state }
-    requires batch { (1 ≤ batch) × (batch ≤ 4096) }
-    requires own { shower.old.dial ≡ dial.now }
-    ensures older { IsSound (run_for W.moves given.now) (arc_value older.new) }
-    ensures same { IsTrue each → standing_of (arc_value older.new) ≡ standing_of owner.new.state }
-    ensures left { (t : LastTurn) × IsAlone (run_for W.moves given.now) t owner.new ahead.new }
+    requires alone { (t : LastTurn) × IsAlone (run_for W.moves given.now) t state.old.owner ahead.old }
+    requires some { 0 < moves_left (run_for W.moves given.now) (standing_of state.old.owner.state) }
+    requires older { IsSound (run_for W.moves given.now) (arc_value state.old.older) }
+    requires same { IsTrue plan.now.each → standing_of (arc_value state.old.older) ≡ standing_of state.old.owner.state }
+    requires batch { (1 ≤ plan.now.batch) × (plan.now.batch ≤ 4096) }
+    requires own { shower.old.dial ≡ plan.now.dial.now }
+    ensures older { IsSound (run_for W.moves given.now) (arc_value state.new.older) }
+    ensures same { IsTrue plan.now.each → standing_of (arc_value state.new.older) ≡ standing_of state.new.owner.state }
+    ensures left { (t : LastTurn) × IsAlone (run_for W.moves given.now) t state.new.owner ahead.new }
     ensures none { ahead.new.moves ≡ 0 }
-    ensures gone { OnOk result ((t : LastTurn) → IsAlone (run_for W.moves given.now) t owner.old ahead.old → (n : ℕ) × HaveGone (run_for W.moves given.now) batch t owner.old n (moves_left (run_for W.moves given.now) (standing_of owner.old.state)) owner.new ahead.new) }
+    ensures gone { OnOk result ((t : LastTurn) → IsAlone (run_for W.moves given.now) t state.old.owner ahead.old → (n : ℕ) × HaveGone (run_for W.moves given.now) plan.now.batch t state.old.owner n (moves_left (run_for W.moves given.now) (standing_of state.old.owner.state)) state.new.owner ahead.new) }
     ensures dial { shower.new.dial ≡ shower.old.dial }
-    ensures shown { OnOk result (LeadsTo (run_for W.moves given.now) batch (standing_of owner.old.state) (standing_of owner.new.state) shower.old.shown shower.new.shown) }
-    ensures shown_cut { OnErr result (LeadsWithin (run_for W.moves given.now) batch (standing_of owner.old.state) (moves_left (run_for W.moves given.now) (standing_of owner.old.state)) shower.old.shown shower.new.shown) }
+    ensures shown { OnOk result (LeadsTo (run_for W.moves given.now) plan.now.batch (standing_of state.old.owner.state) (standing_of state.new.owner.state) shower.old.shown shower.new.shown) }
+    ensures shown_cut { OnErr result (LeadsWithin (run_for W.moves given.now) plan.now.batch (standing_of state.old.owner.state) (moves_left (run_for W.moves given.now) (standing_of state.old.owner.state)) shower.old.shown shower.new.shown) }
 {
-    let mut left = moves_left(&given.schedule, &owner.state);
+    let mut left = moves_left(&given.schedule, &state.owner.state);
     while left > 0 {
-        let before = owner.state.done;
-        match turn_alone(given, owner, *ahead, batch, gate) {
+        let before = state.owner.state.done;
+        match turn_alone(given, &mut state.owner, *ahead, plan.batch, plan.gate) {
             Ok(next) => *ahead = next,
             Err(error) => {
                 *ahead = Ahead {
@@ -253,8 +262,9 @@ fn turns_alone<W: Words, G: Gate, R: Wait>(
                 return Err(error);
             }
         }
-        follow_turn(rt, given, older, each, &owner.state, &owner.swaps);
-        show_state(rt, given, &owner.state, dial, shower);
+        let owner = &state.owner;
+        follow_turn(rt, given, &mut state.older, plan.each, &owner.state, &owner.swaps);
+        show_state(rt, given, &owner.state, plan.dial, shower);
         left -= owner.state.done - before;
     }
     Ok(())
@@ -322,7 +332,7 @@ fn follow_at_end<W: Words, R: Wait>(
 const ENTRIES_A_MOVE: u64 = 16;
 
 /// Whether the older state follows after each turn of a stage of `left` moves.
-fn is_short<W: Words>(given: &Given<'_, W>, left: u64) -> bool {
+pub(crate) fn is_short<W: Words>(given: &Given<'_, W>, left: u64) -> bool {
     let entries = given
         .design
         .blocks()
@@ -331,45 +341,31 @@ fn is_short<W: Words>(given: &Given<'_, W>, left: u64) -> bool {
     left.saturating_mul(ENTRIES_A_MOVE) < entries as u64
 }
 
-/// Makes the moves that are left in the running stage, each judged by the owner, in turns of `batch` moves. If memory runs out, the turns
-/// that were made stay, and nothing is judged ahead.
+/// Makes the moves that are left in the running stage, each judged by the owner, by turns. If memory runs out, the turns that were made
+/// stay, and nothing is judged ahead.
 pub(crate) fn finish_alone<W: Words, G: Gate, R: Wait>(
     rt: &R,
     given: &Given<'_, W>,
     state: &mut Pipeline,
-    batch: u64,
-    gate: &G,
-    dial: &Dial,
+    plan: &AlonePlan<'_, G>,
     shower: &mut Shower,
 ) -> Result<(), AllocError>
     requires behind { HasTurn (run_for W.moves given.now) state.old }
     requires some { 0 < moves_left (run_for W.moves given.now) (standing_of state.old.owner.state) }
-    requires batch { (1 ≤ batch) × (batch ≤ 4096) }
-    requires own { shower.old.dial ≡ dial.now }
+    requires batch { (1 ≤ plan.now.batch) × (plan.now.batch ≤ 4096) }
+    requires own { shower.old.dial ≡ plan.now.dial.now }
     ensures left { HasTurn (run_for W.moves given.now) state.new }
-    ensures finished { OnOk result ((t : LastTurn) → IsBehind (run_for W.moves given.now) t state.old → (n : ℕ) × HasFinished (run_for W.moves given.now) batch t state.old n state.new) }
+    ensures finished { OnOk result ((t : LastTurn) → IsBehind (run_for W.moves given.now) t state.old → (n : ℕ) × HasFinished (run_for W.moves given.now) plan.now.batch t state.old n state.new) }
     ensures dial { shower.new.dial ≡ shower.old.dial }
-    ensures shown { OnOk result (LeadsTo (run_for W.moves given.now) batch (standing_of state.old.owner.state) (standing_of state.new.owner.state) shower.old.shown shower.new.shown) }
-    ensures shown_cut { OnErr result (LeadsWithin (run_for W.moves given.now) batch (standing_of state.old.owner.state) (moves_left (run_for W.moves given.now) (standing_of state.old.owner.state)) shower.old.shown shower.new.shown) }
+    ensures shown { OnOk result (LeadsTo (run_for W.moves given.now) plan.now.batch (standing_of state.old.owner.state) (standing_of state.new.owner.state) shower.old.shown shower.new.shown) }
+    ensures shown_cut { OnErr result (LeadsWithin (run_for W.moves given.now) plan.now.batch (standing_of state.old.owner.state) (moves_left (run_for W.moves given.now) (standing_of state.old.owner.state)) shower.old.shown shower.new.shown) }
 {
     let mut ahead = Ahead {
         base: state.base,
         moves: state.ahead.len() as u64,
     };
-    let each = is_short(given, moves_left(&given.schedule, &state.owner.state));
-    let made = turns_alone(
-        rt,
-        given,
-        &mut state.owner,
-        &mut state.older,
-        each,
-        &mut ahead,
-        batch,
-        gate,
-        dial,
-        shower,
-    );
-    follow_at_end(rt, given, &mut state.older, each, &state.owner.state);
+    let made = turns_alone(rt, given, state, plan, &mut ahead, shower);
+    follow_at_end(rt, given, &mut state.older, plan.each, &state.owner.state);
     state.base = ahead.base;
     state.ahead.clear();
     made

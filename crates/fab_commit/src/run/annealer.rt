@@ -14,10 +14,10 @@ ghost use Rattle.fab_commit.specs.Run.Points.{IsPoint, TellsPoint, going_on, sta
 ghost use Rattle.fab_commit.specs.Run.Readings.{IsShown, reading_at};
 ghost use Rattle.fab_commit.specs.Run.Turned.{IsTurned};
 
-use crate::run::alone::finish_alone;
+use crate::run::alone::{AlonePlan, finish_alone, is_short};
 use crate::run::pipeline::{Pipeline, first_pipeline, make_turn};
 use crate::run::point::{Point, point_of};
-use crate::run::state::{Given, State, first_state, running, state_at};
+use crate::run::state::{Given, State, first_state, moves_left, running, state_at};
 use crate::run::turn::Turn;
 use crate::run::workers::Workers;
 use fab_arch::Grid;
@@ -284,7 +284,14 @@ impl<'a, W: Words + Drop> Anneal<'a, W> {
         ensures dial { shower.new.dial ≡ shower.old.dial }
     {
         let given: &Given<'_, W> = &self.given;
-        finish_alone(rt, given, &mut self.pipeline, batch, gate, dial, shower)
+        let left = moves_left(&given.schedule, &self.pipeline.owner.state);
+        let plan = AlonePlan {
+            batch,
+            each: is_short(given, left),
+            gate,
+            dial,
+        };
+        finish_alone(rt, given, &mut self.pipeline, &plan, shower)
     }
 }
 

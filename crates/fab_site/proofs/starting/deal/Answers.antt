@@ -35,8 +35,8 @@ loop-number-preserved g c =
       | in-None+in_ok-push-in-None w ↦
           let lt = draws_within given kinds b drawn c.requires.all w.in-None.ensures c.loop-number.invariant.count in
           let many = c.in_ok-drawn_words.ensures.many in
-          let told : w.word_at-word.result ≡ word drawn = w.word_at-word.ensures ∙ (ap (λ l. slice_index_or l drawn 0) w.deref.ensures.value ∙ c.in_ok-drawn_words.ensures.words drawn (omega (arith, lt, many))) in
-          let small : word drawn < 2 ^ 32 = rw (← told) w.word_at-word.type_inv in
+          let told : w.drawn_word-word.result ≡ word drawn = w.drawn_word-word.ensures ∙ (ap (λ l. slice_index_or l drawn 0) w.deref.ensures.value ∙ c.in_ok-drawn_words.ensures.words drawn (omega (arith, lt, many))) in
+          let small : word drawn < 2 ^ 32 = rw (← told) w.drawn_word-word.type_inv in
           elim (cases_Bool (is_logic w.kind-kind.result)) [
             | inl y ↦
                 let e = w.draw_for-site.ensures.logic y in
@@ -54,8 +54,8 @@ loop-number-preserved g c =
           ]
     ]
 
-pub word_at-word-requires : goal.word_at-word-requires
-word_at-word-requires g c =
+pub drawn_word-word-requires : goal.drawn_word-word-requires
+drawn_word-word-requires g c =
     let lt = draws_within c.args.given.now.sites c.args.design.now.kinds c.loop-number.number c.loop-number.drawn c.requires.all c.in-None.ensures c.loop-number.invariant.count in
     let many = c.in_ok-drawn_words.ensures.many in
     let same = ap length c.deref.ensures.value in

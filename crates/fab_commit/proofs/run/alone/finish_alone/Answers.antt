@@ -14,4 +14,4 @@ returns-clause-finished g c =
     on_ok c.turns_alone-made.result _ _ c.turns_alone-made.ensures.gone
     (λ gone t b.
     let h = gone t (alone_behind r t s ahead b refl (omega (arith, long, kept))) in
-    (h.0, finished r c.args.batch t s _ h.0 c.turns_alone-made.new.ahead h.1 c.turns_alone-made.ensures.none c.clear.ensures.items c.follow_at_end.ensures.sound c.follow_at_end.ensures.stands refl))
+    (h.0, finished r c.args.plan.now.batch t s _ h.0 c.turns_alone-made.new.ahead h.1 c.turns_alone-made.ensures.none c.clear.ensures.items c.follow_at_end.ensures.sound c.follow_at_end.ensures.stands refl))

@@ -14,7 +14,7 @@ use Rattle.fab_commit.proofs.run.alone.turns_alone.Goals as goal
 pub loop-left-init : goal.loop-left-init
 loop-left-init g c =
     let r = run_for g.W.Words.moves c.args.given.now in
-    let o = c.args.owner.now in
+    let o = c.args.state.now.owner in
     let x = standing_of o.state in
     let left = c.moves_left-left.ensures in
     let some = c.requires.some in
@@ -25,7 +25,7 @@ loop-left-init g c =
       stands = ap (from r x) (sym zero);
       done = omega (arith, zero);
       none = λ e. absurd (omega (arith, left, e, some));
-      gone = λ t a. (0, subst (λ k. HaveGone r c.args.batch t o 0 k o c.args.ahead.now) (sym zero) (none_gone r c.args.batch t o c.args.ahead.now a));
+      gone = λ t a. (0, subst (λ k. HaveGone r c.args.plan.now.batch t o 0 k o c.args.ahead.now) (sym zero) (none_gone r c.args.plan.now.batch t o c.args.ahead.now a));
       older = c.requires.older;
       same = c.requires.same;
       dial = refl;
@@ -36,7 +36,7 @@ pub returns-in-Err-clause-shown_cut : goal.returns-in-Err-clause-shown_cut
 returns-in-Err-clause-shown_cut g c =
     let done = c.loop-left.invariant.done in
     record {
-      there = standing_of c.loop-left.owner.state;
+      there = standing_of c.loop-left.state.owner.state;
       near = omega (arith, done);
       leads = c.loop-left.invariant.shown;
     }
@@ -44,7 +44,7 @@ returns-in-Err-clause-shown_cut g c =
 pub overflow_sub-left-in-loop-left : goal.overflow_sub-left-in-loop-left
 overflow_sub-left-in-loop-left g c =
     let r = run_for g.W.Words.moves c.args.given.now in
-    let x = standing_of c.args.owner.now.state in
+    let x = standing_of c.args.state.now.owner.state in
     let inv = c.loop-left.invariant in
     let low = inv.low in
     let more = c.loop-left-test.true in
@@ -58,7 +58,7 @@ overflow_sub-left-in-loop-left g c =
 pub loop-left-smaller : goal.loop-left-smaller
 loop-left-smaller g c =
     let r = run_for g.W.Words.moves c.args.given.now in
-    let x = standing_of c.args.owner.now.state in
+    let x = standing_of c.args.state.now.owner.state in
     let inv = c.loop-left.invariant in
     let low = inv.low in
     let more = c.loop-left-test.true in
@@ -74,18 +74,18 @@ pub follow_turn-requires-clause-leads : goal.follow_turn-requires-clause-leads
 follow_turn-requires-clause-leads g c each =
     let grid = c.args.given.now.grid.now in
     let there = c.turn_alone.new.owner.state.placement.sites in
-    subst (λ l. Leads grid (arc_value c.loop-left.older).placement.sites l there) (sym c.deref.ensures.value)
+    subst (λ l. Leads grid (arc_value c.loop-left.state.older).placement.sites l there) (sym c.deref.ensures.value)
     (subst (λ (v : Standing). Leads grid v.sites c.turn_alone.new.owner.swaps.items there) (sym (c.loop-left.invariant.same each)) c.in-Ok.ensures.leads)
 
 pub loop-left-preserved : goal.loop-left-preserved
 loop-left-preserved g c =
     let r = run_for g.W.Words.moves c.args.given.now in
-    let o = c.args.owner.now in
-    let mid = c.loop-left.owner in
+    let o = c.args.state.now.owner in
+    let mid = c.loop-left.state.owner in
     let now = c.turn_alone.new.owner in
     let x = standing_of o.state in
     let y = standing_of mid.state in
-    let batch = c.args.batch in
+    let batch = c.args.plan.now.batch in
     let all = moves_left r x in
     let left = c.loop-left.left in
     let m = now.state.done - mid.state.done in
@@ -127,9 +127,9 @@ loop-left-preserved g c =
 pub returns-clause-gone : goal.returns-clause-gone
 returns-clause-gone g c t a =
     let r = run_for g.W.Words.moves c.args.given.now in
-    let o = c.args.owner.now in
+    let o = c.args.state.now.owner in
     let all = moves_left r (standing_of o.state) in
     let end = c.loop-left-test.false in
     let h = c.loop-left.invariant.gone t a in
     let whole : all - c.loop-left.left ≡ all = omega (arith, end) in
-    (h.0, subst (λ k. HaveGone r c.args.batch t o h.0 k c.loop-left.owner c.loop-left.ahead) whole h.1)
+    (h.0, subst (λ k. HaveGone r c.args.plan.now.batch t o h.0 k c.loop-left.state.owner c.loop-left.ahead) whole h.1)

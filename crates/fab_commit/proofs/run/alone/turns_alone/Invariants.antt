@@ -9,20 +9,20 @@ use Rattle.fab_commit.proofs.run.alone.turns_alone.Given as goal
 abbrev pub invariant-loop-left : goal.invariant-loop-left
 invariant-loop-left g l =
     let r = run_for g.W.Words.moves l.given in
-    let o = l.initial.owner in
+    let o = l.initial.state.owner in
     let x = standing_of o.state in
     let all = moves_left r x in
     record {
       low : l.left ≤ all;
-      some : (t : LastTurn) × IsAlone r t l.owner l.ahead;
-      stands : standing_of l.owner.state ≡ from r x (all - l.left);
-      done : l.owner.state.done ≡ o.state.done + (all - l.left);
+      some : (t : LastTurn) × IsAlone r t l.state.owner l.ahead;
+      stands : standing_of l.state.owner.state ≡ from r x (all - l.left);
+      done : l.state.owner.state.done ≡ o.state.done + (all - l.left);
       none : l.left ≡ 0 → l.ahead.moves ≡ 0;
-      gone : (t : LastTurn) → IsAlone r t o l.initial.ahead → (n : ℕ) × HaveGone r l.batch t o n (all - l.left) l.owner l.ahead;
-      older : IsSound r (arc_value l.older);
-      same : IsTrue l.each → standing_of (arc_value l.older) ≡ standing_of l.owner.state;
+      gone : (t : LastTurn) → IsAlone r t o l.initial.ahead → (n : ℕ) × HaveGone r l.plan.batch t o n (all - l.left) l.state.owner l.ahead;
+      older : IsSound r (arc_value l.state.older);
+      same : IsTrue l.plan.each → standing_of (arc_value l.state.older) ≡ standing_of l.state.owner.state;
       dial : l.shower.dial ≡ l.initial.shower.dial;
-      shown : LeadsTo r l.batch x (standing_of l.owner.state) l.initial.shower.shown l.shower.shown;
+      shown : LeadsTo r l.plan.batch x (standing_of l.state.owner.state) l.initial.shower.shown l.shower.shown;
     }
 
 abbrev pub decreases-loop-left : goal.decreases-loop-left
