@@ -5,3 +5,4 @@ pub mod Choices
 pub mod Judgements
 pub mod Tested
 pub mod Chances
+pub mod Parts

@@ -20,6 +20,11 @@ stream_moves seed k =
 abbrev pub stream_starts : ℕ → ℕ → ℕ
 stream_starts seed i = stream_word seed 1 i
 
+-- the first four words of a block of stream 0
+abbrev pub block_words : List ℕ → ℕ → List ℕ
+block_words key k =
+    word_at 4 key 0 (16 * k) ∷ word_at 4 key 0 (16 * k + 1) ∷ word_at 4 key 0 (16 * k + 2) ∷ word_at 4 key 0 (16 * k + 3) ∷ []
+
 -- four words of a stream, from a place on
 abbrev pub words_from : ChaCha → ℕ → List ℕ
 words_from g place =

@@ -1,8 +1,8 @@
 //! The random words of a seed, from the ChaCha cipher.
 
-ghost use Rattle.std.specs.Prelude.{◌≡◌, ℕ, ◌+◌, ◌*◌, ◌<◌, ◌^◌, [], length, slice_index_or};
+ghost use Rattle.std.specs.Prelude.{◌≡◌, ℕ, ◌+◌, ◌-◌, ◌*◌, ◌<◌, ◌≤◌, ◌^◌, [], length, slice_index_or};
 ghost use Rattle.rand_chacha.specs.ChaCha.{key_of, word_at};
-ghost use Rattle.fab_move.specs.Stream.{cipher_seed, stream_moves, stream_starts, stream_word, words_from};
+ghost use Rattle.fab_move.specs.Stream.{block_words, cipher_seed, stream_moves, stream_starts, stream_word, words_from};
 
 use fab_site::Words;
 use rand_chacha::ChaCha8Rng;
@@ -56,16 +56,17 @@ impl Words for StreamWords {
     ghost starts = { λ w. stream_starts w };
 
     fn move_words(&self, k: u64) -> [u32; 4] {
-        let mut stream = ChaCha8Rng::from_seed(self.cipher_seed);
-        stream.set_word_pos(16 * u128::from(k));
-        next_four(&mut stream)
+        next_four(&mut moves_from(self.cipher_seed, k))
     }
 
-    // One cipher serves all the moves: it makes the blocks of four moves at once.
+    // The cipher makes the blocks of four moves at once. One that is started for four moves is compiled to code that never asks where in its
+    // blocks it is; one that goes on has to ask for each word.
     fn fill_words(&self, first: u64, out: &mut [[u32; 4]]) {
-        let mut stream = ChaCha8Rng::from_seed(self.cipher_seed);
-        stream.set_word_pos(16 * u128::from(first));
-        fill_from(&mut stream, out);
+        let done = fill_fours(self.cipher_seed, first, out);
+        if done < out.len() {
+            let mut stream = moves_from(self.cipher_seed, first + done as u64);
+            fill_rest(&mut stream, done, out);
+        }
     }
 
     fn words_again(&self, _k: u64, words: [u32; 4]) -> [u32; 4] {
@@ -93,12 +94,58 @@ fn cipher_seed_of(seed: u64) -> [u8; 32]
     ]
 }
 
-/// Writes the first four words of each block, one entry of `out` for each block.
-fn fill_from(stream: &mut ChaCha8Rng, out: &mut [[u32; 4]])
-    requires { stream.old.word_pos + 16 * length out.old < 2 ^ 68 }
-    ensures { (i : ℕ) → i < length out.new → slice_index_or out.new i [] ≡ words_from stream.old (stream.old.word_pos + 16 * i) }
+/// The cipher before the words of move `k`.
+#[inline(always)]
+fn moves_from(cipher_seed: [u8; 32], k: u64) -> ChaCha8Rng
+    ensures { result ≡ record { key = key_of cipher_seed; stream = 0; word_pos = 16 * k } }
 {
-    'entries: for i in 0..out.len() {
+    let mut stream = ChaCha8Rng::from_seed(cipher_seed);
+    stream.set_word_pos(16 * u128::from(k));
+    stream
+}
+
+/// The words of four moves.
+#[inline(always)]
+fn four_moves(cipher_seed: [u8; 32], first: u64) -> [[u32; 4]; 4]
+    requires { first + 4 < 2 ^ 64 }
+    ensures { (j : ℕ) → j < 4 → slice_index_or result j [] ≡ block_words (key_of cipher_seed) (first + j) }
+{
+    let mut stream = moves_from(cipher_seed, first);
+    let one = next_four(&mut stream);
+    pass_twelve(&mut stream);
+    let two = next_four(&mut stream);
+    pass_twelve(&mut stream);
+    let three = next_four(&mut stream);
+    pass_twelve(&mut stream);
+    let four = next_four(&mut stream);
+    [one, two, three, four]
+}
+
+/// Writes the words of the moves from `first` on by fours, as many as there are whole. Returns how many entries it wrote.
+fn fill_fours(cipher_seed: [u8; 32], first: u64, out: &mut [[u32; 4]]) -> usize
+    requires { first + length out.old < 2 ^ 64 }
+    ensures within { result ≤ length out.new }
+    ensures each { (i : ℕ) → i < result → slice_index_or out.new i [] ≡ block_words (key_of cipher_seed) (first + i) }
+{
+    let fours = out.len() / 4;
+    'fours: for i in 0..fours {
+        let [one, two, three, four] = four_moves(cipher_seed, first + 4 * i as u64);
+        out[4 * i] = one;
+        out[4 * i + 1] = two;
+        out[4 * i + 2] = three;
+        out[4 * i + 3] = four;
+    }
+    4 * fours
+}
+
+/// Writes the first four words of each block, one entry of `out` for each block, from entry `done` on.
+fn fill_rest(stream: &mut ChaCha8Rng, done: usize, out: &mut [[u32; 4]])
+    requires within { done ≤ length out.old }
+    requires places { stream.old.word_pos + 16 * (length out.old - done) < 2 ^ 68 }
+    ensures each { (i : ℕ) → done + i < length out.new → slice_index_or out.new (done + i) [] ≡ words_from stream.old (stream.old.word_pos + 16 * i) }
+    ensures before { (i : ℕ) → i < done → slice_index_or out.new i [] ≡ slice_index_or out.old i [] }
+{
+    'entries: for i in done..out.len() {
         out[i] = next_four(stream);
         pass_twelve(stream);
     }
@@ -135,7 +182,8 @@ fn pass_twelve(stream: &mut ChaCha8Rng)
     requires { stream.old.word_pos + 12 < 2 ^ 68 }
     ensures { stream.new ≡ record stream.old { word_pos = stream.old.word_pos + 12 } }
 {
-    'words: for _n in 0..12_u32 {
-        let _word = stream.next_word();
-    }
+    // No loop: the compiler has to see where the cipher is after each word.
+    let _first = next_four(stream);
+    let _second = next_four(stream);
+    let _third = next_four(stream);
 }
