@@ -1,10 +1,12 @@
 #!/bin/sh
-# How many moves per second `vplace place` makes with one worker and batches of 1,024 moves, on designs of 200, 770, 1,585 and 9,583 blocks,
-# and the ratios of these. Timed from outside: a run of many moves minus a run of few, so that reading and writing cancel; the best of each.
+# How many moves per second `vplace place` makes with one worker and batches of 1,024 moves, on designs of 200, 770, 1,585, 9,583 and
+# 60,000 blocks, and the ratios of these. Timed from outside: a run of many moves minus a run of few, so that reading and writing cancel;
+# the best of each.
 # usage: [PROGRAM=PROGRAM] [BASELINE=PROGRAM] [MOVES=N] [RUNS=N] bench/place.sh [DESIGN..]
-# The designs are those of examples. PROGRAM is by default the one that `make test` built. BASELINE is another placer that takes the same
-# words: it makes the same moves in the same run, in turn with PROGRAM. A stage has MOVES moves, 60,000 by default, or one in the run of
-# few; there are 11 stages. Each run is made RUNS times, 5 by default.
+# A design is one of examples, or /PATH/NAME; by default there is also a grown one of 60,000 blocks (grown.awk). PROGRAM is by default the
+# one that `make test` built. BASELINE is another placer that takes the same words: it makes the same moves in the same run, in turn with
+# PROGRAM. A stage has MOVES moves, 60,000 by default, or one in the run of few; there are 11 stages. Each run is made RUNS times, 5 by
+# default.
 set -eu
 top=$(cd "$(dirname "$0")/.." && pwd)
 program=${PROGRAM:+$(realpath "$PROGRAM")}
@@ -15,9 +17,13 @@ if [ ! -x "$program" ]; then
     echo "there is no program $program: make test builds it" >&2
     exit 2
 fi
-[ $# -gt 0 ] || set -- c880_ble grom_ble picorv32_cl4 duo_ble
 work=$(mktemp -d)
 trap 'rm -rf "$work"' EXIT
+if [ $# -eq 0 ]; then
+    awk -v logic=59000 -f "$top/bench/grown.awk" > "$work/grown.net"
+    cp "$top/bench/grown.arch" "$work/"
+    set -- c880_ble grom_ble picorv32_cl4 duo_ble "$work/grown"
+fi
 cd "$top/examples"
 
 # One run: whose it is, the program, the design, the moves of a stage. Prints these without the program, then the
@@ -27,7 +33,7 @@ timed() {
     "$2" place --arch "$3.arch" --net "$3.net" --out "$work/$1.place" --init-t 10 --exit-t 0.01 --alpha-t 0.5 \
         --workers 1 --batch 1024 --moves "$4" > "$work/$1.report"
     taken=$((($(date +%s%N) - from) / 1000))
-    echo "$1 $3 $4 $taken $(awk 'NR == 1 { blocks = $2 } END { print $NF, blocks }' "$work/$1.report")"
+    echo "$1 $(basename "$3") $4 $taken $(awk 'NR == 1 { blocks = $2 } END { print $NF, blocks }' "$work/$1.report")"
 }
 
 for design in "$@"; do
@@ -42,7 +48,7 @@ for design in "$@"; do
     # The last runs made the same moves if they end in the same bytes.
     if [ -n "$baseline" ]; then
         cmp -s "$work/ours.place" "$work/theirs.place" && cmp -s "$work/ours.report" "$work/theirs.report" \
-            || echo "differ $design"
+            || echo "differ $(basename "$design")"
     fi
 done > "$work/times"
 awk -v many="$moves" '
