@@ -6,6 +6,8 @@ mod asked_tests;
 pub mod check;
 #[cfg(test)]
 mod check_tests;
+#[cfg(test)]
+mod crew_tests;
 mod crews;
 mod designs;
 pub mod fault;

@@ -19,7 +19,7 @@ use std::thread::Threads;
 use std::time::Duration;
 
 // The reading of the design of three blocks after this many moves: none is accepted, and the cost stays the same.
-fn after(moves: u64) -> Reading {
+pub(crate) fn after(moves: u64) -> Reading {
     Reading {
         moves,
         accepted: 0,
@@ -58,7 +58,7 @@ fn shown_bytes<G: Gate, R: AllocGlobal + Threads + Wait + Sync>(
 }
 
 // The last reading of a run that nobody watches, and what it writes.
-fn last_shown<G: Gate, R: AllocGlobal + Threads + Wait + Sync>(
+pub(crate) fn last_shown<G: Gate, R: AllocGlobal + Threads + Wait + Sync>(
     rt: &R,
     inputs: &Inputs,
     options: &Options,
@@ -195,7 +195,7 @@ struct Overlap<'a> {
 }
 
 // Waits until this is no longer 0, for at most ten seconds; then the test has failed.
-fn hold(rt: &HostRuntime, until: &AtomicU64, failed: &AtomicU64) {
+pub(crate) fn hold(rt: &HostRuntime, until: &AtomicU64, failed: &AtomicU64) {
     for _turn in 0..10_000u64 {
         if until.load(Ordering::SeqCst) != 0 {
             return;

@@ -1,0 +1,172 @@
+// The crew of a run: all its workers judge, the owner waits for a slow one, and who sleeps is woken. A gate holds what must not come first
+// for at most ten seconds; a run that hangs ends with the test's time.
+use crate::run_tests::{INPUTS, OPTIONS};
+use crate::watched_tests::{after, hold, last_shown};
+use crate::{Moves, Options};
+use fab_board::{Gate, NoGate};
+use std::sync::atomic::{AtomicU64, Ordering};
+use std::test::*;
+use std::thread;
+use std::time::Duration;
+
+// Batches of eight moves in stages of 24. Before a run's commit `at` the owner is held until so many judgements of the next batch have
+// begun, and each of these until all of them have: so as many threads as that judge at once, and the owner is none of them.
+#[derive(Drop)]
+struct AtOnce<'a> {
+    rt: &'a HostRuntime,
+    at: u64,
+    workers: u64,
+    begun: AtomicU64,
+    all: AtomicU64,
+    failed: AtomicU64,
+}
+
+const BATCH: u64 = 8;
+
+impl Gate for AtOnce<'_> {
+    fn before_judge(&self, k: u64) {
+        let next = self.at.saturating_add(BATCH);
+        if k < next || k >= next.saturating_add(self.workers) {
+            return;
+        }
+        let begun = self.begun.fetch_add(1, Ordering::SeqCst);
+        if begun.saturating_add(1) == self.workers {
+            self.all.store(1, Ordering::SeqCst);
+        }
+        hold(self.rt, &self.all, &self.failed);
+    }
+
+    fn after_judge(&self, _k: u64) {}
+
+    fn before_commit(&self, k: u64) {
+        if k == self.at {
+            hold(self.rt, &self.all, &self.failed);
+        }
+    }
+}
+
+fn eights(workers: u64) -> Options {
+    Options {
+        moves: Moves::Given(24),
+        batch: BATCH,
+        workers,
+        ..OPTIONS
+    }
+}
+
+#[test]
+fn all_workers_of_a_run_judge_at_once(rt: HostRuntime) -> Result<(), Fail> {
+    for workers in [1, 2, 3, 7] {
+        for at in [0, 24, 32] {
+            let gate = AtOnce {
+                rt: &rt,
+                at,
+                workers,
+                begun: AtomicU64::new(0),
+                all: AtomicU64::new(0),
+                failed: AtomicU64::new(0),
+            };
+            let held = last_shown(&rt, &INPUTS, &eights(workers), after(0), &gate)?;
+            assert_eq!(rt; gate.failed.load(Ordering::SeqCst), 0, "{workers} workers at {at}");
+            assert_eq!(rt; gate.begun.load(Ordering::SeqCst), workers);
+            assert!(rt; held.1 == last_shown(&rt, &INPUTS, &eights(workers), after(0), &NoGate)?.1);
+        }
+    }
+    Ok(())
+}
+
+// The first judgement of the second batch takes a second, and the owner begins to commit the first batch only then: so a worker judges it,
+// and the owner has to sleep for it. Judgements are counted by number.
+#[derive(Drop)]
+struct Slow<'a> {
+    rt: &'a HostRuntime,
+    begun: AtomicU64,
+    failed: AtomicU64,
+    judged: &'a [AtomicU64],
+}
+
+impl Gate for Slow<'_> {
+    fn before_judge(&self, k: u64) {
+        if let Some(times) = self.judged.get(k as usize) {
+            times.fetch_add(1, Ordering::SeqCst);
+        }
+        if k >= BATCH && self.begun.fetch_add(1, Ordering::SeqCst) == 0 {
+            thread::sleep(self.rt, Duration::from_millis(1000));
+        }
+    }
+
+    fn after_judge(&self, _k: u64) {}
+
+    fn before_commit(&self, k: u64) {
+        if k == 0 {
+            hold(self.rt, &self.begun, &self.failed);
+        }
+    }
+}
+
+#[test]
+fn the_owner_sleeps_until_a_slow_judgement_is_made(rt: HostRuntime) -> Result<(), Fail> {
+    for workers in [1, 3] {
+        let mut judged = Vec::new(rt.alloc());
+        for _move in 0..120u64 {
+            judged.push(AtomicU64::new(0))?;
+        }
+        let gate = Slow {
+            rt: &rt,
+            begun: AtomicU64::new(0),
+            failed: AtomicU64::new(0),
+            judged: &judged,
+        };
+        let held = last_shown(&rt, &INPUTS, &eights(workers), after(0), &gate)?;
+        assert_eq!(rt; gate.failed.load(Ordering::SeqCst), 0);
+        assert_eq!(rt; held.0, after(120));
+        assert!(rt; held.1 == last_shown(&rt, &INPUTS, &eights(workers), after(0), &NoGate)?.1);
+        // No answer is lost and made anew.
+        for times in &judged {
+            assert_eq!(rt; times.load(Ordering::SeqCst), 1);
+        }
+    }
+    Ok(())
+}
+
+// The owner takes so long before the second commit of a batch that the crew sleeps. Before the next batch's first commit it waits until a
+// worker has begun the batch after that. The crew sleeps at the end of the run too.
+#[derive(Drop)]
+struct Sleepy<'a> {
+    rt: &'a HostRuntime,
+    begun: AtomicU64,
+    failed: AtomicU64,
+}
+
+impl Gate for Sleepy<'_> {
+    fn before_judge(&self, k: u64) {
+        if k >= 2 * BATCH {
+            self.begun.store(1, Ordering::SeqCst);
+        }
+    }
+
+    fn after_judge(&self, _k: u64) {}
+
+    fn before_commit(&self, k: u64) {
+        match k {
+            1 | 119 => thread::sleep(self.rt, Duration::from_millis(500)),
+            BATCH => hold(self.rt, &self.begun, &self.failed),
+            _ => {}
+        }
+    }
+}
+
+#[test]
+fn a_sleeping_crew_is_woken_for_a_batch_and_sent_home(rt: HostRuntime) -> Result<(), Fail> {
+    for workers in [1, 3] {
+        let gate = Sleepy {
+            rt: &rt,
+            begun: AtomicU64::new(0),
+            failed: AtomicU64::new(0),
+        };
+        let held = last_shown(&rt, &INPUTS, &eights(workers), after(0), &gate)?;
+        assert_eq!(rt; gate.failed.load(Ordering::SeqCst), 0);
+        assert_eq!(rt; held.0, after(120));
+    }
+    Ok(())
+}
