@@ -59,6 +59,7 @@ fn redone<'x, R: AllocGlobal + Threads + Wait + Sync>(
         moves: Moves::Given(MOVES),
         batch,
         workers: 2,
+        stop: None,
     };
     let mut report = Counted::new(Vec::new(rt.alloc()));
     let mut place = Counted::new(Vec::new(rt.alloc()));
