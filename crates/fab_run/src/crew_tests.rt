@@ -67,7 +67,11 @@ fn all_workers_of_a_run_judge_at_once(rt: HostRuntime) -> Result<(), Fail> {
                 failed: AtomicU64::new(0),
             };
             let held = last_shown(&rt, &INPUTS, &eights(workers), after(0), &gate)?;
-            assert_eq!(rt; gate.failed.load(Ordering::SeqCst), 0, "{workers} workers at {at}");
+            assert_eq!(rt;
+                gate.failed.load(Ordering::SeqCst),
+                0,
+                "{workers} workers at {at}"
+            );
             assert_eq!(rt; gate.begun.load(Ordering::SeqCst), workers);
             assert!(rt; held.1 == last_shown(&rt, &INPUTS, &eights(workers), after(0), &NoGate)?.1);
         }
