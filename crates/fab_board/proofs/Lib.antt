@@ -6,3 +6,4 @@ pub mod Filling
 pub mod Fronts
 pub mod Adding
 pub mod Placing
+pub mod Steps

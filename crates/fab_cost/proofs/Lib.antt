@@ -30,3 +30,4 @@ pub mod Passing
 pub mod Held
 pub mod Most
 pub mod LaneBoxes
+pub mod Columns

@@ -1,0 +1,489 @@
+//! The threads of a crew. Each worker has a state of its own, follows what the owner posts, and judges units of numbers that it claims on the
+//! board.
+
+ghost use Rattle.std.specs.Prelude.{All, ◌≡◌, ℕ, ◌+◌, ◌<◌, ◌≤◌, List, [], length, true, Some, IfOk, vec_len};
+
+use crate::board::{Board, ClaimSeat};
+use crate::book::{Book, Front, Naming};
+use crate::claimer::{Boarding, Claimer, Desk};
+use crate::follow::{Follow, Follower, Origin, Posted, Sheet, judge_unit};
+use crate::plan::Plan;
+use crate::waiting::{Lone, wait_past};
+use std::alloc::{AllocError, Global};
+use std::sync::atomic::{AtomicU64, Ordering};
+use std::sync::{Arc, Mutex, RwLock, Wait};
+use std::thread::Threads;
+use std::{mem, thread};
+
+/// Where a judged unit waits for the owner, and the used sheet of an earlier one for a worker.
+#[derive(Drop)]
+pub(crate) struct Place<S: Follow<E, T>, E: Drop, T: Drop, J: Naming + Boarding + Origin<S>> {
+    /// Which unit was taken here last, and whether it is judged. It only grows.
+    word: AtomicU64,
+    sheet: Mutex<Sheet<S, E, T, J>>,
+    room: [u64; 8],
+}
+
+/// What a worker begins with.
+#[derive(Drop)]
+struct Kit<S: Follow<E, T>, E: Drop, T: Drop, J: Naming + Boarding + Origin<S>> {
+    follower: Follower<S, E, T, J>,
+    sheet: Sheet<S, E, T, J>,
+    claimer: Claimer<J>,
+}
+
+/// What a worker begins with, and how many posts it has followed.
+#[derive(Drop)]
+struct Seat<S: Follow<E, T>, E: Drop, T: Drop, J: Naming + Boarding + Origin<S>> {
+    start: Mutex<Option<Kit<S, E, T, J>>>,
+    followed: Lone,
+}
+
+/// What the threads of a crew share.
+#[derive(Drop)]
+pub struct Shared<S: Follow<E, T>, E: Drop, T: Drop, J: Naming + Boarding + Origin<S>> {
+    pub(crate) book: Book<E, J>,
+    desk: Desk<J>,
+    pub(crate) plan: Plan,
+    posts: Vec<RwLock<Option<Posted<S, E, T, J>>>>,
+    places: Vec<Place<S, E, T, J>>,
+    seats: Vec<Seat<S, E, T, J>>,
+    /// How many posts there are.
+    posted: Lone,
+    /// So many claims were made at least.
+    claimed: Lone,
+    asleep: Lone,
+    owner_asleep: Lone,
+    stop: Lone,
+}
+
+/// What the owner finds where it looks for a unit.
+#[derive(Clone, Copy, PartialEq, Eq)]
+pub(crate) enum Fetched {
+    /// Its sheet.
+    Here,
+    /// Somebody judges it.
+    Taken,
+    /// Nobody had taken it: it is the owner's.
+    Mine,
+}
+
+/// The word of a place whose unit somebody has taken.
+fn taken(unit: u64) -> u64 {
+    unit.min(1 << 61) * 2 + 1
+}
+
+/// The word of a place whose unit is judged, or is judged by the owner.
+fn ready(unit: u64) -> u64 {
+    unit.min(1 << 61) * 2 + 2
+}
+
+/// A worker that is gone has followed so many posts.
+const GONE: u64 = 1 << 63;
+
+/// How many posts may wait for a worker that is late.
+const POSTS: u64 = 64;
+
+/// Of how many turns there are places.
+const TURNS: u64 = 4;
+
+impl<S: Follow<E, T>, E: Drop, T: Drop, J: Naming + Boarding + Origin<S>> Shared<S, E, T, J> {
+    /// The place of a unit.
+    fn place_of(&self, unit: u64) -> Option<&Place<S, E, T, J>> {
+        let ring = self.plan.units().saturating_mul(TURNS).max(1);
+        self.places.get((unit % ring) as usize)
+    }
+
+    /// Takes the next post of the ring. Returns whether it could.
+    fn follow_next<R: Wait>(&self, rt: &R, by: &mut Follower<S, E, T, J>) -> bool
+        ensures { result ≡ true → length by.new ≡ length by.old + 1 }
+    {
+        let Some(slot) = self.posts.get((by.len() % POSTS) as usize) else {
+            return false;
+        };
+        let guard = slot.read(rt);
+        match &*guard {
+            Some(posted) => by.follow(posted),
+            None => false,
+        }
+    }
+
+    /// Follows posts until it has followed so many. Returns whether it could.
+    pub(crate) fn follow_to<R: Wait>(
+        &self,
+        rt: &R,
+        by: &mut Follower<S, E, T, J>,
+        goal: u64,
+    ) -> bool {
+        let from = by.len();
+        for _ in from..goal {
+            if !self.follow_next(rt, by) {
+                return false;
+            }
+        }
+        true
+    }
+
+    /// Judges a unit whose turn's post was followed last.
+    pub(crate) fn judge_unit(
+        &self,
+        by: &mut Follower<S, E, T, J>,
+        sheet: &mut Sheet<S, E, T, J>,
+        unit: u64,
+    )
+        ensures { by.new ≡ by.old }
+    {
+        let begin = self.plan.begin_of(unit);
+        judge_unit(
+            by,
+            by.first().saturating_add(begin),
+            self.count_of(by, unit),
+            sheet,
+        );
+    }
+
+    /// How many numbers a unit has, whose turn's post was followed last.
+    pub(crate) fn count_of(&self, by: &Follower<S, E, T, J>, unit: u64) -> u64 {
+        by.count()
+            .saturating_sub(self.plan.begin_of(unit))
+            .min(self.plan.size())
+    }
+
+    /// Takes a unit. Returns whether it could: not if somebody has taken it before.
+    pub(crate) fn take(&self, unit: u64) -> bool {
+        let Some(place) = self.place_of(unit) else {
+            return false;
+        };
+        let seen = place.word.load(Ordering::SeqCst);
+        if seen >= taken(unit) {
+            return false;
+        }
+        place
+            .word
+            .compare_exchange(seen, taken(unit), Ordering::SeqCst, Ordering::SeqCst)
+            .is_ok()
+    }
+
+    /// Hands a sheet over for a used one.
+    pub(crate) fn hand_over<R: Wait>(&self, rt: &R, sheet: &mut Sheet<S, E, T, J>, unit: u64) {
+        if let Some(place) = self.place_of(unit) {
+            mem::swap(&mut *place.sheet.lock(rt), sheet);
+            place.word.store(ready(unit), Ordering::SeqCst);
+            if self.owner_asleep.load() != 0 {
+                place.word.wake_all();
+            }
+        }
+    }
+
+    /// Waits until a unit is posted that nobody has claimed, and follows the posts before it. Returns whether there is one: not if the crew
+    /// is sent home.
+    fn is_work<R: Wait>(&self, rt: &R, followed: &Lone, by: &mut Follower<S, E, T, J>) -> bool {
+        for _ in rt.forever() {
+            let posted = self.posted.load();
+            if self.stop.load() != 0 {
+                return false;
+            }
+            let turn = self.plan.turn_of(self.claimed.load());
+            let goal = turn.saturating_add(1).min(posted);
+            if by.len() < goal {
+                if !self.follow_to(rt, by, goal) {
+                    return false;
+                }
+                followed.store(by.len());
+            }
+            if turn < posted {
+                return true;
+            }
+            wait_past(rt, &self.posted.word, &self.asleep, posted);
+        }
+        unreachable!()
+    }
+
+    /// Waits until a turn is posted, and follows its post. Returns whether it is: not if the crew is sent home.
+    fn is_posted<R: Wait>(
+        &self,
+        rt: &R,
+        followed: &Lone,
+        by: &mut Follower<S, E, T, J>,
+        turn: u64,
+    ) -> bool {
+        for _ in rt.forever() {
+            let posted = self.posted.load();
+            if self.stop.load() != 0 {
+                return false;
+            }
+            if turn < posted {
+                let could = self.follow_to(rt, by, turn.saturating_add(1));
+                followed.store(by.len());
+                return could;
+            }
+            wait_past(rt, &self.posted.word, &self.asleep, posted);
+        }
+        unreachable!()
+    }
+
+    /// Claims units and judges them, until the crew is sent home.
+    fn work_on<R: Wait>(&self, rt: &R, followed: &Lone, kit: &mut Kit<S, E, T, J>) {
+        for _ in rt.forever() {
+            if !self.is_work(rt, followed, &mut kit.follower) {
+                return;
+            }
+            let Some(unit) = self.desk.claim(&mut kit.claimer) else {
+                return;
+            };
+            self.claimed.add_one();
+            let turn = self.plan.turn_of(unit);
+            if !self.is_posted(rt, followed, &mut kit.follower, turn) {
+                return;
+            }
+            // The last units of a short turn are empty.
+            if self.count_of(&kit.follower, unit) > 0 && self.take(unit) {
+                self.judge_unit(&mut kit.follower, &mut kit.sheet, unit);
+                self.hand_over(rt, &mut kit.sheet, unit);
+            }
+        }
+    }
+
+    /// A worker's life.
+    fn work<R: Wait>(&self, rt: &R, me: usize) {
+        let Some(seat) = self.seats.get(me) else {
+            return;
+        };
+        let taken = seat.start.lock(rt).take();
+        if let Some(mut kit) = taken {
+            self.work_on(rt, &seat.followed, &mut kit);
+        }
+        seat.followed.store(GONE);
+    }
+
+    /// How many posts each worker has followed at least.
+    pub(crate) fn followed_by_all(&self) -> u64 {
+        let mut least = GONE;
+        for seat in &self.seats {
+            least = least.min(seat.followed.load());
+        }
+        least
+    }
+
+    /// Waits until each worker has followed so many posts.
+    pub(crate) fn wait_for_all<R: Wait>(&self, rt: &R, goal: u64) {
+        for seat in &self.seats {
+            for _ in rt.forever() {
+                if seat.followed.load() >= goal {
+                    break;
+                }
+                thread::yield_now();
+            }
+        }
+    }
+
+    /// Puts a post into the ring, and gives back the one whose slot it takes.
+    pub(crate) fn put<R: Wait>(
+        &self,
+        rt: &R,
+        number: u64,
+        posted: Posted<S, E, T, J>,
+    ) -> Option<E> {
+        let mut old = Some(posted);
+        if let Some(slot) = self.posts.get((number % POSTS) as usize) {
+            mem::swap(&mut *slot.write(rt), &mut old);
+        }
+        self.posted.store(number.saturating_add(1));
+        if self.asleep.load() != 0 {
+            self.posted.word.wake_all();
+        }
+        match old {
+            Some(posted) => Some(posted.into_post()),
+            None => None,
+        }
+    }
+
+    /// Brings the sheet of a judged unit for a used one. If nobody has taken the unit, takes it for the owner.
+    pub(crate) fn fetch<R: Wait>(
+        &self,
+        rt: &R,
+        unit: u64,
+        sheet: &mut Sheet<S, E, T, J>,
+    ) -> Fetched {
+        let Some(place) = self.place_of(unit) else {
+            return Fetched::Mine;
+        };
+        let seen = place.word.load(Ordering::SeqCst);
+        if seen >= ready(unit) {
+            mem::swap(&mut *place.sheet.lock(rt), sheet);
+            return Fetched::Here;
+        }
+        if seen == taken(unit) {
+            return Fetched::Taken;
+        }
+        let mine = place
+            .word
+            .compare_exchange(seen, ready(unit), Ordering::SeqCst, Ordering::SeqCst);
+        match mine {
+            Ok(_) => Fetched::Mine,
+            Err(_) => Fetched::Taken,
+        }
+    }
+
+    /// Waits until a unit that somebody has taken is judged.
+    pub(crate) fn wait_for<R: Wait>(&self, rt: &R, unit: u64) {
+        if let Some(place) = self.place_of(unit) {
+            wait_past(rt, &place.word, &self.owner_asleep, taken(unit));
+        }
+    }
+
+    /// How many posts may wait for a worker that is late.
+    pub(crate) fn is_room(&self, followed: u64, number: u64) -> bool {
+        followed.saturating_add(POSTS) > number
+    }
+
+    /// So many posts have to be followed by all before post `number` has a slot.
+    pub(crate) fn goal_for(&self, number: u64) -> u64 {
+        number.saturating_sub(POSTS).saturating_add(1)
+    }
+
+    /// Sends the crew home.
+    pub(crate) fn send_home(&self) {
+        self.stop.store(1);
+        self.posted.add_one();
+        self.posted.word.wake_all();
+    }
+}
+
+/// The ring of places, each with a sheet.
+fn all_places<S: Follow<E, T>, E: Drop, T: Drop, J: Naming + Boarding + Origin<S>>(
+    alloc: Global,
+    by: &Follower<S, E, T, J>,
+    front: &Front<E, J>,
+    plan: Plan,
+) -> Result<Vec<Place<S, E, T, J>>, AllocError> {
+    let mut places = Vec::new(alloc);
+    for _ in 0..plan.units().saturating_mul(TURNS) {
+        places.push(Place {
+            word: AtomicU64::new(0),
+            sheet: Mutex::new(Sheet::new(front.again(), by.places(alloc, plan.size())?)),
+            room: [0; 8],
+        })?;
+    }
+    Ok(places)
+}
+
+fn all_posts<S: Follow<E, T>, E: Drop, T: Drop, J: Naming + Boarding + Origin<S>>(
+    alloc: Global,
+) -> Result<Vec<RwLock<Option<Posted<S, E, T, J>>>>, AllocError> {
+    let mut posts = Vec::new(alloc);
+    for _ in 0..POSTS {
+        posts.push(RwLock::new(None))?;
+    }
+    Ok(posts)
+}
+
+fn new_seat<S: Follow<E, T>, E: Drop, T: Drop, J: Naming + Boarding + Origin<S>>(
+    alloc: Global,
+    state: S,
+    seat: ClaimSeat,
+    front: &Front<E, J>,
+    plan: Plan,
+) -> Result<Seat<S, E, T, J>, AllocError>
+    requires start { J.start ≡ Some state }
+    requires seat { seat.board ≡ J.board }
+    requires empty { front.now ≡ [] }
+{
+    let follower = Follower::new(state, front.again());
+    let sheet = Sheet::new(front.again(), follower.places(alloc, plan.size())?);
+    Ok(Seat {
+        start: Mutex::new(Some(Kit {
+            follower,
+            sheet,
+            claimer: Claimer::new(seat),
+        })),
+        followed: Lone::new(0),
+    })
+}
+
+fn all_seats<S: Follow<E, T>, E: Drop, T: Drop, J: Naming + Boarding + Origin<S>>(
+    alloc: Global,
+    mut states: Vec<S>,
+    mut claims: Vec<ClaimSeat>,
+    front: &Front<E, J>,
+    plan: Plan,
+) -> Result<Vec<Seat<S, E, T, J>>, AllocError>
+    requires start { All (λ s. J.start ≡ Some s) states.items }
+    requires claims { All (λ s. s.board ≡ J.board) claims.items }
+    requires empty { front.now ≡ [] }
+{
+    let mut seats = Vec::new(alloc);
+    for _ in 0..states.len() {
+        let Some(state) = states.pop() else {
+            break;
+        };
+        let Some(claim) = claims.pop() else {
+            break;
+        };
+        seats.push(new_seat(alloc, state, claim, front, plan)?)?;
+    }
+    Ok(seats)
+}
+
+/// What the threads of a crew share before any has joined: a worker for each of the states that has a seat of the board.
+pub(crate) fn new_shared<S: Follow<E, T>, E: Drop, T: Drop, J: Naming + Boarding + Origin<S>>(
+    alloc: Global,
+    book: Book<E, J>,
+    board: Board,
+    claims: Vec<ClaimSeat>,
+    states: Vec<S>,
+    by: &Follower<S, E, T, J>,
+    front: &Front<E, J>,
+    plan: Plan,
+) -> Result<Shared<S, E, T, J>, AllocError>
+    requires board { board.name ≡ J.board }
+    requires claims { All (λ s. s.board ≡ J.board) claims.items }
+    requires starts { All (λ s. J.start ≡ Some s) states.items }
+    requires empty { front.now ≡ [] }
+{
+    let posts = all_posts(alloc)?;
+    let places = all_places(alloc, by, front, plan)?;
+    let seats = all_seats(alloc, states, claims, front, plan)?;
+    Ok(Shared {
+        book,
+        desk: Desk::new(board),
+        plan,
+        posts,
+        places,
+        seats,
+        posted: Lone::new(0),
+        claimed: Lone::new(0),
+        asleep: Lone::new(0),
+        owner_asleep: Lone::new(0),
+        stop: Lone::new(0),
+    })
+}
+
+/// Runs the workers of a crew: one in this thread, and each other one in its own. Returns when the owner's end is dropped; at once if
+/// there are no workers. A worker that the system refuses to start leaves its work to the others.
+pub fn work_all<
+    S: Follow<E, T> + Send + Sync,
+    E: Drop + Send + Sync,
+    T: Drop + Send + Sync,
+    J: Naming + Boarding + Origin<S> + Send + Sync,
+    R: Threads + Wait + Sync,
+>(rt: &R, crew: &Shared<S, E, T, J>) {
+    let workers = crew.seats.len();
+    thread::scope(thread::scope_env(), rt, |scope| {
+        for me in 1..workers {
+            if scope.spawn(move || crew.work(rt, me)).is_err() {
+                crew.leave_out(me);
+            }
+        }
+        crew.work(rt, 0);
+    });
+}
+
+impl<S: Follow<E, T>, E: Drop, T: Drop, J: Naming + Boarding + Origin<S>> Shared<S, E, T, J> {
+    /// Notes that a worker was not started.
+    fn leave_out(&self, me: usize) {
+        if let Some(seat) = self.seats.get(me) {
+            seat.followed.store(GONE);
+        }
+    }
+}
