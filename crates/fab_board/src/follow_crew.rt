@@ -175,15 +175,23 @@ impl<S: Follow<E, T>, E: Drop, T: Drop, J: Naming + Boarding + Origin<S>> Shared
         }
     }
 
-    /// Waits until a unit is posted that nobody has claimed, and follows the posts before it. Returns whether there is one: not if the crew
-    /// is sent home.
-    fn is_work<R: Wait>(&self, rt: &R, followed: &Lone, by: &mut Follower<S, E, T, J>) -> bool {
+    /// Waits until the turn of a unit is posted, and follows its post: that of the unit which the worker has claimed, or else of the next one
+    /// that nobody has claimed. Returns whether it is: not if the crew is sent home.
+    ///
+    /// A worker that waits has followed all that is posted. The owner may wait for that, before it posts again.
+    fn is_posted<R: Wait>(
+        &self,
+        rt: &R,
+        followed: &Lone,
+        by: &mut Follower<S, E, T, J>,
+        unit: Option<u64>,
+    ) -> bool {
         for _ in rt.forever() {
             let posted = self.posted.load();
             if self.stop.load() != 0 {
                 return false;
             }
-            let turn = self.plan.turn_of(self.claimed.load());
+            let turn = self.plan.turn_of(unit.unwrap_or(self.claimed.load()));
             let goal = turn.saturating_add(1).min(posted);
             if by.len() < goal {
                 if !self.follow_to(rt, by, goal) {
@@ -199,41 +207,17 @@ impl<S: Follow<E, T>, E: Drop, T: Drop, J: Naming + Boarding + Origin<S>> Shared
         unreachable!()
     }
 
-    /// Waits until a turn is posted, and follows its post. Returns whether it is: not if the crew is sent home.
-    fn is_posted<R: Wait>(
-        &self,
-        rt: &R,
-        followed: &Lone,
-        by: &mut Follower<S, E, T, J>,
-        turn: u64,
-    ) -> bool {
-        for _ in rt.forever() {
-            let posted = self.posted.load();
-            if self.stop.load() != 0 {
-                return false;
-            }
-            if turn < posted {
-                let could = self.follow_to(rt, by, turn.saturating_add(1));
-                followed.store(by.len());
-                return could;
-            }
-            wait_past(rt, &self.posted.word, &self.asleep, posted);
-        }
-        unreachable!()
-    }
-
     /// Claims units and judges them, until the crew is sent home.
     fn work_on<R: Wait>(&self, rt: &R, followed: &Lone, kit: &mut Kit<S, E, T, J>) {
         for _ in rt.forever() {
-            if !self.is_work(rt, followed, &mut kit.follower) {
+            if !self.is_posted(rt, followed, &mut kit.follower, None) {
                 return;
             }
             let Some(unit) = self.desk.claim(&mut kit.claimer) else {
                 return;
             };
             self.claimed.add_one();
-            let turn = self.plan.turn_of(unit);
-            if !self.is_posted(rt, followed, &mut kit.follower, turn) {
+            if !self.is_posted(rt, followed, &mut kit.follower, Some(unit)) {
                 return;
             }
             // The last units of a short turn are empty.
