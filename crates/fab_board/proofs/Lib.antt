@@ -6,4 +6,3 @@ pub mod Filling
 pub mod Fronts
 pub mod Adding
 pub mod Placing
-pub mod Steps

@@ -4,4 +4,3 @@ pub mod Dealt
 pub mod Judged
 pub mod Examples
 pub mod Posts
-pub mod Follows

@@ -4,23 +4,14 @@
 
 mod board;
 mod book;
-mod claimer;
 mod crew;
-mod follow;
-pub mod follow_crew;
-pub mod follow_lead;
 mod gate;
 mod judge;
-mod plan;
 mod rule;
 mod slots;
-mod waiting;
 
 pub use board::{Board, ClaimSeat, Claims};
 pub use book::{Naming, Opened};
-pub use claimer::Boarding;
 pub use crew::{Lead, Shared, Task, new_crew, work_all};
-pub use follow::{Follow, Origin, Sheet};
 pub use gate::{Gate, NoGate};
 pub use judge::judge_batch;
-pub use plan::Plan;

@@ -6,11 +6,9 @@ pub mod Beginning
 pub mod ByTurns
 pub mod ByChains
 pub mod CatchingUp
-pub mod Counting
 pub mod Committing
 pub mod Folding
 pub mod Owning
-pub mod Parts
 pub mod Pipelining
 pub mod Showing
 pub mod Stamping
@@ -18,5 +16,3 @@ pub mod Standings
 pub mod Kept
 pub mod Alone
 pub mod Ended
-pub mod Followed
-pub mod Foreseeing

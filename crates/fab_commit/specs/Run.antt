@@ -1,13 +1,9 @@
 -- What contracts say of the annealer that a run executes (our own).
-pub mod Behind
-pub mod Beside
 pub mod Commits
 pub mod Owners
 pub mod Pipelines
 pub mod Points
 pub mod Readings
-pub mod Followed
-pub mod Foreseen
 pub mod Groups
 pub mod StampTables
 pub mod Workers

@@ -32,6 +32,8 @@ pub use laws::{
 pub use model::events::{Event, Way};
 pub use model::world::World;
 pub use run::annealer::Anneal;
+pub use run::crew::{Crew, beside, found_crew};
+pub use run::job::Work;
 pub use run::point::Point;
-pub use run::stage::StagePlan;
 pub use run::turn::Turn;
+pub use run::workers::Workers;

@@ -3,20 +3,14 @@
 
 pub mod alone;
 pub mod annealer;
-pub mod behind;
-mod beside;
 pub mod crew;
-mod followed;
-pub mod foreseen;
 pub mod job;
 mod looking;
 mod net_stamps;
 mod owner;
 mod pipeline;
 pub mod point;
-pub mod post;
 mod single_turn;
-pub mod stage;
 mod stamps;
 pub(crate) mod state;
 pub(crate) mod swaps;

@@ -30,4 +30,3 @@ pub mod Passing
 pub mod Held
 pub mod Most
 pub mod LaneBoxes
-pub mod Columns

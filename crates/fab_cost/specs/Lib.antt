@@ -3,5 +3,4 @@ pub mod Boxes
 pub mod Edges
 pub mod Swapping
 pub mod Changes
-pub mod SizedRows
 pub mod Runs

@@ -157,10 +157,10 @@ pub record HasLarge (d : Netlist) (rows : List (List ℕ)) : Type 0 where
 
 -- the nets of each block of a design
 pub record HasRecords (p : Runs) (d : Netlist) : Type 0 where
-  pub small : HasRows {W = 3} d 1 4 p.rows.small
-  pub middle : HasRows {W = 7} d 4 8 p.rows.middle
-  pub wide : HasRows {W = 15} d 8 16 p.rows.wide
-  pub large : HasLarge d p.rows.large
+  pub small : HasRows {W = 3} d 1 4 p.small
+  pub middle : HasRows {W = 7} d 4 8 p.middle
+  pub wide : HasRows {W = 15} d 8 16 p.wide
+  pub large : HasLarge d p.large
 
 -- the costs of these nets with few terminals
 abbrev pub few_cost : Netlist → GridShape → List Site → List ℕ → ℕ

@@ -304,7 +304,7 @@ fn change_of_larges(
     let _nx = grid.nx();
     let _ny = grid.ny();
     let _nets = design.nets();
-    let row = runs.rows.large_row(block.0 as usize);
+    let row = runs.large.row(block.0 as usize);
     let mut gained: u64 = 0;
     let mut lost: u64 = 0;
     'places: for k in 0..row.len() {
@@ -460,7 +460,7 @@ fn renew_larges(
     let _nx = grid.nx();
     let _ny = grid.ny();
     let _nets = design.nets();
-    let row = runs.rows.large_row(block.0 as usize);
+    let row = runs.large.row(block.0 as usize);
     let mut gained: u64 = 0;
     let mut lost: u64 = 0;
     'places: for k in 0..row.len() {

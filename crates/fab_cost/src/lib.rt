@@ -14,7 +14,6 @@ pub mod net_box;
 pub mod net_boxes;
 mod records;
 mod runs;
-mod sized_rows;
 mod small_nets;
 mod swap_change;
 mod whole_boxes;

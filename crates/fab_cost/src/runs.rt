@@ -12,7 +12,6 @@ ghost use Rattle.fab_cost.specs.Swapping.{counted_blocks};
 use crate::block_nets::{count_of_nets, net_of};
 use crate::crossings::cross;
 use crate::records::Record;
-use crate::sized_rows::{SizedRows, together};
 use fab_net::rows::{Rows, gather};
 use fab_net::{BlockId, Design, NetId, Terminal};
 use std::alloc::{AllocError, Global};
@@ -20,7 +19,10 @@ use std::alloc::{AllocError, Global};
 /// Of each block its nets with 2 to 4, 5 to 8 and 9 to 16 terminals, and the places, among the block's nets, of those with
 /// more. Of each net that is not global the block of each terminal. Nets of one terminal cost the same everywhere.
 pub struct Runs {
-    pub(crate) rows: SizedRows,
+    pub(crate) small: Rows<Record<3>>,
+    pub(crate) middle: Rows<Record<7>>,
+    pub(crate) wide: Rows<Record<15>>,
+    pub(crate) large: Rows<u32>,
     pub(crate) terminals: Rows<u16>,
 }
 
@@ -28,9 +30,30 @@ impl Drop for Runs {
     // A written `drop` is one step of a proof wherever a value goes out of scope; a derived one is proved again each time.
     fn drop(self) {
         let Runs {
-            rows: _,
+            small: _,
+            middle: _,
+            wide: _,
+            large: _,
             terminals: _,
         } = self;
+    }
+}
+
+impl Runs {
+    /// Reads what a change of cost reads first of a block's nets. What it returns has no meaning.
+    pub(crate) fn look_at(&self, block: BlockId) -> u64 {
+        looked(&self.small, block)
+            ^ looked(&self.middle, block)
+            ^ looked(&self.wide, block)
+            ^ u64::from(*self.large.near_row(block.0 as usize).unwrap_or(&0))
+    }
+}
+
+/// Reads a record at the start of a block's.
+fn looked<const W: usize>(rows: &Rows<Record<W>>, block: BlockId) -> u64 {
+    match rows.near_row(block.0 as usize) {
+        Some(record) => u64::from(record.factor),
+        None => 0,
     }
 }
 
@@ -234,13 +257,13 @@ pub(crate) fn runs_of(alloc: Global, design: &Design) -> Result<Runs, AllocError
     ensures records { IfOk result (λ runs. HasRecords runs design.now) }
     ensures terminals { IfOk result (λ runs. runs.terminals ≡ counted_blocks design.now) }
 {
-    let small = records_between(alloc, design, 1, SMALL)?;
-    let middle = records_between(alloc, design, SMALL, MIDDLE)?;
-    let wide = records_between(alloc, design, MIDDLE, WIDE)?;
-    let large = large_nets(alloc, design)?;
-    let rows = together(alloc, small, middle, wide, large)?;
-    let terminals = blocks_by_net(alloc, design)?;
-    Ok(Runs { rows, terminals })
+    Ok(Runs {
+        small: records_between(alloc, design, 1, SMALL)?,
+        middle: records_between(alloc, design, SMALL, MIDDLE)?,
+        wide: records_between(alloc, design, MIDDLE, WIDE)?,
+        large: large_nets(alloc, design)?,
+        terminals: blocks_by_net(alloc, design)?,
+    })
 }
 
 impl Runs {
@@ -249,7 +272,10 @@ impl Runs {
         ensures { IfOk result (λ runs. runs ≡ self.now) }
     {
         Ok(Runs {
-            rows: self.rows.copy()?,
+            small: self.small.copy()?,
+            middle: self.middle.copy()?,
+            wide: self.wide.copy()?,
+            large: self.large.copy()?,
             terminals: self.terminals.copy()?,
         })
     }

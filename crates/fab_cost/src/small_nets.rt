@@ -72,16 +72,15 @@ fn change_of_step(
     let base = lanes_of(grid, step.from);
     let target = lanes_of(grid, step.to);
     let row = step.block.0 as usize;
-    let one = change_of_run(lanes, moved, base, target, runs.rows.small_row(row));
-    let two = change_of_run(lanes, moved, base, target, runs.rows.middle_row(row));
-    let three = change_of_run(lanes, moved, base, target, runs.rows.wide_row(row));
+    let one = change_of_run(lanes, moved, base, target, runs.small.row(row));
+    let two = change_of_run(lanes, moved, base, target, runs.middle.row(row));
+    let three = change_of_run(lanes, moved, base, target, runs.wide.row(row));
     plus(one, plus(two, three))
 }
 
 #[tactic(auto, using(crate::proofs::Sited::block_below, crate::proofs::Steps::few_none, crate::proofs::Steps::few_some))]
 /// How the swap changes the cost of the small nets: first its block goes, then the other. The records of the first have only other blocks,
 /// so none is looked for among them.
-#[inline(always)]
 pub(crate) fn change_of_small(
     lanes: &[u16x4],
     runs: &Runs,

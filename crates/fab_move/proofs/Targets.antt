@@ -1,6 +1,6 @@
 -- A target is a site of the block's kind.
-use Rattle.std.proofs.Common.{◌≡◌, ℕ, ◌+◌, ◌/◌, ◌<◌, ◌≤◌, Bool, true, false, cond, ◌&&◌, ◌||◌, ◌==◌, List, [], ◌∷◌, length, get_or, Some, refl, sym, ap, ◌∙◌, inl, inr, arith}
-use Rattle.std.specs.Prelude.{if◌then◌else◌, nat_le, nat_lt, None}
+use Rattle.std.proofs.Common.{◌≡◌, ℕ, ◌+◌, ◌/◌, ◌<◌, ◌≤◌, Bool, true, false, cond, ◌&&◌, ◌||◌, ◌==◌, List, [], ◌∷◌, length, get_or, Some, zero, suc, slice_get, refl, sym, ap, ◌∙◌, inl, inr, arith}
+use Rattle.std.specs.Prelude.{nat_le, nat_lt}
 use Rattle.std.specs.List.{list_any, filter, All, AllByRecursion}
 use Rattle.std.proofs.lemmas.Bool.{and_parts, and_from, or_cases, or_left, or_right, le-leb, lt-ltb, eqb-true, eq-eqb, false≢true}
 use Rattle.std.proofs.lemmas.List.Elements.{All-filter, All-from_recursion}
@@ -9,7 +9,9 @@ use Rattle.fab_arch.specs.declared.array.SiteKind.TheVariants as site_kind
 use Rattle.fab_arch.specs.Grid.{GridShape, perimeter, is_logic_site, is_position, is_pad_site, kind_at}
 use Rattle.fab_arch.proofs.Perimeter.{round_is}
 use Rattle.std.proofs.lemmas.Bool.Decides.{nat_tests}
-use Rattle.fab_net.specs.Netlist.{Netlist, is_logic_at}
+use Rattle.fab_net.specs.declared.pieces.BlockKind.{BlockKind}
+use Rattle.fab_net.specs.declared.pieces.BlockKind.TheVariants.{Logic}
+use Rattle.fab_net.specs.Netlist.{Netlist, is_logic, is_logic_at}
 use Rattle.fab_site.specs.Placement.{Fits, kind_wanted, site}
 use Rattle.fab_move.specs.Propose.{logic_target, within, near_positions, pad_target, target}
 
@@ -111,13 +113,10 @@ fits_logic d g b s h k = k ∙ ap (λ x. Some x) (sym (wanted_logic d b h))
 pub fits_pad : (d : Netlist) (g : GridShape) (b : ℕ) (s : Site) → is_logic_at d b ≡ false → kind_at g s ≡ Some site_kind.Pad → Fits d g b s
 fits_pad d g b s h k = k ∙ ap (λ x. Some x) (sym (wanted_pad d b h))
 
--- a block's site tells its kind
-pub kind_by_site : (d : Netlist) (g : GridShape) (b : ℕ) (s : Site) → Fits d g b s → is_logic_site g s ≡ is_logic_at d b
-kind_by_site d g b s h = by_both (is_logic_site g s) (is_pad_site g s) (is_logic_at d b) h
+pub kind_known : (d : Netlist) (b : ℕ) (k : BlockKind) → slice_get d.kinds b ≡ Some k → is_logic_at d b ≡ is_logic k
+kind_known d b k e = ap is_logic (known d.kinds b k e)
   where
-    by_both : (logic pad wanted : Bool) → (if logic then Some site_kind.Logic else if pad then Some site_kind.Pad else None) ≡ Some (if wanted then site_kind.Logic else site_kind.Pad) → logic ≡ wanted
-    by_both true pad true h = refl
-    by_both true pad false h = absurd cc
-    by_both false true true h = absurd cc
-    by_both false false true h = absurd cc
-    by_both false pad false h = refl
+    known : (ks : List BlockKind) (i : ℕ) (x : BlockKind) → slice_get ks i ≡ Some x → get_or ks i Logic ≡ x
+    known [] i x h = absurd cc
+    known (y ∷ ks) zero x h = (let g : Some y ≡ Some x = h in cc)
+    known (y ∷ ks) (suc i) x h = known ks i x h

@@ -1,6 +1,6 @@
 //! Judging a move on a view.
 
-ghost use Rattle.std.specs.Prelude.{◌≡◌, ℕ, ◌<◌, ◌++◌, length, map, false, pos, None, Some, slice_index, IfOk, OnErr, OnOk};
+ghost use Rattle.std.specs.Prelude.{◌≡◌, ℕ, ◌<◌, ◌++◌, length, map, false, pos, None, Some, slice_index, IfOk, OnOk};
 ghost use Rattle.fab_site.specs.Placement.{IsLegal, IsSwapOf};
 ghost use Rattle.fab_move.specs.declared.marks.Mark.TheVariants.{Net as net_mark};
 ghost use Rattle.fab_move.specs.declared.proposals.Proposal.TheVariants.{Move as proposes};
@@ -14,6 +14,7 @@ use crate::verdicts::{Decision, Verdict, View};
 use fab_cost::WireCost;
 use fab_net::{BlockId, Design, NetId};
 use fab_site::{Swap, Words};
+use smallvec::SmallVec;
 use std::alloc::{AllocError, Global};
 
 /// Judges a move on a view: its swap, the change of cost, whether it is accepted, and the marks that this rests on. By contract the
@@ -29,34 +30,16 @@ pub fn judge<C: WireCost, W: Words>(
     ensures lawful { IfOk result (λ v. (s : Swap) → v.swap ≡ Some s → IsSwapOf view.now.grid.now view.now.placement.now.sites s) }
     ensures judged { IfOk result (λ v. says v ≡ judged (problem view.now.design.now view.now.grid.now view.now.fixed.now (W.moves view.now.words.now)) view.now.placement.now.sites k view.now.t view.now.range) }
 {
-    let mut verdict = Verdict::blank(alloc);
-    judge_into(view, k, &mut verdict)?;
-    Ok(verdict)
-}
-
-/// Judges a move on a view, as [`judge`] does, and writes the verdict over what a lent place holds, so that it is not moved. By contract
-/// the placement is legal and the wire cost is that of the placement. An error means that memory ran out; then the place's footprint is cut
-/// off, and its other fields are as they were.
-pub fn judge_into<C: WireCost, W: Words>(
-    view: &View<'_, C, W>,
-    k: u64,
-    place: &mut Verdict,
-) -> Result<(), AllocError>
-    requires legal { IsLegal view.now.design.now view.now.grid.now view.now.fixed.now view.now.placement.now.sites }
-    requires stands { C.StandsFor view.now.cost.now view.now.design.now view.now.grid.now view.now.placement.now.sites }
-    ensures number { OnOk result (place.new.k ≡ k) }
-    ensures lawful { OnOk result ((s : Swap) → place.new.swap ≡ Some s → IsSwapOf view.now.grid.now view.now.placement.now.sites s) }
-    ensures judged { OnOk result (says place.new ≡ judged (problem view.now.design.now view.now.grid.now view.now.fixed.now (W.moves view.now.words.now)) view.now.placement.now.sites k view.now.t view.now.range) }
-    ensures rest { OnErr result (place.new ≡ record place.old { footprint = place.new.footprint }) }
-{
     let (proposal, word) = proposed(view, k);
-    write_footprint(&mut place.footprint, view.design, proposal)?;
+    let footprint = footprint_of(alloc, view.design, proposal)?;
     let decision = weigh(view, proposal, word);
-    place.k = k;
-    place.swap = decision.swap;
-    place.delta = decision.delta;
-    place.accepted = decision.accepted;
-    Ok(())
+    Ok(Verdict {
+        k,
+        swap: decision.swap,
+        delta: decision.delta,
+        accepted: decision.accepted,
+        footprint,
+    })
 }
 
 /// Decides a move on a view: the result of [`judge`] without the footprint. Allocates nothing. By contract the placement is legal and
@@ -67,8 +50,8 @@ pub fn decide<C: WireCost, W: Words>(view: &View<'_, C, W>, k: u64) -> Decision
     ensures lawful { (s : Swap) → result.swap ≡ Some s → IsSwapOf view.now.grid.now view.now.placement.now.sites s }
     ensures decided { IsDecision result (judged (problem view.now.design.now view.now.grid.now view.now.fixed.now (W.moves view.now.words.now)) view.now.placement.now.sites k view.now.t view.now.range) }
 {
-    let (proposal, last_word) = proposed(view, k);
-    weigh(view, proposal, last_word)
+    let (proposal, word) = proposed(view, k);
+    weigh(view, proposal, word)
 }
 
 #[inline(always)]
@@ -131,17 +114,13 @@ fn without_swap() -> Decision
     }
 }
 
-/// Writes the marks that a proposal rests on over what was there.
-fn write_footprint(
-    footprint: &mut Footprint,
-    design: &Design,
-    proposal: Proposal,
-) -> Result<(), AllocError>
+/// The marks that a proposal rests on.
+fn footprint_of(alloc: Global, design: &Design, proposal: Proposal) -> Result<Footprint, AllocError>
     requires block { (s : Swap) → proposal ≡ proposes s → s.block.0 < length design.now.kinds }
     requires other { (s : Swap) (b : BlockId) → proposal ≡ proposes s → s.other ≡ Some b → b.0 < length design.now.kinds }
-    ensures { OnOk result (footprint.new.items ≡ footprint_is design.now proposal) }
+    ensures { IfOk result (λ f. f.items ≡ footprint_is design.now proposal) }
 {
-    footprint.clear();
+    let mut footprint = SmallVec::new(alloc);
     match proposal {
         Proposal::Nothing => {}
         Proposal::Void(block, target) => {
@@ -150,13 +129,13 @@ fn write_footprint(
         }
         Proposal::Move(swap) => {
             footprint.push(Mark::Place(swap.to))?;
-            push_block(footprint, design, swap.block)?;
+            push_block(&mut footprint, design, swap.block)?;
             if let Some(other) = swap.other {
-                push_block(footprint, design, other)?;
+                push_block(&mut footprint, design, other)?;
             }
         }
     }
-    Ok(())
+    Ok(footprint)
 }
 
 /// Adds a block and its nets.

@@ -17,7 +17,7 @@ pub mod verdicts;
 mod windows;
 
 pub use acceptance::accepts;
-pub use judging::{decide, judge, judge_into, weigh};
+pub use judging::{decide, judge, weigh};
 pub use marks::{Footprint, Mark};
 pub use proposals::{Proposal, chosen, propose};
 pub use stream_words::StreamWords;

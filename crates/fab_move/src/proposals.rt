@@ -13,7 +13,7 @@ ghost use Rattle.fab_move.specs.Chosen.{holder_is_fixed, number_of};
 use crate::runs::Window;
 use crate::windows::bounds_near;
 use fab_arch::{Grid, Site};
-use fab_net::{BlockId, Design};
+use fab_net::{BlockId, BlockKind, Design};
 use fab_site::{Fixed, Placement, Swap, pick};
 
 /// What a move proposes.
@@ -112,7 +112,6 @@ fn pad_target(grid: &Grid, from: Site, reach: u64, words: [u32; 4]) -> Site
 
 #[tactic(auto, using(crate::proofs::Targets::target_logic, crate::proofs::Targets::target_pad, crate::proofs::Targets::fits_logic, crate::proofs::Targets::fits_pad))]
 /// The target of a block that is at `from`. The range is in thousandths.
-#[inline(always)]
 fn target(
     design: &Design,
     grid: &Grid,
@@ -126,33 +125,26 @@ fn target(
     ensures value { result ≡ target_of design.now grid.now block.0 from range words }
     ensures fits { Fits design.now grid.now block.0 result }
 {
-    if is_logic_block(design, grid, block, from) {
+    if is_logic_block(design, block) {
         logic_target(grid, from, range / 1000, words)
     } else {
         pad_target(grid, from, range / 1000, words)
     }
 }
 
-#[tactic(auto, using(crate::proofs::Targets::kind_by_site))]
-#[inline(always)]
-/// Whether a block that stands at `from` is a logic block and not a pad. Its site tells that, so nothing is looked up.
-fn is_logic_block(_design: &Design, grid: &Grid, _block: BlockId, from: Site) -> bool
-    requires { Fits _design.now grid.now _block.0 from }
-    ensures { result ≡ is_logic_at _design.now _block.0 }
+#[tactic(auto, using(crate::proofs::Targets::kind_known))]
+/// Whether a block is a logic block and not a pad.
+fn is_logic_block(design: &Design, block: BlockId) -> bool
+    requires { block.0 < length design.now.kinds }
+    ensures { result ≡ is_logic_at design.now block.0 }
 {
-    is_on_logic(grid, from)
-}
-
-#[inline(always)]
-/// Whether a site is one of the array's logic sites.
-fn is_on_logic(grid: &Grid, site: Site) -> bool
-    ensures { result ≡ is_logic_site grid.now site }
-{
-    1 <= site.x && site.x <= grid.nx() && (1 <= site.y && site.y <= grid.ny()) && site.sub == 0
+    match design.kind(block) {
+        BlockKind::Logic => true,
+        BlockKind::InputPad | BlockKind::OutputPad => false,
+    }
 }
 
 /// The proposal for a block and its target.
-#[inline(always)]
 fn propose_to(
     fixed: &Fixed,
     placement: &Placement,

@@ -3,8 +3,7 @@ ghost use Rattle.fab_site.specs.Placement.{IsLegal};
 
 use crate::move_tables::wanted_lines;
 use crate::{
-    Decision, Mark, Proposal, StreamWords, Verdict, View, accepts, decide, judge, judge_into,
-    propose, weigh,
+    Decision, Mark, Proposal, StreamWords, Verdict, View, accepts, decide, judge, propose, weigh,
 };
 use fab_arch::{Grid, Site, read_arch};
 use fab_cost::EdgeBoxes;
@@ -122,7 +121,7 @@ fn proposed(placed: &Placed, range: u64, words: [u32; 4]) -> Option<Proposal> {
     Some(propose(design, grid, fixed, placement, range, words))
 }
 
-// The verdict on a move. Fails if the placement is not legal, or if `decide`, `weigh`, `judge_into` and `judge` differ.
+// The verdict on a move. Fails if the placement is not legal, or if `decide`, `weigh` and `judge` differ.
 fn judged<W: Words>(
     alloc: Global,
     placed: &Placed,
@@ -165,21 +164,7 @@ fn judged<W: Words>(
     if weigh(&view, proposal, four[3]) != without_marks {
         return Err(Fail::from("weighed and judged are two"));
     }
-    let mut place = judge(alloc, &view, k ^ 1)?;
-    judge_into(&view, k, &mut place)?;
-    if !are_same(&place, &verdict) {
-        return Err(Fail::from("written and judged are two"));
-    }
     Ok(verdict)
-}
-
-// Whether two verdicts say the same.
-fn are_same(one: &Verdict, other: &Verdict) -> bool {
-    one.k == other.k
-        && one.swap == other.swap
-        && one.delta == other.delta
-        && one.accepted == other.accepted
-        && one.footprint.as_slice() == other.footprint.as_slice()
 }
 
 // The words of one move, with these start words.

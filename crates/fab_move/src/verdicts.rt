@@ -1,14 +1,9 @@
 //! What a judgement reads, and what it returns.
 
-ghost use Rattle.std.specs.Prelude.{◌≡◌, [], false, pos, None};
-ghost use Rattle.fab_move.specs.Judge.{says};
-
 use crate::marks::Footprint;
 use fab_arch::Grid;
 use fab_net::Design;
 use fab_site::{Fixed, Placement, Swap};
-use smallvec::SmallVec;
-use std::alloc::Global;
 
 /// What a judgement reads: a placement with its wire cost, the words of all moves, and the temperature `t` (in ten-thousandths) and
 /// the `range` (in thousandths) of the running stage. All of it is borrowed, and nothing is changed.
@@ -37,23 +32,6 @@ pub struct Verdict {
     pub accepted: bool,
     /// The marks that the judgement rests on.
     pub footprint: Footprint,
-}
-
-impl Verdict {
-    /// A place for a verdict: that of move 0 without a swap and without marks, which no move has. [`judge_into`](crate::judge_into) writes
-    /// over it.
-    pub fn blank(alloc: Global) -> Verdict
-        ensures number { result.k ≡ 0 }
-        ensures says { says result ≡ record { swap = None; change = pos 0; accepted = false; footprint = [] } }
-    {
-        Verdict {
-            k: 0,
-            swap: None,
-            delta: 0,
-            accepted: false,
-            footprint: SmallVec::new(alloc),
-        }
-    }
 }
 
 /// The judgement of a move without its number and footprint.

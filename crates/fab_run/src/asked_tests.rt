@@ -1,13 +1,20 @@
-// How often the words of moves are asked for, in runs with a crew.
+// How often the words of moves are asked for, in runs with a crew that stands from the first move to the last.
+ghost use Rattle.std.specs.Prelude.{◌≡◌, ◌≤◌};
+ghost use Rattle.fab_sched.specs.Annealing.{IsLawful};
+
+use crate::crews::{Course, anneal_beside};
 use crate::piece::unwatched;
 use crate::run_tests::{INPUTS, OPTIONS, SEVEN, SHORT, writer_with};
 use crate::setting::read_setting;
-use crate::stages::{Pace, anneal_all};
+use crate::stages::Pace;
 use crate::{Inputs, Options, RunFault};
-use fab_board::NoGate;
-use fab_commit::Anneal;
-use fab_move::StreamWords;
+use fab_board::{Naming, NoGate, Opened};
+use fab_commit::{Anneal, Work, Workers, found_crew};
+use fab_dial::{Dial, Shower};
+use fab_move::{StreamWords, Verdict};
 use fab_site::{Words, start};
+use std::alloc::Global;
+use std::marker::Brand;
 use std::sync::Wait;
 use std::sync::atomic::{AtomicU64, Ordering};
 use std::test::*;
@@ -35,7 +42,52 @@ impl<'a, V: Words + Drop> Words for AskedWords<'a, V> {
     }
 }
 
-// Makes the moves of a run by words that are counted. The answer is how many moves were made, and how many judged again.
+// Makes the moves of a run while a crew judges ahead. The answer is how many moves were made, and how many judged again.
+fn made_beside<
+    'a,
+    J: Naming + Send + Sync,
+    V: Words + Send + Sync + Drop,
+    R: Threads + Wait + Sync,
+>(
+    rt: &R,
+    alloc: Global,
+    opened: Opened<Work<'a, 'static, V, NoGate>>,
+    anneal: Anneal<'a, V>,
+    pace: &Pace,
+    dial: &Dial,
+    shower: &mut Shower,
+) -> Result<(u64, u64), RunFault>
+    requires book { opened ≡ J.book }
+    requires own { shower.old.dial ≡ dial.now }
+    requires moves { pace.now.moves ≡ anneal.plan.moves }
+    requires plan { IsLawful anneal.plan }
+    requires limits { (1 ≤ pace.now.batch) × (pace.now.batch ≤ 4096) × (1 ≤ pace.now.workers) × (pace.now.workers ≤ 64) }
+{
+    let mut report = writer_with(alloc, 10_000);
+    let (crew, lead) = found_crew::<Work<'a, 'static, V, NoGate>, Verdict, J>(
+        alloc,
+        opened,
+        pace.workers,
+    )?;
+    let mut course = Course {
+        anneal,
+        workers: Workers::crew(lead, &NoGate),
+        costs: Vec::new(alloc),
+    };
+    anneal_beside(
+        rt,
+        alloc,
+        crew,
+        &mut course,
+        pace,
+        dial,
+        shower,
+        &mut report,
+    )?;
+    Ok((course.anneal.done(), course.anneal.redone()))
+}
+
+// The same of a run of texts by words that are counted.
 fn run_asked<R: AllocGlobal + Threads + Wait + Sync>(
     rt: &R,
     inputs: &Inputs,
@@ -55,24 +107,11 @@ fn run_asked<R: AllocGlobal + Threads + Wait + Sync>(
         asked,
     };
     let placement = start(alloc, &design, &grid, &pins, &words)?;
-    let mut anneal = Anneal::new(
+    let anneal = Anneal::new(
         alloc, &design, &grid, placement, pins.fixed, schedule, words,
     )?;
     let (dial, mut shower) = unwatched(rt, alloc)?;
-    let mut report = writer_with(alloc, 10_000);
-    let mut costs = Vec::new(alloc);
-    anneal_all(
-        rt,
-        alloc,
-        &mut anneal,
-        &pace,
-        &NoGate,
-        &dial,
-        &mut shower,
-        &mut report,
-        &mut costs,
-    )?;
-    Ok((anneal.done(), anneal.redone()))
+    made_beside::<Brand, _, R>(rt, alloc, Opened::new(), anneal, &pace, &dial, &mut shower)
 }
 
 #[test]

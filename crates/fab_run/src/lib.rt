@@ -8,6 +8,7 @@ pub mod check;
 mod check_tests;
 #[cfg(test)]
 mod crew_tests;
+mod crews;
 mod designs;
 pub mod fault;
 pub mod inputs;

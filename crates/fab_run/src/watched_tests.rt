@@ -387,7 +387,7 @@ fn a_gate_that_may_wait_has_a_crew_in_each_stage(rt: HostRuntime) -> Result<(), 
 }
 
 // Follows the calls from a move on. They are right if those of each move come by themselves, in order of number, as they do if the owner
-// judges alone. With one worker it does, where no gate waits.
+// judges alone.
 #[derive(Drop)]
 struct InOrder {
     from: u64,
@@ -447,10 +447,9 @@ fn alone_from<R: AllocGlobal + Threads + Wait + Sync>(
 }
 
 #[test]
-fn the_owner_alone_makes_long_stages(rt: HostRuntime) -> Result<(), Fail> {
+fn the_owner_alone_makes_a_long_first_stage(rt: HostRuntime) -> Result<(), Fail> {
     let options = Options {
         moves: Moves::Given(4096),
-        workers: 1,
         ..SHORT
     };
     let alone = alone_from(&rt, &options, 4096, 0)?;
@@ -461,31 +460,32 @@ fn the_owner_alone_makes_long_stages(rt: HostRuntime) -> Result<(), Fail> {
     Ok(())
 }
 
-// In each run the owner makes all stages alone.
+// In each run a crew judges the first stage ahead, and the owner makes the other three alone: both have to hand over and to end.
 #[test]
-fn many_runs_end_that_the_owner_makes_alone(rt: HostRuntime) -> Result<(), Fail> {
+fn many_runs_end_in_which_crew_and_owner_judge_by_turns(rt: HostRuntime) -> Result<(), Fail> {
     let options = Options {
         moves: Moves::Given(300),
-        workers: 1,
         ..SHORT
     };
     let once = last_shown(&rt, &SEVEN, &options, after(0), &NoGate)?;
-    for _run in 0..20u64 {
-        let again = alone_from(&rt, &options, 300, 0)?;
-        assert_eq!(rt; again.0, once.0);
-        assert!(rt; again.1 == once.1);
+    for workers in [1, 2, 3] {
+        let options = Options { workers, ..options };
+        for _run in 0..20u64 {
+            let again = alone_from(&rt, &options, 300, 300)?;
+            assert_eq!(rt; again.0, once.0);
+            assert!(rt; again.1 == once.1);
+        }
     }
     Ok(())
 }
 
-// The seven blocks on a large array.
+// The seven blocks on an array so large that the older placement follows after each turn of a stage that the owner makes alone.
 const SPARSE: Options = Options {
     size: Some((60, 60)),
     init_t: 4_000_000,
     exit_t: 1_000_000,
     moves: Moves::Given(100),
     batch: 8,
-    workers: 1,
     ..SHORT
 };
 
@@ -502,7 +502,7 @@ fn many_runs_end_with_short_stages_on_a_large_array(rt: HostRuntime) -> Result<(
     let crew = last_shown(&rt, &SEVEN, &SPARSE, after(0), &gate)?;
     assert_eq!(rt; gate.judged.load(Ordering::SeqCst), 400);
     for _run in 0..20u64 {
-        let alone = alone_from(&rt, &SPARSE, 100, 0)?;
+        let alone = alone_from(&rt, &SPARSE, 100, 100)?;
         assert_eq!(rt; alone.0, crew.0);
         assert!(rt; alone.1 == crew.1);
     }

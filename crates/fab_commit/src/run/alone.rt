@@ -1,29 +1,31 @@
 //! Stages whose moves the owner judges itself, each on the live placement. Most judgements made ahead would be spoilt there, and the owner
 //! counts those that would.
 
-ghost use Rattle.std.specs.Prelude.{◌≡◌, ℕ, ◌+◌, ◌<◌, ◌≤◌, ◌++◌, [], ◌∷◌, false, length, Some, MatchResult, OnOk};
+ghost use Rattle.std.specs.Prelude.{◌≡◌, ℕ, ◌+◌, ◌<◌, ◌≤◌, ◌++◌, [], ◌∷◌, false, length, Some, IsTrue, MatchResult, OnOk, OnErr};
 ghost use Rattle.std.specs.Arc.{arc_value};
 ghost use Rattle.std.specs.List.{count_by, range_with_len};
 ghost use Rattle.fab_sched.specs.Annealing.{IsLawful};
 ghost use Rattle.fab_site.specs.Placement.{IsSwapOf};
 ghost use Rattle.fab_move.specs.Judge.{IsDecision};
-ghost use Rattle.fab_commit.specs.Serial.{judged_here};
-ghost use Rattle.fab_commit.specs.Run.Alone.{AreOpen, AreWords, HasGone, IsAlone, is_touched_here};
+ghost use Rattle.fab_commit.specs.Serial.{judged_here, moves_left};
+ghost use Rattle.fab_commit.specs.Run.Alone.{AreOpen, AreWords, HasFinished, HasGone, HaveGone, IsAlone, LeadsTo, LeadsWithin, is_touched_here};
 ghost use Rattle.fab_commit.specs.Run.Commits.{IsSound, run_for, standing_of};
 ghost use Rattle.fab_commit.specs.Run.Owners.{HasMade, HasRoom, IsOwned, Leads};
+ghost use Rattle.fab_commit.specs.Run.Pipelines.{HasTurn, IsBehind};
 ghost use Rattle.fab_commit.specs.Run.Readings.{reading_at};
 ghost use Rattle.fab_commit.specs.Model.History.{is_redone};
 ghost use Rattle.fab_commit.specs.Model.TurnEvents.{LastTurn, next_turn};
 
 use crate::run::looking::{AT_ONCE, look_ahead};
 use crate::run::owner::{Owner, stamp};
-use crate::run::pipeline::reserve;
+use crate::run::pipeline::{Pipeline, catch_up_alone, reserve};
 use crate::run::state::{Given, State, commit, moves_left, view_of};
-use crate::run::swaps::enter;
+use crate::run::swaps::{Accepted, enter};
 use fab_board::Gate;
 use fab_cost::WireCost;
 use fab_dial::{Dial, Reading, Shower};
 use fab_move::{Decision, propose, weigh};
+use fab_site::index::site_count;
 use fab_site::{Swap, Words};
 use std::alloc::AllocError;
 use std::sync::{Arc, Wait};
@@ -38,8 +40,7 @@ pub(crate) struct Ahead {
 
 /// Decides the next move on the live placement, by its words. Returns the decision, and whether a judgement on the placement after `base`
 /// moves was spoilt: whether a move accepted since has touched what the move rests on. Allocates nothing.
-#[inline(always)]
-pub(crate) fn decided_alone<W: Words>(
+fn decided_alone<W: Words>(
     given: &Given<'_, W>,
     owner: &Owner,
     base: u64,
@@ -113,7 +114,7 @@ fn commit_some<W: Words, G: Gate>(
 
 /// Makes the next moves of the running stage. `base` is the number of moves in the placement that they count as judged on. `looked` gets
 /// what was read early, which has no meaning. Allocates nothing.
-pub(crate) fn commit_alone<W: Words, G: Gate>(
+fn commit_alone<W: Words, G: Gate>(
     given: &Given<'_, W>,
     owner: &mut Owner,
     moves: u64,
@@ -171,7 +172,7 @@ pub(crate) fn turn_alone<W: Words, G: Gate>(
 }
 
 /// Shows on the dial how far the run has come.
-pub(crate) fn show_state<W: Words, R: Wait>(
+fn show_state<W: Words, R: Wait>(
     rt: &R,
     _given: &Given<'_, W>,
     state: &State,
@@ -191,6 +192,100 @@ pub(crate) fn show_state<W: Words, R: Wait>(
     dial.show(rt, shower, reading);
 }
 
+/// Makes the swaps of a turn on the older state too, if it follows after each turn.
+fn follow_turn<W: Words, R: Wait>(
+    rt: &R,
+    given: &Given<'_, W>,
+    older: &mut Arc<State>,
+    each: bool,
+    live: &State,
+    swaps: &[Accepted],
+)
+    requires older { IsSound (run_for W.moves given.now) (arc_value older.old) }
+    requires live { IsSound (run_for W.moves given.now) live.now }
+    requires leads { IsTrue each → Leads given.now.grid.now (arc_value older.old).placement.sites swaps.now live.now.placement.sites }
+    ensures same { IsTrue each → standing_of (arc_value older.new) ≡ standing_of live.now }
+    ensures sound { IsSound (run_for W.moves given.now) (arc_value older.new) }
+{
+    if each {
+        catch_up_alone(rt, given, older, live, swaps);
+    }
+}
+
+/// How the rest of a stage is made alone.
+#[derive(Drop)]
+pub(crate) struct AlonePlan<'g, G: Gate> {
+    /// How many moves a turn has at most.
+    pub(crate) batch: u64,
+    /// Whether the older state follows after each turn; else it is copied whole at the end.
+    pub(crate) each: bool,
+    /// The gate of the judgements and the commits.
+    pub(crate) gate: &'g G,
+    /// The dial that shows each turn.
+    pub(crate) dial: &'g Dial,
+}
+
+/// Makes the moves that are left in the running stage, by turns, and shows after each turn how far the run has come. If memory runs out,
+/// the turns that were made stay.
+fn turns_alone<W: Words, G: Gate, R: Wait>(
+    rt: &R,
+    given: &Given<'_, W>,
+    state: &mut Pipeline,
+    plan: &AlonePlan<'_, G>,
+    ahead: &mut Ahead,
+    shower: &mut Shower,
+) -> Result<(), AllocError>
+    requires alone { (t : LastTurn) × IsAlone (run_for W.moves given.now) t state.old.owner ahead.old }
+    requires some { 0 < moves_left (run_for W.moves given.now) (standing_of state.old.owner.state) }
+    requires older { IsSound (run_for W.moves given.now) (arc_value state.old.older) }
+    requires same { IsTrue plan.now.each → standing_of (arc_value state.old.older) ≡ standing_of state.old.owner.state }
+    requires batch { (1 ≤ plan.now.batch) × (plan.now.batch ≤ 4096) }
+    requires own { shower.old.dial ≡ plan.now.dial.now }
+    ensures older { IsSound (run_for W.moves given.now) (arc_value state.new.older) }
+    ensures same { IsTrue plan.now.each → standing_of (arc_value state.new.older) ≡ standing_of state.new.owner.state }
+    ensures left { (t : LastTurn) × IsAlone (run_for W.moves given.now) t state.new.owner ahead.new }
+    ensures none { ahead.new.moves ≡ 0 }
+    ensures gone { OnOk result ((t : LastTurn) → IsAlone (run_for W.moves given.now) t state.old.owner ahead.old → (n : ℕ) × HaveGone (run_for W.moves given.now) plan.now.batch t state.old.owner n (moves_left (run_for W.moves given.now) (standing_of state.old.owner.state)) state.new.owner ahead.new) }
+    ensures dial { shower.new.dial ≡ shower.old.dial }
+    ensures shown { OnOk result (LeadsTo (run_for W.moves given.now) plan.now.batch (standing_of state.old.owner.state) (standing_of state.new.owner.state) shower.old.shown shower.new.shown) }
+    ensures shown_cut { OnErr result (LeadsWithin (run_for W.moves given.now) plan.now.batch (standing_of state.old.owner.state) (moves_left (run_for W.moves given.now) (standing_of state.old.owner.state)) shower.old.shown shower.new.shown) }
+{
+    let mut left = moves_left(&given.schedule, &state.owner.state);
+    while left > 0 {
+        let before = state.owner.state.done;
+        let looked = &mut state.looked;
+        match turn_alone(
+            given,
+            &mut state.owner,
+            *ahead,
+            plan.batch,
+            plan.gate,
+            looked,
+        ) {
+            Ok(next) => *ahead = next,
+            Err(error) => {
+                *ahead = Ahead {
+                    base: before,
+                    moves: 0,
+                };
+                return Err(error);
+            }
+        }
+        let owner = &state.owner;
+        follow_turn(
+            rt,
+            given,
+            &mut state.older,
+            plan.each,
+            &owner.state,
+            &owner.swaps,
+        );
+        show_state(rt, given, &owner.state, plan.dial, shower);
+        left -= owner.state.done - before;
+    }
+    Ok(())
+}
+
 /// Makes an older state the same as the live one. Allocates nothing.
 fn follow<W: Words>(_given: &Given<'_, W>, older: &mut State, live: &State)
     requires older { IsSound (run_for W.moves _given.now) older.old }
@@ -207,7 +302,7 @@ fn follow<W: Words>(_given: &Given<'_, W>, older: &mut State, live: &State)
 }
 
 /// Makes the older state the same as the live one, as soon as no worker holds it any more.
-pub(crate) fn follow_alone<W: Words, R: Wait>(
+fn follow_alone<W: Words, R: Wait>(
     rt: &R,
     given: &Given<'_, W>,
     older: &mut Arc<State>,
@@ -226,4 +321,68 @@ pub(crate) fn follow_alone<W: Words, R: Wait>(
         thread::yield_now();
     }
     unreachable!()
+}
+
+/// Makes the older state the same as the live one, if it did not follow after each turn.
+fn follow_at_end<W: Words, R: Wait>(
+    rt: &R,
+    given: &Given<'_, W>,
+    older: &mut Arc<State>,
+    each: bool,
+    live: &State,
+)
+    requires older { IsSound (run_for W.moves given.now) (arc_value older.old) }
+    requires live { IsSound (run_for W.moves given.now) live.now }
+    requires same { IsTrue each → standing_of (arc_value older.old) ≡ standing_of live.now }
+    ensures stands { standing_of (arc_value older.new) ≡ standing_of live.now }
+    ensures sound { IsSound (run_for W.moves given.now) (arc_value older.new) }
+{
+    if each {
+        return;
+    }
+    follow_alone(rt, given, older, live);
+}
+
+/// If a stage has fewer than one move for so many blocks, nets and sites, the older state follows by the swaps of each turn. Else it is
+/// copied whole at the end of the stage.
+const ENTRIES_A_MOVE: u64 = 16;
+
+/// Whether the older state follows after each turn of a stage of `left` moves.
+pub(crate) fn is_short<W: Words>(given: &Given<'_, W>, left: u64) -> bool {
+    let entries = given
+        .design
+        .blocks()
+        .saturating_add(given.design.nets())
+        .saturating_add(site_count(given.grid));
+    left.saturating_mul(ENTRIES_A_MOVE) < entries as u64
+}
+
+/// Makes the moves that are left in the running stage, each judged by the owner, by turns. If memory runs out, the turns that were made
+/// stay, and nothing is judged ahead.
+pub(crate) fn finish_alone<W: Words, G: Gate, R: Wait>(
+    rt: &R,
+    given: &Given<'_, W>,
+    state: &mut Pipeline,
+    plan: &AlonePlan<'_, G>,
+    shower: &mut Shower,
+) -> Result<(), AllocError>
+    requires behind { HasTurn (run_for W.moves given.now) state.old }
+    requires some { 0 < moves_left (run_for W.moves given.now) (standing_of state.old.owner.state) }
+    requires batch { (1 ≤ plan.now.batch) × (plan.now.batch ≤ 4096) }
+    requires own { shower.old.dial ≡ plan.now.dial.now }
+    ensures left { HasTurn (run_for W.moves given.now) state.new }
+    ensures finished { OnOk result ((t : LastTurn) → IsBehind (run_for W.moves given.now) t state.old → (n : ℕ) × HasFinished (run_for W.moves given.now) plan.now.batch t state.old n state.new) }
+    ensures dial { shower.new.dial ≡ shower.old.dial }
+    ensures shown { OnOk result (LeadsTo (run_for W.moves given.now) plan.now.batch (standing_of state.old.owner.state) (standing_of state.new.owner.state) shower.old.shown shower.new.shown) }
+    ensures shown_cut { OnErr result (LeadsWithin (run_for W.moves given.now) plan.now.batch (standing_of state.old.owner.state) (moves_left (run_for W.moves given.now) (standing_of state.old.owner.state)) shower.old.shown shower.new.shown) }
+{
+    let mut ahead = Ahead {
+        base: state.base,
+        moves: state.ahead.len() as u64,
+    };
+    let made = turns_alone(rt, given, state, plan, &mut ahead, shower);
+    follow_at_end(rt, given, &mut state.older, plan.each, &state.owner.state);
+    state.base = ahead.base;
+    state.ahead.clear();
+    made
 }

@@ -9,19 +9,19 @@ ghost use Rattle.fab_move.specs.Judge.{says};
 ghost use Rattle.fab_commit.specs.declared.model.judged.JudgedMove.{JudgedMove};
 ghost use Rattle.fab_commit.specs.Serial.{IsStanding, at_start, from, moves_left, stage_of};
 ghost use Rattle.fab_commit.specs.Run.Alone.{IsFinishedAlone};
-ghost use Rattle.fab_commit.specs.Run.Beside.{IsMadeInPart};
 ghost use Rattle.fab_commit.specs.Run.Commits.{IsSound, run, run_for, run_of, standing_of, turn_of};
 ghost use Rattle.fab_commit.specs.Run.Points.{IsPoint, TellsPoint, going_on, standing_at};
-ghost use Rattle.fab_commit.specs.Run.Readings.{reading_at};
+ghost use Rattle.fab_commit.specs.Run.Readings.{IsShown, reading_at};
+ghost use Rattle.fab_commit.specs.Run.Turned.{IsTurned};
 
-use crate::run::beside::finish;
-use crate::run::pipeline::{Pipeline, first_pipeline};
+use crate::run::alone::{AlonePlan, finish_alone, is_short};
+use crate::run::pipeline::{Pipeline, first_pipeline, make_turn};
 use crate::run::point::{Point, point_of};
-use crate::run::stage::StagePlan;
 use crate::run::state::{Given, State, first_state, moves_left, running, state_at};
 use crate::run::turn::Turn;
+use crate::run::workers::Workers;
 use fab_arch::Grid;
-use fab_board::Gate;
+use fab_board::{Gate, Naming};
 use fab_cost::WireCost;
 use fab_dial::{Dial, Reading, Shower};
 use fab_move::Verdict;
@@ -261,47 +261,59 @@ impl<'a, W: Words + Drop> Anneal<'a, W> {
     }
 }
 
-impl<'a, W: Words + Send + Sync + Drop> Anneal<'a, W> {
-    /// Makes the moves that are left in the running stage, of which there are some, by turns of the plan's batch, each of which shows on the
-    /// dial how far the run has come. The plan's workers judge moves ahead. With none, the calling thread judges each move when its turn
-    /// comes, and counts the judgements ahead that would have been spoilt. By contract the shower is one of the plan's dial.
+impl<'a, W: Words + Drop> Anneal<'a, W> {
+    /// Makes the moves that are left in the running stage, of which there are some. The calling thread judges each when its turn comes, on
+    /// the live placement; no move is judged ahead. The moves are those of turns of `batch` moves, from 1 to 4,096, which show on the dial
+    /// how far the run has come, and whose judgements ahead would have been spoilt as often. By contract the shower is one of this dial.
     ///
-    /// The gate is called before and after the first judgement of each move, and before its commit.
+    /// The gate is called before and after the judgement of each move, and before its commit.
     ///
     /// An error means that memory ran out. Then the turns that were made stay, and nothing is judged ahead.
-    pub fn finish_stage<G: Gate, R: Threads + Wait + Sync>(
+    pub fn finish_stage_alone<G: Gate, R: Wait>(
         &mut self,
         rt: &R,
-        plan: &StagePlan<'_, G>,
+        batch: u64,
+        gate: &G,
+        dial: &Dial,
         shower: &mut Shower,
     ) -> Result<(), AllocError>
         requires some { 0 < moves_left (run_of W.moves self.old) self.old.standing }
-        requires batch { (1 ≤ plan.now.batch) × (plan.now.batch ≤ 4096) }
-        requires workers { plan.now.workers ≤ 64 }
-        requires own { shower.old.dial ≡ plan.now.dial.now }
-        ensures finished { IsFinishedAlone W.moves plan.now.batch self.old self.new result shower.old.shown shower.new.shown }
+        requires batch { (1 ≤ batch) × (batch ≤ 4096) }
+        requires own { shower.old.dial ≡ dial.now }
+        ensures finished { IsFinishedAlone W.moves batch self.old self.new result shower.old.shown shower.new.shown }
         ensures dial { shower.new.dial ≡ shower.old.dial }
     {
-        let left = moves_left(&self.given.schedule, &self.pipeline.owner.state);
-        finish(rt, &self.given, &mut self.pipeline, plan, left, shower)
+        let given: &Given<'_, W> = &self.given;
+        let left = moves_left(&given.schedule, &self.pipeline.owner.state);
+        let plan = AlonePlan {
+            batch,
+            each: is_short(given, left),
+            gate,
+            dial,
+        };
+        finish_alone(rt, given, &mut self.pipeline, &plan, shower)
     }
+}
 
-    /// Makes the next `count` moves of the running stage, at most all that are left, of which there are some, as [`Anneal::finish_stage`] does.
-    /// The last turn may be shorter than the others. Then nothing is judged ahead.
-    pub fn make_part<G: Gate, R: Threads + Wait + Sync>(
+impl<'a, W: Words + Sync + Drop> Anneal<'a, W> {
+    /// Makes a turn as [`Anneal::turn_shown`] does, with workers that stay for the next turn.
+    pub fn turn_shown_by<'g, G: Gate, J: Naming, R: Threads + Wait + Sync>(
         &mut self,
         rt: &R,
-        count: u64,
-        plan: &StagePlan<'_, G>,
+        batch: u64,
+        workers: &mut Workers<'a, 'g, W, G, J>,
+        dial: &Dial,
         shower: &mut Shower,
-    ) -> Result<(), AllocError>
-        requires some { (count ≤ moves_left (run_of W.moves self.old) self.old.standing) × (0 < moves_left (run_of W.moves self.old) self.old.standing) }
-        requires batch { (1 ≤ plan.now.batch) × (plan.now.batch ≤ 4096) }
-        requires workers { plan.now.workers ≤ 64 }
-        requires own { shower.old.dial ≡ plan.now.dial.now }
-        ensures made { IsMadeInPart W.moves plan.now.batch count self.old self.new result shower.old.shown shower.new.shown }
+    ) -> Result<Turn, AllocError>
+        requires batch { (1 ≤ batch) × (batch ≤ 4096) }
+        requires own { shower.old.dial ≡ dial.now }
+        ensures turned { IsTurned W.moves batch self.old self.new result }
         ensures dial { shower.new.dial ≡ shower.old.dial }
+        ensures shown { IsShown W.moves self.old self.new result shower.old.shown shower.new.shown }
     {
-        finish(rt, &self.given, &mut self.pipeline, plan, count, shower)
+        let before = self.done();
+        make_turn(rt, &self.given, &mut self.pipeline, batch, workers)?;
+        self.show_since(rt, before, dial, shower);
+        Ok(self.left())
     }
 }

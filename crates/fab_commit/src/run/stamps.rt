@@ -112,7 +112,6 @@ impl Stamps {
     }
 
     /// Whether what a proposal rests on was touched by move `base` or a later one.
-    #[inline(always)]
     pub(crate) fn is_touched(
         &self,
         design: &Design,
