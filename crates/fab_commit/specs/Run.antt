@@ -4,7 +4,6 @@ pub mod Owners
 pub mod Pipelines
 pub mod Points
 pub mod Readings
-pub mod Groups
 pub mod StampTables
 pub mod Workers
 pub mod Turned

@@ -5,8 +5,6 @@ pub mod alone;
 pub mod annealer;
 pub mod crew;
 pub mod job;
-mod looking;
-mod net_stamps;
 mod owner;
 mod pipeline;
 pub mod point;

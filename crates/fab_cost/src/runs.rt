@@ -39,24 +39,6 @@ impl Drop for Runs {
     }
 }
 
-impl Runs {
-    /// Reads what a change of cost reads first of a block's nets. What it returns has no meaning.
-    pub(crate) fn look_at(&self, block: BlockId) -> u64 {
-        looked(&self.small, block)
-            ^ looked(&self.middle, block)
-            ^ looked(&self.wide, block)
-            ^ u64::from(*self.large.near_row(block.0 as usize).unwrap_or(&0))
-    }
-}
-
-/// Reads a record at the start of a block's.
-fn looked<const W: usize>(rows: &Rows<Record<W>>, block: BlockId) -> u64 {
-    match rows.near_row(block.0 as usize) {
-        Some(record) => u64::from(record.factor),
-        None => 0,
-    }
-}
-
 const SMALL: usize = 4;
 
 const MIDDLE: usize = 8;

@@ -22,13 +22,13 @@ stamp_in g blocks places nets (Net n) = slice_index nets n.0
 
 -- the stamp that is kept of a mark
 abbrev pub kept_stamp : GridShape → Stamps → Mark → ℕ
-kept_stamp g s m = stamp_in g s.blocks.items s.places.items s.nets m
+kept_stamp g s m = stamp_in g s.blocks.items s.places.items s.nets.items m
 
 -- there is a stamp for each block, site and net
 pub record IsTable (d : Netlist) (g : GridShape) (s : Stamps) : Type 0 where
   pub blocks : length s.blocks.items ≡ length d.kinds
   pub places : length s.places.items ≡ site_count g
-  pub nets : length s.nets ≡ length d.terminals
+  pub nets : length s.nets.items ≡ length d.terminals
 
 -- a swap of blocks of the design between sites of the array
 pub record IsWithin (d : Netlist) (g : GridShape) (s : Swap) : Type 0 where

@@ -16,7 +16,6 @@ ghost use Rattle.fab_commit.specs.Run.Readings.{reading_at};
 ghost use Rattle.fab_commit.specs.Model.History.{is_redone};
 ghost use Rattle.fab_commit.specs.Model.TurnEvents.{LastTurn, next_turn};
 
-use crate::run::looking::{AT_ONCE, look_ahead};
 use crate::run::owner::{Owner, stamp};
 use crate::run::pipeline::{Pipeline, catch_up_alone, reserve};
 use crate::run::state::{Given, State, commit, moves_left, view_of};
@@ -112,15 +111,17 @@ fn commit_some<W: Words, G: Gate>(
     }
 }
 
-/// Makes the next moves of the running stage. `base` is the number of moves in the placement that they count as judged on. `looked` gets
-/// what was read early, which has no meaning. Allocates nothing.
+/// How many moves' words are made at once.
+const AT_ONCE: u64 = 32;
+
+/// Makes the next moves of the running stage. `base` is the number of moves in the placement that they count as judged on. Allocates
+/// nothing.
 fn commit_alone<W: Words, G: Gate>(
     given: &Given<'_, W>,
     owner: &mut Owner,
     moves: u64,
     base: u64,
     gate: &G,
-    looked: &mut u64,
 )
     requires plan { IsLawful given.now.schedule }
     requires owned { IsOwned (run_for W.moves given.now) owner.old }
@@ -130,13 +131,12 @@ fn commit_alone<W: Words, G: Gate>(
     ensures redone { (due : AreOpen (run_for W.moves given.now) owner.old base moves) → owner.new.redone ≡ owner.old.redone + count_by (is_redone (run_for W.moves given.now) due.start base) (range_with_len owner.old.state.done moves) }
     ensures room { (n : ℕ) → HasRoom owner.old (moves + n) → HasRoom owner.new n }
 {
-    let mut words = [[0u32; 4]; AT_ONCE];
+    let mut words = [[0u32; 4]; AT_ONCE as usize];
     let mut made = 0;
     while made < moves {
-        let count = (moves - made).min(AT_ONCE as u64);
+        let count = (moves - made).min(AT_ONCE);
         let some = &mut words[..count as usize];
         given.words.fill_words(owner.state.done, some);
-        *looked ^= look_ahead(given, owner, &*some);
         commit_some(given, owner, &*some, base, gate);
         made += count;
     }
@@ -150,7 +150,6 @@ pub(crate) fn turn_alone<W: Words, G: Gate>(
     ahead: Ahead,
     batch: u64,
     gate: &G,
-    looked: &mut u64,
 ) -> Result<Ahead, AllocError>
     requires alone { (t : LastTurn) × IsAlone (run_for W.moves given.now) t owner.old ahead }
     requires batch { (1 ≤ batch) × (batch ≤ 4096) }
@@ -163,8 +162,8 @@ pub(crate) fn turn_alone<W: Words, G: Gate>(
     owner.swaps.clear();
     reserve(owner, moves)?;
     let kept = ahead.moves.min(moves);
-    commit_alone(given, owner, kept, ahead.base, gate, looked);
-    commit_alone(given, owner, moves - kept, start, gate, looked);
+    commit_alone(given, owner, kept, ahead.base, gate);
+    commit_alone(given, owner, moves - kept, start, gate);
     Ok(Ahead {
         base: start,
         moves: batch.min(left - moves),
@@ -253,15 +252,7 @@ fn turns_alone<W: Words, G: Gate, R: Wait>(
     let mut left = moves_left(&given.schedule, &state.owner.state);
     while left > 0 {
         let before = state.owner.state.done;
-        let looked = &mut state.looked;
-        match turn_alone(
-            given,
-            &mut state.owner,
-            *ahead,
-            plan.batch,
-            plan.gate,
-            looked,
-        ) {
+        match turn_alone(given, &mut state.owner, *ahead, plan.batch, plan.gate) {
             Ok(next) => *ahead = next,
             Err(error) => {
                 *ahead = Ahead {
@@ -272,14 +263,7 @@ fn turns_alone<W: Words, G: Gate, R: Wait>(
             }
         }
         let owner = &state.owner;
-        follow_turn(
-            rt,
-            given,
-            &mut state.older,
-            plan.each,
-            &owner.state,
-            &owner.swaps,
-        );
+        follow_turn(rt, given, &mut state.older, plan.each, &owner.state, &owner.swaps);
         show_state(rt, given, &owner.state, plan.dial, shower);
         left -= owner.state.done - before;
     }

@@ -32,8 +32,6 @@ pub(crate) struct Pipeline {
     pub(crate) ahead: Vec<Verdict>,
     /// How many moves were made in the placement that `ahead` was judged on.
     pub(crate) base: u64,
-    /// What was read early. It has no meaning, and is kept so that the reads are made.
-    pub(crate) looked: u64,
 }
 
 impl Drop for Pipeline {
@@ -44,7 +42,6 @@ impl Drop for Pipeline {
             older: _,
             ahead: _,
             base: _,
-            looked: _,
         } = self;
     }
 }
@@ -87,7 +84,6 @@ pub(crate) fn first_pipeline<W: Words>(
         older,
         ahead: Vec::new(alloc),
         base,
-        looked: 0,
     })
 }
 

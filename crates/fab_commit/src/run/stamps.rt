@@ -12,7 +12,6 @@ ghost use Rattle.fab_move.specs.Judge.{block_marks, footprint, has_mark, other_m
 ghost use Rattle.fab_commit.specs.Run.StampTables.{IsTable, IsWithin, kept_stamp};
 ghost use Rattle.fab_commit.specs.Model.Worlds.{IsBlock};
 
-use crate::run::net_stamps::{NetStamps, stamp_at};
 use fab_arch::{Grid, Site};
 use fab_move::{Mark, Proposal};
 use fab_net::{BlockId, Design, NetId};
@@ -24,7 +23,7 @@ use std::alloc::{AllocError, Global};
 pub(crate) struct Stamps {
     blocks: Vec<u64>,
     places: Vec<u64>,
-    nets: NetStamps,
+    nets: Vec<u64>,
 }
 
 impl Drop for Stamps {
@@ -47,7 +46,7 @@ impl Stamps {
         Ok(Stamps {
             blocks: vec![in alloc; 0u64; design.blocks()]?,
             places: vec![in alloc; 0u64; site_count(grid)]?,
-            nets: NetStamps::new(alloc, design.nets())?,
+            nets: vec![in alloc; 0u64; design.nets()]?,
         })
     }
 
@@ -97,11 +96,6 @@ impl Stamps {
     {
         self.blocks[block.0 as usize] = stamp;
         stamp_nets(&mut self.nets, design.nets_of(block), stamp);
-    }
-
-    /// Reads the stamp of a block. What it returns has no meaning for the caller.
-    pub(crate) fn look_at(&self, block: BlockId) -> u64 {
-        stamp_at(&self.blocks, block.0 as usize)
     }
 
     /// Whether one of the marks was touched by move `base` or a later one.
@@ -176,25 +170,36 @@ impl Stamps {
                 Some(place) => stamp_at(&self.places, place),
                 None => 0,
             },
-            Mark::Net(net) => self.nets.of(net),
+            Mark::Net(net) => stamp_at(&self.nets, net.0 as usize),
         }
     }
 }
 
+/// The stamp at an index; 0 beyond the end.
+fn stamp_at(stamps: &[u64], index: usize) -> u64
+    ensures { result ≡ slice_index stamps.now index }
+{
+    match stamps.get(index) {
+        Some(stamp) => *stamp,
+        None => 0,
+    }
+}
+
 /// Whether one of the nets was touched by move `base` or a later one.
-fn is_net_touched(stamps: &NetStamps, base: u64, nets: &[NetId]) -> bool
+fn is_net_touched(stamps: &[u64], base: u64, nets: &[NetId]) -> bool
     ensures { result ≡ list_any (λ (n : NetId). nat_lt base (slice_index stamps.now n.0)) nets.now }
 {
-    nets.iter().any(|net| stamps.is_above(base, *net))
+    nets.iter()
+        .any(|net| base < stamp_at(stamps, net.0 as usize))
 }
 
 /// Stamps nets.
-fn stamp_nets(stamps: &mut NetStamps, nets: &[NetId], stamp: u64)
-    requires { All (λ (n : NetId). n.0 < length stamps.old) nets.now }
-    ensures length { length stamps.new ≡ length stamps.old }
-    ensures each { (k : ℕ) → slice_index stamps.new k ≡ (if list_any (λ (n : NetId). k == n.0) nets.now then stamp else slice_index stamps.old k) }
+fn stamp_nets(stamps: &mut Vec<u64>, nets: &[NetId], stamp: u64)
+    requires { All (λ (n : NetId). n.0 < length stamps.old.items) nets.now }
+    ensures length { length stamps.new.items ≡ length stamps.old.items }
+    ensures each { (k : ℕ) → slice_index stamps.new.items k ≡ (if list_any (λ (n : NetId). k == n.0) nets.now then stamp else slice_index stamps.old.items k) }
 {
     for net in nets {
-        stamps.set(*net, stamp);
+        stamps[net.0 as usize] = stamp;
     }
 }

@@ -24,7 +24,7 @@ returns-in-Err g c =
     let moves = c.min-moves.ensures in
     let left = c.moves_left-left.ensures ∙ ap (λ (v : Given g.row.W.Denot). left_at v.schedule.moves s.owner.state.done (heat_of s.owner.state.ended s.owner.state.stage.t)) c.deref-lent.ensures in
     let low : n ≤ c.min-moves.result = omega (arith, within) in
-    let now : Pipeline = record { owner = c.make_moves-judged.new.state.owner; older = c.catch_up_alone.new.older; ahead = c.clear-2.new.self; base = s.owner.state.done; looked = c.make_moves-judged.new.state.looked } in
+    let now : Pipeline = record { owner = c.make_moves-judged.new.state.owner; older = c.catch_up_alone.new.older; ahead = c.clear-2.new.self; base = s.owner.state.done } in
     let some = c.in-Err.ensures.some in
     let ahead = c.min.ensures in
     let all : (t : LastTurn) → IsBehind r t s → HasTurned r t s n 0 now = λ t b.

@@ -6,5 +6,5 @@ use Rattle.fab_commit.proofs.run.stamps.stamp_nets.Given as goal
 
 abbrev pub invariant-loop-net : goal.invariant-loop-net
 invariant-loop-net l =
-    (length l.stamps ≡ length l.initial.stamps)
-    × ((k : ℕ) → slice_index l.stamps k ≡ cond (list_any (λ (n : NetId). k == n.0) (take l.net-index l.nets)) l.stamp (slice_index l.initial.stamps k))
+    (length l.stamps.items ≡ length l.initial.stamps.items)
+    × ((k : ℕ) → slice_index l.stamps.items k ≡ cond (list_any (λ (n : NetId). k == n.0) (take l.net-index l.nets)) l.stamp (slice_index l.initial.stamps.items k))

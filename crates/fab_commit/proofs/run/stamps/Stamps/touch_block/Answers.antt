@@ -17,5 +17,5 @@ returns-clause-touched c =
     let d = c.args.design.now in
     let blocks = c.requires.table.blocks in
     let low = c.requires.block in
-    block_touched d c.args.grid.now c.args.self.now.blocks.items c.args.self.now.places.items c.args.self.now.nets c.stamp_nets.new.stamps c.args.block c.args.stamp (omega (arith, blocks, low))
-    (λ k. c.stamp_nets.ensures.each k ∙ ap (λ l. cond (any k l) c.args.stamp (slice_index c.args.self.now.nets k)) c.nets_of.ensures)
+    block_touched d c.args.grid.now c.args.self.now.blocks.items c.args.self.now.places.items c.args.self.now.nets.items c.stamp_nets.new.stamps.items c.args.block c.args.stamp (omega (arith, blocks, low))
+    (λ k. c.stamp_nets.ensures.each k ∙ ap (λ l. cond (any k l) c.args.stamp (slice_index c.args.self.now.nets.items k)) c.nets_of.ensures)

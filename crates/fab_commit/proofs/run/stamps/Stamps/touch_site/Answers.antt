@@ -13,4 +13,4 @@ pub returns-in-Some-clause-touched : goal.returns-in-Some-clause-touched
 returns-in-Some-clause-touched c =
     let below = index_below c.args.grid.now c.args.site c.in-Some.place (sym c.index_of.ensures ∙ c.in-Some.is) in
     let places = c.requires.table.places in
-    place_touched c.args.grid.now c.args.self.now.blocks.items c.args.self.now.places.items c.args.self.now.nets c.args.site c.in-Some.place c.args.stamp (sym c.index_of.ensures ∙ c.in-Some.is) (omega (arith, below, places))
+    place_touched c.args.grid.now c.args.self.now.blocks.items c.args.self.now.places.items c.args.self.now.nets.items c.args.site c.in-Some.place c.args.stamp (sym c.index_of.ensures ∙ c.in-Some.is) (omega (arith, below, places))
