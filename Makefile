@@ -17,8 +17,8 @@ edits:
 place:
 	@tests/place
 
-# Measures moves per second with one worker, at four sizes; with BASELINE=PROGRAM also those of another placer, in the same run. Then with
-# 1, 2 and 4 workers and four batches, at two sizes.
+# Measures moves per second with one worker, on five designs; with BASELINE=PROGRAM also those of another placer, in the same run. Then with
+# 1, 2 and 4 workers and four batches, on two designs, and how long a checkpoint text is read.
 bench: program
 	@bench/place.sh
 	@bench/turns.sh
