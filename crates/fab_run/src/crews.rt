@@ -1,4 +1,5 @@
-//! Makes the stages of a piece of a run, while one crew judges its moves ahead from the first stage to the last.
+//! Makes the stages of a piece of a run beside one crew, which lives from the first stage to the last. It judges moves ahead in the stages
+//! that the owner does not make alone.
 
 ghost use Rattle.std.specs.Prelude.{◌≡◌, ◌≤◌};
 ghost use Rattle.std.specs.Thread.{IsSync};
@@ -24,7 +25,7 @@ pub(crate) struct Course<'a, 'g, V: Words + Drop, G: Gate, J: Naming> {
     pub(crate) costs: Vec<u64>,
 }
 
-/// Makes the moves of a piece while a crew judges ahead, and writes the line of each stage as it ends.
+/// Makes the moves of a piece beside a crew, and writes the line of each stage as it ends.
 pub(crate) fn anneal_beside<
     E: Task<T> + Send + Sync,
     T: Drop + Send,

@@ -42,9 +42,10 @@ pub struct Options {
     pub cooling: Cooling,
     /// How many moves a stage has.
     pub moves: Moves,
-    /// How many moves a turn commits, 1 to 4,096. The placement does not depend on it.
+    /// How many moves a turn commits at most, 1 to 4,096. The placement does not depend on it.
     pub batch: u64,
-    /// How many threads judge moves ahead, 1 to 64. The placement does not depend on it.
+    /// How many threads judge moves ahead, 1 to 64, in the stages that the calling thread does not make alone; on most designs these are few
+    /// (docs/ARCHITECTURE.md, "When the owner goes alone"). The placement does not depend on it.
     pub workers: u64,
     /// After how many moves it stops, counted from the first move of the run. A stop that lies before the beginning of a piece has no
     /// effect on it, and neither has one after which no move is left.
@@ -70,7 +71,8 @@ pub struct Outcome {
     pub accepted: Vec<u64>,
     /// The cost before the first move of the piece, and after each stage that ended in it, in ten-thousandths.
     pub costs: Vec<u64>,
-    /// How many moves were judged again, because a move accepted after their judgement had changed what their verdicts depend on. It
-    /// depends on the batch, but not on the workers.
+    /// How many moves turns of the batch judge again, because a move accepted after their judgement had changed what their verdicts depend
+    /// on. In a stage that the calling thread makes alone nothing is judged twice, and the number is the same. It depends on the batch, but
+    /// not on the workers.
     pub redone: u64,
 }

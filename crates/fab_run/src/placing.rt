@@ -74,9 +74,9 @@ fn begin<'a>(
 /// at the end of the last one. Turns have `batch` moves, counted from the first move of each stage; the last one of a stage or of a
 /// stopped run may be shorter. The shower must be one of this dial.
 ///
-/// The gate is called before and after each judgement that is made ahead, and before each commit. If it says that it never waits, stages
-/// may be made in which nothing is judged ahead; there one thread makes these calls for each move. The placement and the output are those
-/// of `place_run`, whatever the gate does, if its calls return.
+/// The gate is called before and after each judgement that is made ahead, and before each commit. Only if it says that it does nothing,
+/// stages are made in which nothing is judged ahead. The placement and the output are those of `place_run`, whatever the gate does, if its
+/// calls return.
 pub fn place_run_shown<G: Gate, R: AllocGlobal + Threads + Wait + Sync, W: Sink, P: Sink>(
     rt: &R,
     inputs: &Inputs,
@@ -134,12 +134,12 @@ pub fn place_run_shown<G: Gate, R: AllocGlobal + Threads + Wait + Sync, W: Sink,
     )
 }
 
-/// Places the design of a run: anneals it from a start placement, with random words of the seed, to the last move or to the stop.
-/// Workers judge moves ahead, and moves are committed in order of number, so the answer is that of one move after another. The
-/// report's lines are written as their stages end, and the place text once the report is whole. A run that stops writes no place text:
-/// it answers the point where it stopped, from which `resume_run` goes on. Before the first move, after the report's first two lines,
-/// the writer of the place text is asked whether it is ready. What is placed and written does not depend on batch and workers, if
-/// these are within their limits.
+/// Places the design of a run: anneals it from a start placement, with random words of the seed, to the last move or to the stop. Moves are
+/// committed in order of number. Workers judge them ahead in the stages that the calling thread does not make alone (docs/ARCHITECTURE.md,
+/// "When the owner goes alone"). So the answer is that of one move after another. The report's lines are written as their stages end, and
+/// the place text once the report is whole. A run that stops writes no place text: it answers the point where it stopped, from which
+/// `resume_run` goes on. Before the first move, after the report's first two lines, the writer of the place text is asked whether it is
+/// ready. What is placed and written does not depend on batch and workers, if these are within their limits.
 ///
 /// An error is the first check that fails, in the order architecture, netlist, size (range, logic sites, pad sites), location
 /// text, labels, schedule, batch, workers; nothing is written then. If no check fails, it is the failure of a writer. Memory may
