@@ -10,9 +10,10 @@ pub trait Gate: Sync {
 
     fn before_commit(&self, k: u64);
 
-    /// Whether each call returns whatever other calls are made, so that one thread may make them all. A gate that does not say so may
-    /// wait in one call for another; a run then has its crew judge ahead in every stage.
-    fn never_waits(&self) -> bool {
+    /// Whether the calls do nothing, so that nobody can tell when they are made, by which thread, or whether they are. Only with a gate
+    /// that says so may a run judge no move ahead, or ask for the words of a move before the call for its judgement. A gate that counts,
+    /// notes or waits must not say so.
+    fn does_nothing(&self) -> bool {
         false
     }
 }
@@ -28,7 +29,7 @@ impl Gate for NoGate {
 
     fn before_commit(&self, _k: u64) {}
 
-    fn never_waits(&self) -> bool {
+    fn does_nothing(&self) -> bool {
         true
     }
 }

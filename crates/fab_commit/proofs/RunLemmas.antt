@@ -15,4 +15,6 @@ pub mod Stamping
 pub mod Standings
 pub mod Kept
 pub mod Alone
+pub mod Counting
+pub mod Parts
 pub mod Ended

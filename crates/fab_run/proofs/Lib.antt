@@ -26,3 +26,4 @@ pub mod PointWhole
 pub mod Chaining
 pub mod Showing
 pub mod Watching
+pub mod Alone

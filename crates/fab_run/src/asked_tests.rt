@@ -1,58 +1,45 @@
-// How often the words of moves are asked for, in runs with a crew that stands from the first move to the last.
-ghost use Rattle.std.specs.Prelude.{◌≡◌, ◌≤◌};
+// How the words of moves are asked for: how often, when, and by how many threads at once. The crew of a run stands from the first move to the
+// last.
+ghost use Rattle.std.specs.Prelude.{◌≡◌, ◌≤◌, ◌<◌, IfOk};
 ghost use Rattle.fab_sched.specs.Annealing.{IsLawful};
 
 use crate::crews::{Course, anneal_beside};
 use crate::piece::unwatched;
-use crate::run_tests::{INPUTS, OPTIONS, SEVEN, SHORT, writer_with};
+use crate::run_tests::{ARCH, INPUTS, OPTIONS, SEVEN, SHORT, writer_with};
 use crate::setting::read_setting;
-use crate::stages::Pace;
-use crate::{Inputs, Options, RunFault};
-use fab_board::{Naming, NoGate, Opened};
+use crate::stages::{Pace, make_part, make_rest};
+use crate::watched_tests::Quiet;
+use crate::{Inputs, Moves, Options, RunFault};
+use fab_board::{Gate, Naming, NoGate, Opened};
 use fab_commit::{Anneal, Work, Workers, found_crew};
 use fab_dial::{Dial, Shower};
+use fab_file::Labels;
 use fab_move::{StreamWords, Verdict};
 use fab_site::{Words, start};
-use std::alloc::Global;
+use fab_text::push_number;
+use std::alloc::{AllocError, Global};
 use std::marker::Brand;
 use std::sync::Wait;
 use std::sync::atomic::{AtomicU64, Ordering};
 use std::test::*;
+use std::thread;
 use std::thread::Threads;
+use std::time::Duration;
 
-// Words that count how often those of moves are asked for.
-#[derive(Drop)]
-struct AskedWords<'a, V: Words + Drop> {
-    words: V,
-    asked: &'a AtomicU64,
-}
-
-impl<'a, V: Words + Drop> Words for AskedWords<'a, V> {
-    ghost moves = { λ w. V.moves w.words };
-
-    ghost starts = { λ w. V.starts w.words };
-
-    fn move_words(&self, k: u64) -> [u32; 4] {
-        self.asked.fetch_add(1, Ordering::SeqCst);
-        self.words.move_words(k)
-    }
-
-    fn start_word(&self, i: u32) -> u32 {
-        self.words.start_word(i)
-    }
-}
-
-// Makes the moves of a run while a crew judges ahead. The answer is how many moves were made, and how many judged again.
+// Makes the moves of a run while a crew may judge ahead. The answer is how many moves were made, and how many judged again.
 fn made_beside<
     'a,
+    'g,
+    G: Gate,
     J: Naming + Send + Sync,
     V: Words + Send + Sync + Drop,
     R: Threads + Wait + Sync,
 >(
     rt: &R,
     alloc: Global,
-    opened: Opened<Work<'a, 'static, V, NoGate>>,
+    opened: Opened<Work<'a, 'g, V, G>>,
     anneal: Anneal<'a, V>,
+    gate: &'g G,
     pace: &Pace,
     dial: &Dial,
     shower: &mut Shower,
@@ -64,14 +51,10 @@ fn made_beside<
     requires limits { (1 ≤ pace.now.batch) × (pace.now.batch ≤ 4096) × (1 ≤ pace.now.workers) × (pace.now.workers ≤ 64) }
 {
     let mut report = writer_with(alloc, 10_000);
-    let (crew, lead) = found_crew::<Work<'a, 'static, V, NoGate>, Verdict, J>(
-        alloc,
-        opened,
-        pace.workers,
-    )?;
+    let (crew, lead) = found_crew::<Work<'a, 'g, V, G>, Verdict, J>(alloc, opened, pace.workers)?;
     let mut course = Course {
         anneal,
-        workers: Workers::crew(lead, &NoGate),
+        workers: Workers::crew(lead, gate),
         costs: Vec::new(alloc),
     };
     anneal_beside(
@@ -87,12 +70,13 @@ fn made_beside<
     Ok((course.anneal.done(), course.anneal.redone()))
 }
 
-// The same of a run of texts by words that are counted.
-fn run_asked<R: AllocGlobal + Threads + Wait + Sync>(
+// The same of a run of texts by these words.
+fn run_with<V: Words + Send + Sync + Drop, G: Gate, R: AllocGlobal + Threads + Wait + Sync>(
     rt: &R,
     inputs: &Inputs,
     options: &Options,
-    asked: &AtomicU64,
+    words: V,
+    gate: &G,
 ) -> Result<(u64, u64), RunFault> {
     let alloc = rt.alloc();
     let (design, grid, pins, schedule) = read_setting(alloc, inputs, options)?;
@@ -102,32 +86,327 @@ fn run_asked<R: AllocGlobal + Threads + Wait + Sync>(
         workers: options.workers,
         stop: options.stop,
     };
-    let words = AskedWords {
-        words: StreamWords::new(options.seed),
-        asked,
-    };
     let placement = start(alloc, &design, &grid, &pins, &words)?;
     let anneal = Anneal::new(
         alloc, &design, &grid, placement, pins.fixed, schedule, words,
     )?;
     let (dial, mut shower) = unwatched(rt, alloc)?;
-    made_beside::<Brand, _, R>(rt, alloc, Opened::new(), anneal, &pace, &dial, &mut shower)
+    made_beside::<G, Brand, V, R>(
+        rt,
+        alloc,
+        Opened::new(),
+        anneal,
+        gate,
+        &pace,
+        &dial,
+        &mut shower,
+    )
 }
 
+// Words that count how often those of moves are asked for.
+#[derive(Drop)]
+struct AskedWords<'a> {
+    words: StreamWords,
+    asked: &'a AtomicU64,
+}
+
+impl<'a> Words for AskedWords<'a> {
+    ghost use Rattle.fab_move.specs.Stream.{stream_moves, stream_starts};
+
+    ghost moves = { λ w. stream_moves w.words };
+
+    ghost starts = { λ w. stream_starts w.words };
+
+    fn move_words(&self, k: u64) -> [u32; 4] {
+        self.asked.fetch_add(1, Ordering::SeqCst);
+        self.words.move_words(k)
+    }
+
+    fn start_word(&self, i: u32) -> u32 {
+        self.words.start_word(i)
+    }
+}
+
+// A run's moves and how often its words were asked for. Fails if that is not once for each move and once more for each that is judged again.
+fn asked<G: Gate, R: AllocGlobal + Threads + Wait + Sync>(
+    rt: &R,
+    inputs: &Inputs,
+    options: &Options,
+    gate: &G,
+) -> Result<(u64, u64), Fail> {
+    let asked = AtomicU64::new(0);
+    let words = AskedWords {
+        words: StreamWords::new(options.seed),
+        asked: &asked,
+    };
+    let (made, redone) = run_with(rt, inputs, options, words, gate)?;
+    if asked.load(Ordering::SeqCst) != made.saturating_add(redone) {
+        return Err(Fail::from("words are asked for otherwise"));
+    }
+    Ok((made, redone))
+}
+
+// With a gate that does not say that it does nothing the crew judges each move; with the other one the owner does.
 #[test]
 fn words_of_a_move_are_asked_for_once_for_each_judgement(rt: HostRuntime) -> Result<(), Fail> {
     for (batch, workers) in [(1, 1), (3, 1), (3, 2), (16, 3)] {
         for (inputs, options, moves) in [(&INPUTS, OPTIONS, 15), (&SEVEN, SHORT, 32)] {
-            let asked = AtomicU64::new(0);
             let options = Options {
                 batch,
                 workers,
                 ..options
             };
-            let (made, redone) = run_asked(&rt, inputs, &options, &asked)?;
-            assert_eq!(rt; made, moves);
-            assert_eq!(rt; asked.load(Ordering::SeqCst), moves.saturating_add(redone));
+            let crew = asked(&rt, inputs, &options, &Quiet)?;
+            assert_eq!(rt; crew.0, moves);
+            assert_eq!(rt; asked(&rt, inputs, &options, &NoGate)?, crew);
         }
+    }
+    Ok(())
+}
+
+// Words that tell how many threads ask for those of moves at once. From move `from` on each that asks waits until so many as are wanted
+// do, for at most so many milliseconds; then no other waits.
+#[derive(Drop)]
+struct TogetherWords<'a> {
+    rt: &'a HostRuntime,
+    words: StreamWords,
+    from: u64,
+    wanted: u64,
+    millis: u64,
+    begun: &'a AtomicU64,
+    over: &'a AtomicU64,
+}
+
+impl<'a> Words for TogetherWords<'a> {
+    ghost use Rattle.fab_move.specs.Stream.{stream_moves, stream_starts};
+
+    ghost moves = { λ w. stream_moves w.words };
+
+    ghost starts = { λ w. stream_starts w.words };
+
+    fn move_words(&self, k: u64) -> [u32; 4] {
+        if k >= self.from && self.over.load(Ordering::SeqCst) == 0 {
+            self.begun.fetch_add(1, Ordering::SeqCst);
+            for _turn in 0..self.millis {
+                let is_full = self.begun.load(Ordering::SeqCst) >= self.wanted;
+                if is_full || self.over.load(Ordering::SeqCst) != 0 {
+                    break;
+                }
+                thread::sleep(self.rt, Duration::from_millis(1));
+            }
+            self.over.store(1, Ordering::SeqCst);
+        }
+        self.words.move_words(k)
+    }
+
+    fn start_word(&self, i: u32) -> u32 {
+        self.words.start_word(i)
+    }
+}
+
+// How many threads ask at once for the words of moves from this one on, if at most so many are waited for.
+fn threads_from(
+    rt: &HostRuntime,
+    inputs: &Inputs,
+    options: &Options,
+    from: u64,
+    wanted: u64,
+    millis: u64,
+) -> Result<u64, RunFault> {
+    let begun = AtomicU64::new(0);
+    let over = AtomicU64::new(0);
+    let words = TogetherWords {
+        rt,
+        words: StreamWords::new(options.seed),
+        from,
+        wanted,
+        millis,
+        begun: &begun,
+        over: &over,
+    };
+    run_with(rt, inputs, options, words, &NoGate)?;
+    Ok(begun.load(Ordering::SeqCst))
+}
+
+// One stage at a temperature, and the frozen stage, of 64 moves each.
+pub(crate) const TWO_STAGES: Options = Options {
+    seed: 1,
+    size: None,
+    init_t: 100_000,
+    exit_t: 100_000,
+    moves: Moves::Given(64),
+    batch: 64,
+    ..OPTIONS
+};
+
+// A netlist of so many logic blocks, of which each reads the net that the one before it drives.
+pub(crate) fn ring(alloc: Global, blocks: u64) -> Result<Vec<u8>, AllocError> {
+    let mut text = Vec::new(alloc);
+    let mut before = blocks.saturating_sub(1);
+    for block in 0..blocks {
+        text.extend_from_slice(b".clb c")?;
+        push_number(&mut text, block)?;
+        text.extend_from_slice(b"\npinlist: n")?;
+        push_number(&mut text, before)?;
+        text.extend_from_slice(b" n")?;
+        push_number(&mut text, block)?;
+        text.push(b'\n')?;
+        before = block;
+    }
+    Ok(text)
+}
+
+// The texts of a run of such a netlist.
+pub(crate) fn ring_of(net: &[u8]) -> Inputs<'_> {
+    Inputs {
+        arch: ARCH,
+        net,
+        pads: None,
+        labels: Labels {
+            net: b"ring.net",
+            arch: b"t.arch",
+        },
+    }
+}
+
+// Three workers and the owner judge the first batch of the frozen stage of a large design, all at once. The owner makes the stage before it
+// alone, and all stages if there is one worker or the design is smaller.
+#[test]
+fn a_crew_judges_cold_stages_of_large_designs(rt: HostRuntime) -> Result<(), Fail> {
+    let large = ring(rt.alloc(), 16_384)?;
+    let small = ring(rt.alloc(), 16_383)?;
+    for (net, workers, from, wanted) in [
+        (&large, 3, 64, 4),
+        (&large, 3, 0, 1),
+        (&large, 1, 64, 1),
+        (&small, 3, 64, 1),
+    ] {
+        let options = Options {
+            workers,
+            ..TWO_STAGES
+        };
+        // Where nobody else is to come, a short wait has to do.
+        let (most, millis) = if wanted == 1 {
+            (2, 200)
+        } else {
+            (wanted, 10_000)
+        };
+        let threads = threads_from(&rt, &ring_of(net), &options, from, most, millis)?;
+        if wanted == 1 {
+            assert_eq!(rt; threads, 1, "{workers} workers from move {from}");
+        } else {
+            assert!(rt;
+                threads >= wanted,
+                "{threads} threads for {workers} workers"
+            );
+        }
+    }
+    Ok(())
+}
+
+// Follows the calls of the gate and of the words. They are right if those of each move come by themselves, in order of number: before its
+// judgement, for its words, after its judgement, before its commit. Words may be asked for once more then.
+#[derive(Drop)]
+struct InOrder {
+    next: AtomicU64,
+    wrong: AtomicU64,
+}
+
+impl InOrder {
+    fn follow(&self, k: u64, step: u64) {
+        let call = k.saturating_mul(4).saturating_add(step);
+        let next = self.next.load(Ordering::SeqCst);
+        let again = step == 1 && next == call.saturating_add(1);
+        if again {
+            return;
+        }
+        if next != call {
+            self.wrong.store(1, Ordering::SeqCst);
+        }
+        self.next.store(call.saturating_add(1), Ordering::SeqCst);
+    }
+}
+
+impl Gate for InOrder {
+    fn before_judge(&self, k: u64) {
+        self.follow(k, 0);
+    }
+
+    fn after_judge(&self, k: u64) {
+        self.follow(k, 2);
+    }
+
+    fn before_commit(&self, k: u64) {
+        self.follow(k, 3);
+    }
+}
+
+// The words that such a gate follows.
+#[derive(Drop)]
+struct FollowedWords<'a> {
+    words: StreamWords,
+    gate: &'a InOrder,
+}
+
+impl<'a> Words for FollowedWords<'a> {
+    ghost use Rattle.fab_move.specs.Stream.{stream_moves, stream_starts};
+
+    ghost moves = { λ w. stream_moves w.words };
+
+    ghost starts = { λ w. stream_starts w.words };
+
+    fn move_words(&self, k: u64) -> [u32; 4] {
+        self.gate.follow(k, 1);
+        self.words.move_words(k)
+    }
+
+    fn start_word(&self, i: u32) -> u32 {
+        self.words.start_word(i)
+    }
+}
+
+#[test]
+fn the_owner_alone_asks_for_words_between_the_calls_of_a_gate(rt: HostRuntime) -> Result<(), Fail> {
+    for batch in [1, 3, 64] {
+        let gate = InOrder {
+            next: AtomicU64::new(0),
+            wrong: AtomicU64::new(0),
+        };
+        let alloc = rt.alloc();
+        let (design, grid, pins, schedule) = read_setting(alloc, &SEVEN, &SHORT)?;
+        let words = FollowedWords {
+            words: StreamWords::new(1),
+            gate: &gate,
+        };
+        let placement = start(alloc, &design, &grid, &pins, &words)?;
+        let mut anneal = Anneal::new(
+            alloc, &design, &grid, placement, pins.fixed, schedule, words,
+        )?;
+        let (dial, mut shower) = unwatched(&rt, alloc)?;
+        let mut workers = Workers::<'_, '_, FollowedWords<'_>, InOrder, Brand>::none(&gate);
+        // A part of the first stage, and its rest.
+        make_part(
+            &rt,
+            &mut anneal,
+            3,
+            batch,
+            false,
+            &mut workers,
+            &dial,
+            &mut shower,
+        )?;
+        make_rest(
+            &rt,
+            &mut anneal,
+            5,
+            batch,
+            false,
+            &mut workers,
+            &dial,
+            &mut shower,
+        )?;
+        assert_eq!(rt; gate.next.load(Ordering::SeqCst), 32);
+        assert_eq!(rt; gate.wrong.load(Ordering::SeqCst), 0);
     }
     Ok(())
 }

@@ -54,12 +54,32 @@ fn moves_before(stop: Option<u64>, done: u64, left: u64) -> Option<u64>
     Some(rest)
 }
 
-/// Makes the next `count` moves of the running stage, fewer than are left in it: in turns of one batch, and a shorter turn for the rest.
-fn make_part<'a, V: Words + Sync + Drop, G: Gate, J: Naming, R: Threads + Wait + Sync>(
+/// In a design of fewer blocks a crew costs more time than it saves, in every stage.
+const LARGE_DESIGN: usize = 16_384;
+
+/// The least range of a stage, in thousandths. A stage has it where few moves of the stages before were accepted.
+const LEAST_RANGE: u64 = 1000;
+
+/// Whether the moves of a stage are judged ahead by the crew; else the owner judges each when its turn comes. A crew saves time where few
+/// moves are accepted and the design is large, and only if it has more than one worker. What decides is told by the standing, so a run
+/// that goes on from a point decides as the unbroken run. A gate that does something sees which way a stage goes: with one that does not
+/// say that it does nothing, all moves are judged ahead.
+fn is_judged_ahead(stage: &Stage, blocks: usize, workers: u64, does_nothing: bool) -> bool {
+    if !does_nothing {
+        return true;
+    }
+    let is_cold = stage.frozen || stage.range <= LEAST_RANGE;
+    is_cold && blocks >= LARGE_DESIGN && workers > 1
+}
+
+/// Makes the next `count` moves of the running stage, fewer than are left in it: in turns of one batch, and a shorter turn for the rest. They
+/// are judged ahead, or by the owner.
+pub(crate) fn make_part<'a, V: Words + Sync + Drop, G: Gate, J: Naming, R: Threads + Wait + Sync>(
     rt: &R,
     anneal: &mut Anneal<'a, V>,
     count: u64,
     batch: u64,
+    ahead: bool,
     workers: &mut Workers<'a, '_, V, G, J>,
     dial: &Dial,
     shower: &mut Shower,
@@ -76,6 +96,9 @@ fn make_part<'a, V: Words + Sync + Drop, G: Gate, J: Naming, R: Threads + Wait +
     ensures shown { OnOk result (EndsShown (run_of V.moves anneal.old) batch anneal.old.standing anneal.new.standing shower.old.shown shower.new.shown) }
     ensures shown_cut { OnErr result (LeadsShownWithin (run_of V.moves anneal.old) batch anneal.old.standing count shower.old.shown shower.new.shown) }
 {
+    if !ahead {
+        return anneal.make_alone(rt, count, batch, workers.gate(), dial, shower);
+    }
     let mut made = 0;
     while batch <= count - made {
         let before = anneal.done();
@@ -87,22 +110,6 @@ fn make_part<'a, V: Words + Sync + Drop, G: Gate, J: Naming, R: Threads + Wait +
     }
     anneal.turn_shown_by(rt, count - made, workers, dial, shower)?;
     Ok(())
-}
-
-/// If more than one in this many moves is judged again, a crew costs more time than it saves.
-const ONE_IN: u64 = 32;
-
-/// A piece begins with a stage of which nothing is known. In a run's first stage most moves are accepted, so the owner makes it alone, if it
-/// has so many moves.
-const LONG_STAGE: u64 = 4096;
-
-/// Whether the owner is faster alone, in a stage of `left` moves: so many of the piece's `moves` were judged again.
-fn is_futile(again: u64, moves: u64, left: u64) -> bool {
-    if moves == 0 {
-        left >= LONG_STAGE
-    } else {
-        again.saturating_mul(ONE_IN) > moves
-    }
 }
 
 /// Makes the `left` moves that are left in the running stage, in turns of one batch, whose moves are judged ahead.
@@ -136,15 +143,14 @@ fn make_turns<'a, V: Words + Sync + Drop, G: Gate, J: Naming, R: Threads + Wait 
     Ok(())
 }
 
-/// Makes the `left` moves that are left in the running stage, in turns of one batch. Where it did not pay so far to judge moves ahead, the
-/// owner judges each itself, unless the gate may hold one thread until another calls it. The moves, their costs and how many count as
-/// judged again are the same. The piece has made about `made` moves.
-fn make_rest<'a, V: Words + Sync + Drop, G: Gate, J: Naming, R: Threads + Wait + Sync>(
+/// Makes the `left` moves that are left in the running stage, in turns of one batch. They are judged ahead, or by the owner; the moves, their
+/// costs and how many count as judged again are the same.
+pub(crate) fn make_rest<'a, V: Words + Sync + Drop, G: Gate, J: Naming, R: Threads + Wait + Sync>(
     rt: &R,
     anneal: &mut Anneal<'a, V>,
-    made: u64,
     left: u64,
     batch: u64,
+    ahead: bool,
     workers: &mut Workers<'a, '_, V, G, J>,
     dial: &Dial,
     shower: &mut Shower,
@@ -161,10 +167,8 @@ fn make_rest<'a, V: Words + Sync + Drop, G: Gate, J: Naming, R: Threads + Wait +
     ensures shown { OnOk result (LeadsShown (run_of V.moves anneal.old) batch anneal.old.standing anneal.new.standing shower.old.shown shower.new.shown) }
     ensures shown_cut { OnErr result (LeadsShownWithin (run_of V.moves anneal.old) batch anneal.old.standing left shower.old.shown shower.new.shown) }
 {
-    let is_better = workers.gate().never_waits() && is_futile(anneal.redone(), made, left);
-    if 0 < left && is_better {
-        anneal.finish_stage_alone(rt, batch, workers.gate(), dial, shower)?;
-        return Ok(());
+    if !ahead && 0 < left {
+        return anneal.finish_stage_alone(rt, batch, workers.gate(), dial, shower);
     }
     make_turns(rt, anneal, left, batch, workers, dial, shower)
 }
@@ -178,6 +182,7 @@ fn end_stage<'a, V: Words + Sync + Drop, G: Gate, J: Naming, R: Threads + Wait +
     stage: Stage,
     moves: u64,
     batch: u64,
+    ahead: bool,
     workers: &mut Workers<'a, '_, V, G, J>,
     dial: &Dial,
     shower: &mut Shower,
@@ -202,9 +207,7 @@ fn end_stage<'a, V: Words + Sync + Drop, G: Gate, J: Naming, R: Threads + Wait +
     let before = anneal.total();
     let _begun = anneal.done();
     let left = moves - stage.done;
-    // There is a cost at the start of the piece and one for each stage that it has ended.
-    let made = (costs.len() as u64).saturating_sub(1).saturating_mul(moves);
-    make_rest(rt, anneal, made, left, batch, workers, dial, shower)?;
+    make_rest(rt, anneal, left, batch, ahead, workers, dial, shower)?;
     let _made = anneal.done();
     let cost = anneal.cost();
     let accepted = stage.accepted + (anneal.total() - before);
@@ -253,13 +256,16 @@ pub(crate) fn anneal_all<
     ensures shown_cut { OnErr result (AreShownBegun (run_of V.moves anneal.old) anneal.old.standing pace.now.stop pace.now.batch shower.old.shown shower.new.shown) }
 {
     let moves = pace.moves;
+    let does_nothing = workers.gate().does_nothing();
+    let blocks = anneal.placement().blocks();
     while let Some(stage) = anneal.stage() {
+        let ahead = is_judged_ahead(&stage, blocks, pace.workers, does_nothing);
         if let Some(rest) = moves_before(pace.stop, anneal.done(), moves - stage.done) {
-            make_part(rt, anneal, rest, pace.batch, workers, dial, shower)?;
+            make_part(rt, anneal, rest, pace.batch, ahead, workers, dial, shower)?;
             return Ok(());
         }
         let line = end_stage(
-            rt, alloc, anneal, stage, moves, pace.batch, workers, dial, shower, costs,
+            rt, alloc, anneal, stage, moves, pace.batch, ahead, workers, dial, shower, costs,
         )?;
         write_whole(report, &line)?;
     }

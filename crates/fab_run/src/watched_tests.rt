@@ -1,10 +1,12 @@
 // Runs that are watched, and gates that hold a crew's judgements back.
 ghost use Rattle.std.specs.Prelude.{◌≡◌, All, IfOk};
 
+use crate::asked_tests::{TWO_STAGES, ring, ring_of};
+use crate::piece::unwatched;
 use crate::placing::annealer;
 use crate::point_tests::SECOND;
 use crate::resuming::resume_run_shown;
-use crate::run_tests::{INPUTS, OPTIONS, PLACE, REPORT, SEVEN, SHORT, writer_with};
+use crate::run_tests::{INPUTS, OPTIONS, PLACE, REPORT, SEVEN, SHORT, run_narrow, writer_with};
 use crate::setting::read_setting;
 use crate::{Inputs, Moves, Options, RunFault, place_run_shown};
 use fab_board::{Gate, NoGate};
@@ -360,7 +362,7 @@ impl Gate for SecondStage<'_> {
     }
 }
 
-// A gate that waits for nothing lets the owner make the second stage alone, and a first stage of 4,096 moves.
+// A gate that does nothing lets the owner make these stages alone. With any other a crew judges each of them.
 #[test]
 fn a_gate_that_may_wait_has_a_crew_in_each_stage(rt: HostRuntime) -> Result<(), Fail> {
     for moves in [3000, 4095, 4096] {
@@ -386,94 +388,81 @@ fn a_gate_that_may_wait_has_a_crew_in_each_stage(rt: HostRuntime) -> Result<(), 
     Ok(())
 }
 
-// Follows the calls from a move on. They are right if those of each move come by themselves, in order of number, as they do if the owner
-// judges alone.
-#[derive(Drop)]
-struct InOrder {
-    from: u64,
-    next: AtomicU64,
-    wrong: AtomicU64,
+// A gate that does nothing, but does not say so.
+#[derive(Clone, Copy)]
+pub(crate) struct Quiet;
+
+impl Gate for Quiet {
+    fn before_judge(&self, _k: u64) {}
+
+    fn after_judge(&self, _k: u64) {}
+
+    fn before_commit(&self, _k: u64) {}
 }
 
-impl InOrder {
-    fn follow(&self, k: u64, step: u64) {
-        if k < self.from {
-            return;
-        }
-        let call = k.saturating_mul(3).saturating_add(step);
-        if self.next.load(Ordering::SeqCst) != call {
-            self.wrong.store(1, Ordering::SeqCst);
-        }
-        self.next.store(call.saturating_add(1), Ordering::SeqCst);
-    }
-}
-
-impl Gate for InOrder {
-    fn before_judge(&self, k: u64) {
-        self.follow(k, 0);
-    }
-
-    fn after_judge(&self, k: u64) {
-        self.follow(k, 1);
-    }
-
-    fn before_commit(&self, k: u64) {
-        self.follow(k, 2);
-    }
-
-    fn never_waits(&self) -> bool {
-        true
-    }
-}
-
-// What a run of four stages of so many moves shows at its end and writes. Fails if the owner does not judge alone from this move on.
-fn alone_from<R: AllocGlobal + Threads + Wait + Sync>(
+// The bytes that a run of the seven blocks writes, and how many moves it judges again.
+fn judged_with<G: Gate, R: AllocGlobal + Threads + Wait + Sync>(
     rt: &R,
     options: &Options,
-    moves: u64,
-    from: u64,
-) -> Result<(Reading, Vec<u8>), Fail> {
-    let gate = InOrder {
-        from,
-        next: AtomicU64::new(from.saturating_mul(3)),
-        wrong: AtomicU64::new(0),
-    };
-    let out = last_shown(rt, &SEVEN, options, after(0), &gate)?;
-    let calls = moves.saturating_mul(12);
-    if gate.wrong.load(Ordering::SeqCst) != 0 || gate.next.load(Ordering::SeqCst) != calls {
-        return Err(Fail::from("the owner is not alone"));
-    }
-    Ok(out)
+    gate: &G,
+) -> Result<(Vec<u8>, u64), RunFault> {
+    let alloc = rt.alloc();
+    let mut report = writer_with(alloc, 10_000);
+    let mut place = writer_with(alloc, 10_000);
+    let (dial, mut shower) = unwatched(rt, alloc)?;
+    let outcome = place_run_shown(
+        rt,
+        &SEVEN,
+        options,
+        gate,
+        &dial,
+        &mut shower,
+        &mut report,
+        &mut place,
+    )?;
+    let mut bytes = report.into_inner().taken;
+    bytes.extend_from_slice(&place.into_inner().taken)?;
+    Ok((bytes, outcome.redone))
 }
 
+// A crew and the owner alone write the same bytes, and count the moves that the reference counts.
 #[test]
-fn the_owner_alone_makes_a_long_first_stage(rt: HostRuntime) -> Result<(), Fail> {
-    let options = Options {
-        moves: Moves::Given(4096),
-        ..SHORT
-    };
-    let alone = alone_from(&rt, &options, 4096, 0)?;
-    assert_eq!(rt;
-        alone.0,
-        last_shown(&rt, &SEVEN, &options, after(0), &NoGate)?.0
-    );
+fn a_crew_and_the_owner_alone_judge_again_alike(rt: HostRuntime) -> Result<(), Fail> {
+    for (batch, workers, wanted) in [
+        (1, 1, 9),
+        (1, 5, 9),
+        (3, 1, 13),
+        (3, 5, 13),
+        (16, 3, 14),
+        (4096, 64, 14),
+    ] {
+        let options = Options {
+            seed: 1,
+            batch,
+            workers,
+            ..SHORT
+        };
+        let crew = judged_with(&rt, &options, &Quiet)?;
+        let alone = judged_with(&rt, &options, &NoGate)?;
+        assert!(rt; crew.0 == alone.0);
+        assert_eq!(rt; (crew.1, alone.1), (wanted, wanted));
+    }
     Ok(())
 }
 
-// In each run a crew judges the first stage ahead, and the owner makes the other three alone: both have to hand over and to end.
+// The same, many times, so that crew and owner hand over and end in each order of time.
 #[test]
-fn many_runs_end_in_which_crew_and_owner_judge_by_turns(rt: HostRuntime) -> Result<(), Fail> {
+fn many_runs_end_with_a_crew_and_without(rt: HostRuntime) -> Result<(), Fail> {
     let options = Options {
         moves: Moves::Given(300),
         ..SHORT
     };
-    let once = last_shown(&rt, &SEVEN, &options, after(0), &NoGate)?;
+    let once = judged_with(&rt, &options, &NoGate)?;
     for workers in [1, 2, 3] {
         let options = Options { workers, ..options };
         for _run in 0..20u64 {
-            let again = alone_from(&rt, &options, 300, 300)?;
-            assert_eq!(rt; again.0, once.0);
-            assert!(rt; again.1 == once.1);
+            assert!(rt; judged_with(&rt, &options, &Quiet)? == once);
+            assert!(rt; judged_with(&rt, &options, &NoGate)? == once);
         }
     }
     Ok(())
@@ -491,20 +480,34 @@ const SPARSE: Options = Options {
 
 #[test]
 fn many_runs_end_with_short_stages_on_a_large_array(rt: HostRuntime) -> Result<(), Fail> {
-    // This gate holds nothing, but does not say so.
-    let gate = SecondStage {
-        rt: &rt,
-        first: u64::MAX,
-        next_judged: AtomicU64::new(0),
-        failed: AtomicU64::new(0),
-        judged: AtomicU64::new(0),
-    };
-    let crew = last_shown(&rt, &SEVEN, &SPARSE, after(0), &gate)?;
-    assert_eq!(rt; gate.judged.load(Ordering::SeqCst), 400);
-    for _run in 0..20u64 {
-        let alone = alone_from(&rt, &SPARSE, 100, 100)?;
-        assert_eq!(rt; alone.0, crew.0);
-        assert!(rt; alone.1 == crew.1);
+    for stop in [None, Some(37), Some(250)] {
+        let options = Options { stop, ..SPARSE };
+        let crew = judged_with(&rt, &options, &Quiet)?;
+        for _run in 0..20u64 {
+            assert!(rt; judged_with(&rt, &options, &NoGate)? == crew);
+        }
+    }
+    Ok(())
+}
+
+// The owner makes the first stage of a large design alone, for so long that the crew sleeps. Then the crew judges the frozen stage, whole or up
+// to a stop.
+#[test]
+fn a_crew_that_slept_judges_a_cold_stage(rt: HostRuntime) -> Result<(), Fail> {
+    let net = ring(rt.alloc(), 16_384)?;
+    let inputs = ring_of(&net);
+    for stop in [Some(200_700), None] {
+        let options = Options {
+            moves: Moves::Given(200_000),
+            workers: 1,
+            stop,
+            ..TWO_STAGES
+        };
+        let alone = run_narrow(&rt, &inputs, &options, (10_000, 2_000_000))?;
+        for workers in [2, 3] {
+            let options = Options { workers, ..options };
+            assert!(rt; run_narrow(&rt, &inputs, &options, (10_000, 2_000_000))? == alone);
+        }
     }
     Ok(())
 }

@@ -295,7 +295,7 @@ cut_turns_lead_on r t made pos stage left =
 
 -- turns one after another
 
-turns_lead : (r : Run) (t : LastTurn) (batches : List ℕ) → 0 < r.plan.moves → IsOfAStage r t → turns r (world_behind r t) batches ≡ world_behind r (last_turn r t batches)
+pub turns_lead : (r : Run) (t : LastTurn) (batches : List ℕ) → 0 < r.plan.moves → IsOfAStage r t → turns r (world_behind r t) batches ≡ world_behind r (last_turn r t batches)
 turns_lead r t [] pos stage = refl
 turns_lead r t (batch ∷ batches) pos stage =
     let one = turns_lead_on r t batch pos stage in

@@ -1,12 +1,14 @@
 -- Moves that the owner judges itself: the live placement tells whether a judgement made ahead was spoilt.
-use Rattle.std.proofs.Common.{◌≡◌, ℕ, ◌+◌, ◌-◌, ◌<◌, ◌≤◌, min, false, [], length, is_some, refl, sym, ap, subst, ◌∙◌, arith, ◌++◌, append-nil, append_assoc, replicate, Result, Ok, Err, OnOk}
+use Rattle.std.proofs.Common.{◌≡◌, ℕ, ◌+◌, ◌-◌, ◌<◌, ◌≤◌, min, false, [], List, length, is_some, refl, sym, ap, subst, ◌∙◌, arith, ◌++◌, append-nil, append_assoc, replicate, Result, Ok, Err}
 use Rattle.std.specs.List.{count_by, filter, range_with_len}
+use Rattle.std.specs.declared.alloc.AllocError.{AllocError}
+use Rattle.fab_dial.specs.declared.readings.Reading.{Reading}
 use Rattle.std.proofs.lemmas.List.Elements.{filter-append}
 use Rattle.fab_commit.specs.declared.run.alone.Ahead.{Ahead}
 use Rattle.fab_commit.specs.declared.run.owner.Owner.{Owner}
 use Rattle.fab_commit.specs.Serial.{Run, Standing, accepted_among, from, judged_here, moves_left, one_if}
-use Rattle.fab_commit.specs.Run.Alone.{AreOpen, HasFinished, HasGone, HaveGone, IsAlone, is_touched_here}
-use Rattle.fab_commit.specs.Run.Pipelines.{IsBehind}
+use Rattle.fab_commit.specs.Run.Alone.{AreMadeAlone, AreOpen, HasGone, HaveGone, HaveStopped, IsAlone, IsFollowed, is_touched_here}
+use Rattle.fab_commit.specs.Run.Pipelines.{HasTurn, IsBehind}
 use Rattle.fab_commit.specs.declared.run.pipeline.Pipeline.{Pipeline}
 use Rattle.std.specs.Arc.{arc_value}
 use Rattle.fab_commit.specs.Run.Commits.{IsSound, standing_of}
@@ -289,10 +291,19 @@ have_more r batch t o mid now ahead due n made all first second sum =
       redone = omega (arith, was, more, again);
     }
 
--- what a call that answered has, it still has
-pub on_ok : {A E : Type 0} (r : Result A E) (P Q : Type 0) → OnOk r P → (P → Q) → OnOk r Q
-on_ok (Ok v) P Q p then = then p
-on_ok (Err e) P Q p then = tt
+pub have_stopped : (r : Run) (batch : ℕ) (t : LastTurn) (o mid now : Owner) (ahead due : Ahead) (n made : ℕ) → HaveGone r batch t o n made mid ahead → HasGone r (last_turn r t (replicate n batch)) mid 0 0 now due → HaveStopped r batch t o n made now due
+have_stopped r batch t o mid now ahead due n made first second =
+    let done_mid = first.done in
+    let done_now = second.done in
+    let was = first.redone in
+    let more = second.redone in
+    record {
+      alone = second.alone;
+      done = omega (arith, done_mid, done_now);
+      there = second.there ∙ first.there;
+      accepted = second.accepted ∙ append-nil mid.state.accepted.items ∙ first.accepted;
+      redone = omega (arith, was, more);
+    }
 
 -- the owner of what is kept after a turn
 pub alone_behind : (r : Run) (t : LastTurn) (s : Pipeline) (ahead : Ahead) → IsBehind r t s → ahead.base ≡ s.base → ahead.moves ≡ length s.ahead.items → IsAlone r t s.owner ahead
@@ -311,32 +322,35 @@ alone_behind r t s ahead b base many = record {
   recent = b.recent;
 }
 
--- what is kept where the older state has followed the owner to the end of a stage
-pub finished : (r : Run) (batch : ℕ) (t : LastTurn) (s now : Pipeline) (n : ℕ) (due : Ahead)
-    → HaveGone r batch t s.owner n (moves_left r (standing_of s.owner.state)) now.owner due → due.moves ≡ 0 → now.ahead.items ≡ [] → IsSound r (arc_value now.older) → standing_of (arc_value now.older) ≡ standing_of now.owner.state
-    → now.base ≡ due.base → HasFinished r batch t s n now
-finished r batch t s now n due gone none empty sound same base =
-    let alone = gone.alone in
-    record {
-      behind = record {
-        plan = alone.plan;
-        stage = alone.stage;
-        owned = alone.owned;
-        older = sound;
-        same = same;
-        here = alone.here;
-        done_is = alone.done_is;
-        base_is = base ∙ alone.base_is;
-        many = ap length empty ∙ sym none ∙ alone.many;
-        answers_are = no_answers r (last_turn r t (replicate n batch)).start now.owner.state.done now.ahead.items empty;
-        swaps = alone.swaps;
-        log = alone.log;
-        stamps = alone.stamps;
-        before = alone.before;
-        recent = alone.recent;
-      };
-      done = gone.done;
-      there = gone.there;
-      accepted = gone.accepted;
-      redone = gone.redone;
-    }
+-- what is kept where the older state has followed the owner
+pub behind_alone : (r : Run) (u : LastTurn) (now : Pipeline) (due : Ahead) → IsAlone r u now.owner due → due.moves ≡ 0 → now.ahead.items ≡ [] → IsSound r (arc_value now.older)
+    → standing_of (arc_value now.older) ≡ standing_of now.owner.state → now.base ≡ due.base → IsBehind r u now
+behind_alone r u now due alone none empty sound same base = record {
+  plan = alone.plan;
+  stage = alone.stage;
+  owned = alone.owned;
+  older = sound;
+  same = same;
+  here = alone.here;
+  done_is = alone.done_is;
+  base_is = base ∙ alone.base_is;
+  many = ap length empty ∙ sym none ∙ alone.many;
+  answers_are = no_answers r u.start now.owner.state.done now.ahead.items empty;
+  swaps = alone.swaps;
+  log = alone.log;
+  stamps = alone.stamps;
+  before = alone.before;
+  recent = alone.recent;
+}
+
+-- the live placement is sound after moves that the owner made alone
+pub sound_alone : {A : Type 0} (r : Run) (batch count : ℕ) (t : LastTurn) (o : Owner) (ahead : Ahead) (now : Owner) (due : Ahead) (answer : Result A AllocError) (old new : List Reading) → IsAlone r t o ahead
+    → AreMadeAlone r batch count o ahead now due answer old new → IsSound r now.state
+sound_alone r batch count t o ahead now due (Ok v) old new alone made = (made.ended t alone).alone.owned.sound
+sound_alone r batch count t o ahead now due (Err e) old new alone made = (made.stopped t alone).3.alone.owned.sound
+
+-- what is kept after moves that the owner made alone
+pub left_alone : {A : Type 0} (r : Run) (batch count : ℕ) (t : LastTurn) (o : Owner) (ahead : Ahead) (now : Pipeline) (due : Ahead) (answer : Result A AllocError) (old new : List Reading) → IsAlone r t o ahead
+    → AreMadeAlone r batch count o ahead now.owner due answer old new → IsFollowed r now due → HasTurn r now
+left_alone r batch count t o ahead now due (Ok v) old new alone made f = (let h = made.ended t alone in (_, behind_alone r _ now due h.alone made.none f.ahead f.older f.same f.base))
+left_alone r batch count t o ahead now due (Err e) old new alone made f = (let h = made.stopped t alone in (_, behind_alone r _ now due h.3.alone made.none f.ahead f.older f.same f.base))

@@ -11,13 +11,13 @@ use Rattle.fab_commit.proofs.ModelLemmas.RunLaws.{ways_of_a_turn}
 use Rattle.fab_commit.proofs.ModelLemmas.TurnLaws.{turns_lead_on}
 use Rattle.fab_commit.proofs.RunLemmas.ByTurns.{last_of_a_stage}
 
-last_add : (r : Run) (t : LastTurn) (m n batch : ℕ) → last_turn r t (replicate (m + n) batch) ≡ last_turn r (last_turn r t (replicate m batch)) (replicate n batch)
+pub last_add : (r : Run) (t : LastTurn) (m n batch : ℕ) → last_turn r t (replicate (m + n) batch) ≡ last_turn r (last_turn r t (replicate m batch)) (replicate n batch)
 last_add r t zero n batch = (let e : 0 + n ≡ n = omega arith in ap (λ k. last_turn r t (replicate k batch)) e)
 last_add r t (suc m) n batch =
     let e : suc m + n ≡ suc (m + n) = omega arith in
     ap (λ k. last_turn r t (replicate k batch)) e ∙ last_add r (next_turn r batch t) m n batch
 
-redone_add : (r : Run) (t : LastTurn) (m n batch : ℕ) → redone r t (replicate (m + n) batch) ≡ redone r t (replicate m batch) + redone r (last_turn r t (replicate m batch)) (replicate n batch)
+pub redone_add : (r : Run) (t : LastTurn) (m n batch : ℕ) → redone r t (replicate (m + n) batch) ≡ redone r t (replicate m batch) + redone r (last_turn r t (replicate m batch)) (replicate n batch)
 redone_add r t zero n batch =
     let e : 0 + n ≡ n = omega arith in
     let same = ap (λ k. redone r t (replicate k batch)) e in

@@ -1,24 +1,25 @@
 -- An owner that judges its moves itself, on the live placement, as contracts see it (our own).
-use Rattle.std.specs.Prelude.{ℕ, ◌≡◌, ◌+◌, ◌<◌, ◌≤◌, nat_lt, Bool, List, [], ◌++◌, length, replicate, slice_index_or, Result, OnOk, OnErr}
+use Rattle.std.specs.Prelude.{ℕ, ◌≡◌, zero, suc, ◌+◌, ◌-◌, ◌<◌, ◌≤◌, nat_lt, Bool, List, [], ◌∷◌, ◌++◌, length, replicate, slice_index_or, Result, OnOk, OnErr}
 use Rattle.std.specs.List.{count_by, filter, list_any, range_with_len}
 use Rattle.std.specs.declared.alloc.AllocError.{AllocError}
+use Rattle.std.specs.Arc.{arc_value}
 use Rattle.fab_dial.specs.declared.readings.Reading.{Reading}
 use Rattle.fab_sched.specs.Annealing.{IsLawful}
 use Rattle.fab_commit.specs.declared.run.alone.Ahead.{Ahead}
 use Rattle.fab_commit.specs.declared.run.owner.Owner.{Owner}
 use Rattle.fab_commit.specs.declared.run.swaps.Accepted.{Accepted}
 use Rattle.fab_commit.specs.Serial.{Run, Standing, accepted_among, from, judged_here, moves_left}
-use Rattle.fab_commit.specs.Run.ByTurns.{LeadsByTurns}
-use Rattle.fab_commit.specs.Run.Commits.{AnnealOf, IsSameRun, run_of, standing_of}
+use Rattle.fab_commit.specs.Run.ByTurns.{IsByTurns, LeadsByTurns}
+use Rattle.fab_commit.specs.Run.Commits.{AnnealOf, IsSameRun, IsSound, run_of, standing_of, world_of}
 use Rattle.fab_commit.specs.Run.Owners.{IsOwned, since}
-use Rattle.fab_commit.specs.Run.Pipelines.{IsBehind}
 use Rattle.fab_commit.specs.declared.run.pipeline.Pipeline.{Pipeline}
-use Rattle.fab_commit.specs.Run.Readings.{HasShown}
+use Rattle.fab_commit.specs.Run.Readings.{HasShown, readings}
 use Rattle.fab_commit.specs.Run.StampTables.{AreStamps, kept_stamp}
 use Rattle.fab_commit.specs.Model.History.{accepted_from}
 use Rattle.fab_commit.specs.Model.Stamps.{AreBefore}
-use Rattle.fab_commit.specs.Model.TurnEvents.{LastTurn, IsOfAStage, is_redone_behind, stands}
-use Rattle.fab_commit.specs.Model.Turns.{last_turn, redone}
+use Rattle.fab_commit.specs.Model.TurnEvents.{LastTurn, IsOfAStage, cut_turn, is_redone_behind, next_turn, stands, turn, turn_events, turn_making}
+use Rattle.fab_commit.specs.Model.Turns.{last_turn, redone, redone_in_run, redone_next, turns}
+use Rattle.fab_commit.specs.Model.World.{World, is_redone_way, ways}
 
 -- these are the words of the moves from k on
 abbrev pub AreWords : (ℕ → List ℕ) → ℕ → List (List ℕ) → Type 0
@@ -73,34 +74,91 @@ pub record HaveGone (r : Run) (batch : ℕ) (t : LastTurn) (o : Owner) (turns ma
   pub accepted : now.state.accepted.items ≡ o.state.accepted.items ++ accepted_among r (standing_of o.state) made
   pub redone : now.redone ≡ o.redone + redone r t (replicate turns batch)
 
--- after turn t turns of this batch made all moves that were left in the stage, and nothing is judged ahead
-pub record HasFinished (r : Run) (batch : ℕ) (t : LastTurn) (s : Pipeline) (turns : ℕ) (now : Pipeline) : Type 0 where
-  pub behind : IsBehind r (last_turn r t (replicate turns batch)) now
-  pub done : now.owner.state.done ≡ s.owner.state.done + moves_left r (standing_of s.owner.state)
-  pub there : standing_of now.owner.state ≡ from r (standing_of s.owner.state) (moves_left r (standing_of s.owner.state))
-  pub accepted : now.owner.state.accepted.items ≡ s.owner.state.accepted.items ++ accepted_among r (standing_of s.owner.state) (moves_left r (standing_of s.owner.state))
-  pub redone : now.owner.redone ≡ s.owner.redone + redone r t (replicate turns batch)
+-- after turn t came `turns` turns of this batch, which made `made` moves, and then one that made none, because memory ran out
+pub record HaveStopped (r : Run) (batch : ℕ) (t : LastTurn) (o : Owner) (turns made : ℕ) (now : Owner) (due : Ahead) : Type 0 where
+  pub alone : IsAlone r (cut_turn r 0 (last_turn r t (replicate turns batch))) now due
+  pub done : now.state.done ≡ o.state.done + made
+  pub there : standing_of now.state ≡ from r (standing_of o.state) made
+  pub accepted : now.state.accepted.items ≡ o.state.accepted.items ++ accepted_among r (standing_of o.state) made
+  pub redone : now.redone ≡ o.redone + redone r t (replicate turns batch)
+
+-- turns of this batch, and then a shorter one, if it has any moves
+abbrev pub with_shorter : ℕ → ℕ → ℕ → List ℕ
+with_shorter turns batch zero = replicate turns batch
+with_shorter turns batch (suc short) = replicate turns batch ++ suc short ∷ []
+
+-- a turn after which nothing is judged ahead
+abbrev pub unjudged : LastTurn → LastTurn
+unjudged t = record { start = t.start; made = t.made; ahead = 0 }
+
+-- after turn t, turns of this batch and then a shorter one made `made` moves; if no move of the stage is left, none was shorter but by that
+pub record HaveEnded (r : Run) (batch : ℕ) (t : LastTurn) (o : Owner) (made : ℕ) (now : Owner) (due : Ahead) : Type 0 where
+  pub turns : ℕ
+  pub short : ℕ
+  pub few : short ≤ batch
+  pub alone : IsAlone r (unjudged (last_turn r t (with_shorter turns batch short))) now due
+  pub whole : made ≡ moves_left r (standing_of o.state) → (short ≡ 0) × ((last_turn r t (replicate turns batch)).ahead ≡ 0)
+  pub done : now.state.done ≡ o.state.done + made
+  pub there : standing_of now.state ≡ from r (standing_of o.state) made
+  pub accepted : now.state.accepted.items ≡ o.state.accepted.items ++ accepted_among r (standing_of o.state) made
+  pub last : now.state.done ≡ (stands r (last_turn r t (replicate turns batch))).done + (next_turn r short (last_turn r t (replicate turns batch))).made
+  pub redone : now.redone ≡ o.redone + (redone r t (replicate turns batch) + redone_next r short (last_turn r t (replicate turns batch)))
 
 -- turns of this batch that were shown up to x are now shown up to y
 abbrev pub LeadsTo : Run → ℕ → Standing → Standing → List Reading → List Reading → Type 0
 LeadsTo r batch x y old new = (z : Standing) (before : List Reading) → HasShown r batch z before x old → HasShown r batch z before y new
 
--- turns that were shown up to x are now shown up to a standing that at most this many moves lead to
-pub record LeadsWithin (r : Run) (batch : ℕ) (x : Standing) (most : ℕ) (old new : List Reading) : Type 0 where
-  pub there : Standing
-  pub near : there.done ≤ x.done + most
-  pub leads : LeadsTo r batch x there old new
+-- the same, where the last turn may be shorter
+abbrev pub EndsAt : Run → ℕ → Standing → Standing → List Reading → List Reading → Type 0
+EndsAt r batch x y old new = (z : Standing) (before : List Reading) → HasShown r batch z before x old → new ≡ before ++ readings r z batch (y.done - z.done)
 
--- an annealer made the moves that were left in its stage alone, in turns of this batch, and showed each turn; or memory ran out after some
--- of them
-pub record IsFinishedAlone {W A : Type 0} (moves : W → ℕ → List ℕ) (batch : ℕ) (a b : AnnealOf W) (answer : Result A AllocError) (old new : List Reading) : Type 0 where
+-- an owner made `count` moves alone, in turns of this batch, of which the last may be shorter; or memory ran out after some turns. Nothing
+-- counts as judged ahead
+pub record AreMadeAlone {A : Type 0} (r : Run) (batch count : ℕ) (o : Owner) (ahead : Ahead) (now : Owner) (due : Ahead) (answer : Result A AllocError) (old new : List Reading) : Type 0 where
+  pub none : due.moves ≡ 0
+  pub ended : OnOk answer ((t : LastTurn) → IsAlone r t o ahead → HaveEnded r batch t o count now due)
+  pub stopped : OnErr answer ((t : LastTurn) → IsAlone r t o ahead → (turns : ℕ) × (made : ℕ) × (made ≤ count) × HaveStopped r batch t o turns made now due)
+  pub shown : OnOk answer (count ≡ moves_left r (standing_of o.state) → LeadsTo r batch (standing_of o.state) (standing_of now.state) old new)
+  pub ends : OnOk answer (EndsAt r batch (standing_of o.state) (standing_of now.state) old new)
+  pub cut : OnErr answer (LeadsTo r batch (standing_of o.state) (standing_of now.state) old new)
+
+-- what is kept between turns says the same of the annealer
+pub record IsFollowed (r : Run) (now : Pipeline) (due : Ahead) : Type 0 where
+  pub older : IsSound r (arc_value now.older)
+  pub same : standing_of (arc_value now.older) ≡ standing_of now.owner.state
+  pub base : now.base ≡ due.base
+  pub ahead : now.ahead.items ≡ []
+
+-- how many moves the turns of these batches judge again in a world
+abbrev pub redone_in : Run → World → List ℕ → ℕ
+redone_in r w [] = 0
+redone_in r w (batch ∷ batches) = count_by is_redone_way (ways r w (turn_events r batch w)) + redone_in r (turn r batch w) batches
+
+-- an annealer made `count` moves of its stage alone, in turns of this batch, of which the last may be shorter, and showed each turn; or memory
+-- ran out after some turns
+pub record IsMadeAlone {W A : Type 0} (moves : W → ℕ → List ℕ) (batch count : ℕ) (a b : AnnealOf W) (answer : Result A AllocError) (old new : List Reading) : Type 0 where
   -- What the run is given stays the same.
   pub same : IsSameRun a b
   -- The moves are made as if one at a time.
-  pub stands : OnOk answer (b.standing ≡ from (run_of moves a) a.standing (moves_left (run_of moves a) a.standing))
-  pub done : OnOk answer (b.standing.done ≡ a.standing.done + moves_left (run_of moves a) a.standing)
-  pub accepted : OnOk answer (b.accepted ≡ a.accepted ++ accepted_among (run_of moves a) a.standing (moves_left (run_of moves a) a.standing))
-  -- They count as turns: the moves that turns of this batch would have judged again are counted.
-  pub turns : OnOk answer (LeadsByTurns (run_of moves a) batch a b)
-  pub shown : OnOk answer (LeadsTo (run_of moves a) batch a.standing b.standing old new)
-  pub cut : OnErr answer (LeadsWithin (run_of moves a) batch a.standing (moves_left (run_of moves a) a.standing) old new)
+  pub stands : b.standing ≡ from (run_of moves a) a.standing (b.standing.done - a.standing.done)
+  pub accepted : b.accepted ≡ a.accepted ++ accepted_among (run_of moves a) a.standing (b.standing.done - a.standing.done)
+  pub ok : OnOk answer (b.standing.done ≡ a.standing.done + count)
+  pub within : (a.standing.done ≤ b.standing.done) × (b.standing.done ≤ a.standing.done + count)
+  -- They are turns of a world, whatever was judged ahead in it; if memory ran out, a turn comes after them that makes no move.
+  pub turns_made : ℕ
+  pub short : ℕ
+  pub few : short ≤ batch
+  pub world : OnOk answer (world_of b ≡ (let w = turns (run_of moves a) (world_of a) (with_shorter turns_made batch short) in record w { verdicts = [] }))
+  pub cut : OnErr answer (world_of b ≡ turn_making (run_of moves a) 0 0 (turns (run_of moves a) (world_of a) (replicate turns_made batch)))
+  -- The count of moves judged again grows by those that these turns judge again.
+  pub redone : b.redone ≡ a.redone + redone_in (run_of moves a) (world_of a) (replicate turns_made batch ++ short ∷ [])
+  -- Nothing is judged ahead.
+  pub ahead : b.ahead ≡ []
+  -- If turns of this batch led to `a` from some standing, those to the end of the stage are more of them; and the moves judged again since that
+  -- standing are those of one batch, even if the last turn is shorter.
+  pub by_turns : OnOk answer (count ≡ moves_left (run_of moves a) a.standing → LeadsByTurns (run_of moves a) batch a b)
+  pub counted : OnOk answer ((x : Standing) → IsByTurns (run_of moves a) x batch a → b.redone ≡ redone_in_run (run_of moves a) x batch (b.standing.done - x.done))
+  -- Each turn is shown.
+  pub shown : OnOk answer (count ≡ moves_left (run_of moves a) a.standing → LeadsTo (run_of moves a) batch a.standing b.standing old new)
+  pub ends : OnOk answer (EndsAt (run_of moves a) batch a.standing b.standing old new)
+  pub shown_cut : OnErr answer (LeadsTo (run_of moves a) batch a.standing b.standing old new)

@@ -1,17 +1,18 @@
 //! Stages whose moves the owner judges itself, each on the live placement. Most judgements made ahead would be spoilt there, and the owner
 //! counts those that would.
 
-ghost use Rattle.std.specs.Prelude.{◌≡◌, ℕ, ◌+◌, ◌<◌, ◌≤◌, ◌++◌, [], ◌∷◌, false, length, Some, IsTrue, MatchResult, OnOk, OnErr};
+ghost use Rattle.std.specs.Prelude.{◌≡◌, ℕ, ◌+◌, ◌-◌, ◌<◌, ◌≤◌, ◌++◌, [], ◌∷◌, true, false, length, Some, IsTrue, MatchResult, IfOk, OnOk, OnErr};
 ghost use Rattle.std.specs.Arc.{arc_value};
 ghost use Rattle.std.specs.List.{count_by, range_with_len};
 ghost use Rattle.fab_sched.specs.Annealing.{IsLawful};
 ghost use Rattle.fab_site.specs.Placement.{IsSwapOf};
 ghost use Rattle.fab_move.specs.Judge.{IsDecision};
-ghost use Rattle.fab_commit.specs.Serial.{judged_here, moves_left};
-ghost use Rattle.fab_commit.specs.Run.Alone.{AreOpen, AreWords, HasFinished, HasGone, HaveGone, IsAlone, LeadsTo, LeadsWithin, is_touched_here};
+ghost use Rattle.fab_commit.specs.declared.run.alone.Ahead.{Ahead as IsAhead};
+ghost use Rattle.fab_commit.specs.Serial.{from, judged_here, moves_left};
+ghost use Rattle.fab_commit.specs.Run.Alone.{AreMadeAlone, AreOpen, AreWords, HasGone, HaveGone, HaveStopped, IsAlone, IsFollowed, LeadsTo, is_touched_here};
 ghost use Rattle.fab_commit.specs.Run.Commits.{IsSound, run_for, standing_of};
 ghost use Rattle.fab_commit.specs.Run.Owners.{HasMade, HasRoom, IsOwned, Leads};
-ghost use Rattle.fab_commit.specs.Run.Pipelines.{HasTurn, IsBehind};
+ghost use Rattle.fab_commit.specs.Run.Pipelines.{HasTurn};
 ghost use Rattle.fab_commit.specs.Run.Readings.{reading_at};
 ghost use Rattle.fab_commit.specs.Model.History.{is_redone};
 ghost use Rattle.fab_commit.specs.Model.TurnEvents.{LastTurn, next_turn};
@@ -81,7 +82,8 @@ fn asked_again<W: Words>(source: &W, k: u64, words: [u32; 4], again: bool) -> [u
     }
 }
 
-/// Makes the moves that have these words. `base` is the number of moves in the placement that they count as judged on. Allocates nothing.
+/// Makes the moves that have these words. `base` is the number of moves in the placement that they count as judged on. The gate has had
+/// the call before the first judgement; if it does nothing, that call stands for all. Allocates nothing.
 fn commit_some<W: Words, G: Gate>(
     given: &Given<'_, W>,
     owner: &mut Owner,
@@ -100,7 +102,6 @@ fn commit_some<W: Words, G: Gate>(
 {
     'moves: for i in 0..words.len() {
         let number = owner.state.done;
-        gate.before_judge(number);
         let (decision, again) = decided_alone(given, owner, base, words[i]);
         gate.after_judge(number);
         gate.before_commit(number);
@@ -111,17 +112,26 @@ fn commit_some<W: Words, G: Gate>(
     }
 }
 
-/// How many moves' words are made at once.
-const AT_ONCE: u64 = 32;
+/// The most moves whose words are made at once.
+const AT_ONCE: usize = 32;
 
-/// Makes the next moves of the running stage. `base` is the number of moves in the placement that they count as judged on. Allocates
-/// nothing.
+/// How many moves' words are made at once. A gate that notes its calls sees that the words of a move are asked for between the calls before
+/// and after its judgement, so with such a gate they are made by themselves.
+fn at_once<G: Gate>(gate: &G) -> usize
+    ensures { (1 ≤ result) × (result ≤ 32) }
+{
+    if gate.does_nothing() { AT_ONCE } else { 1 }
+}
+
+/// Makes the next moves of the running stage. `base` is the number of moves in the placement that they count as judged on. `words` is room
+/// for the words of some moves. Allocates nothing.
 fn commit_alone<W: Words, G: Gate>(
     given: &Given<'_, W>,
     owner: &mut Owner,
     moves: u64,
     base: u64,
     gate: &G,
+    words: &mut [[u32; 4]; AT_ONCE],
 )
     requires plan { IsLawful given.now.schedule }
     requires owned { IsOwned (run_for W.moves given.now) owner.old }
@@ -131,11 +141,12 @@ fn commit_alone<W: Words, G: Gate>(
     ensures redone { (due : AreOpen (run_for W.moves given.now) owner.old base moves) → owner.new.redone ≡ owner.old.redone + count_by (is_redone (run_for W.moves given.now) due.start base) (range_with_len owner.old.state.done moves) }
     ensures room { (n : ℕ) → HasRoom owner.old (moves + n) → HasRoom owner.new n }
 {
-    let mut words = [[0u32; 4]; AT_ONCE as usize];
+    let most = at_once(gate) as u64;
     let mut made = 0;
     while made < moves {
-        let count = (moves - made).min(AT_ONCE);
+        let count = (moves - made).min(most);
         let some = &mut words[..count as usize];
+        gate.before_judge(owner.state.done);
         given.words.fill_words(owner.state.done, some);
         commit_some(given, owner, &*some, base, gate);
         made += count;
@@ -150,6 +161,7 @@ pub(crate) fn turn_alone<W: Words, G: Gate>(
     ahead: Ahead,
     batch: u64,
     gate: &G,
+    words: &mut [[u32; 4]; AT_ONCE],
 ) -> Result<Ahead, AllocError>
     requires alone { (t : LastTurn) × IsAlone (run_for W.moves given.now) t owner.old ahead }
     requires batch { (1 ≤ batch) × (batch ≤ 4096) }
@@ -162,8 +174,8 @@ pub(crate) fn turn_alone<W: Words, G: Gate>(
     owner.swaps.clear();
     reserve(owner, moves)?;
     let kept = ahead.moves.min(moves);
-    commit_alone(given, owner, kept, ahead.base, gate);
-    commit_alone(given, owner, moves - kept, start, gate);
+    commit_alone(given, owner, kept, ahead.base, gate, words);
+    commit_alone(given, owner, moves - kept, start, gate, words);
     Ok(Ahead {
         base: start,
         moves: batch.min(left - moves),
@@ -211,11 +223,13 @@ fn follow_turn<W: Words, R: Wait>(
     }
 }
 
-/// How the rest of a stage is made alone.
+/// How moves of a stage are made alone.
 #[derive(Drop)]
 pub(crate) struct AlonePlan<'g, G: Gate> {
     /// How many moves a turn has at most.
     pub(crate) batch: u64,
+    /// How many moves are made.
+    pub(crate) count: u64,
     /// Whether the older state follows after each turn; else it is copied whole at the end.
     pub(crate) each: bool,
     /// The gate of the judgements and the commits.
@@ -224,49 +238,146 @@ pub(crate) struct AlonePlan<'g, G: Gate> {
     pub(crate) dial: &'g Dial,
 }
 
-/// Makes the moves that are left in the running stage, by turns, and shows after each turn how far the run has come. If memory runs out,
-/// the turns that were made stay.
-fn turns_alone<W: Words, G: Gate, R: Wait>(
+/// What goes from turn to turn.
+#[derive(Drop)]
+struct Course {
+    /// The moves that count as judged ahead.
+    ahead: Ahead,
+    /// Room for the words of some moves.
+    words: [[u32; 4]; AT_ONCE],
+}
+
+/// Makes a turn of at most `batch` moves, and shows how far the run has come. An error means that memory ran out; then no move was made.
+fn one_turn<W: Words, G: Gate, R: Wait>(
     rt: &R,
     given: &Given<'_, W>,
     state: &mut Pipeline,
     plan: &AlonePlan<'_, G>,
-    ahead: &mut Ahead,
+    batch: u64,
+    course: &mut Course,
     shower: &mut Shower,
 ) -> Result<(), AllocError>
-    requires alone { (t : LastTurn) × IsAlone (run_for W.moves given.now) t state.old.owner ahead.old }
-    requires some { 0 < moves_left (run_for W.moves given.now) (standing_of state.old.owner.state) }
+    requires alone { (t : LastTurn) × IsAlone (run_for W.moves given.now) t state.old.owner course.old.ahead }
+    requires older { IsSound (run_for W.moves given.now) (arc_value state.old.older) }
+    requires same { IsTrue plan.now.each → standing_of (arc_value state.old.older) ≡ standing_of state.old.owner.state }
+    requires batch { (1 ≤ batch) × (batch ≤ 4096) }
+    requires own { shower.old.dial ≡ plan.now.dial.now }
+    ensures older { IsSound (run_for W.moves given.now) (arc_value state.new.older) }
+    ensures same { IsTrue plan.now.each → standing_of (arc_value state.new.older) ≡ standing_of state.new.owner.state }
+    ensures ok { MatchResult result (λ _. (t : LastTurn) → IsAlone (run_for W.moves given.now) t state.old.owner course.old.ahead → HasGone (run_for W.moves given.now) t state.old.owner (next_turn (run_for W.moves given.now) batch t).made (next_turn (run_for W.moves given.now) batch t).ahead state.new.owner course.new.ahead) (λ _. (t : LastTurn) → IsAlone (run_for W.moves given.now) t state.old.owner course.old.ahead → HasGone (run_for W.moves given.now) t state.old.owner 0 0 state.new.owner course.new.ahead) }
+    ensures none { OnErr result (course.new.ahead.moves ≡ 0) }
+    ensures dial { shower.new.dial ≡ shower.old.dial }
+    ensures shown { OnOk result (shower.new.shown ≡ shower.old.shown ++ reading_at (run_for W.moves given.now) (standing_of state.new.owner.state) ∷ []) }
+    ensures kept { OnErr result (shower.new.shown ≡ shower.old.shown) }
+{
+    let before = state.owner.state.done;
+    let room = &mut course.words;
+    match turn_alone(
+        given,
+        &mut state.owner,
+        course.ahead,
+        batch,
+        plan.gate,
+        room,
+    ) {
+        Ok(next) => course.ahead = next,
+        Err(error) => {
+            course.ahead = Ahead {
+                base: before,
+                moves: 0,
+            };
+            return Err(error);
+        }
+    }
+    let owner = &state.owner;
+    follow_turn(
+        rt,
+        given,
+        &mut state.older,
+        plan.each,
+        &owner.state,
+        &owner.swaps,
+    );
+    show_state(rt, given, &owner.state, plan.dial, shower);
+    Ok(())
+}
+
+/// Whether a turn of a whole batch comes next, where `rest` of `count` moves are to be made of a stage that had `left` moves: at its end
+/// fewer are a whole batch too.
+fn goes_on(rest: u64, batch: u64, count: u64, left: u64) -> bool
+    requires { 1 ≤ batch }
+    ensures yes { result ≡ true → (0 < rest) × (rest < batch → count ≡ left) }
+    ensures no { result ≡ false → (rest < batch) × (count ≡ left → rest ≡ 0) }
+{
+    rest >= batch || (rest > 0 && count == left)
+}
+
+/// Makes moves of the running stage by turns of whole batches. Returns how many of the plan's moves are left, fewer than a batch; none if the
+/// stage ends with them. If memory runs out, the turns that were made stay.
+fn whole_turns<W: Words, G: Gate, R: Wait>(
+    rt: &R,
+    given: &Given<'_, W>,
+    state: &mut Pipeline,
+    plan: &AlonePlan<'_, G>,
+    course: &mut Course,
+    shower: &mut Shower,
+) -> Result<u64, AllocError>
+    requires alone { (t : LastTurn) × IsAlone (run_for W.moves given.now) t state.old.owner course.old.ahead }
+    requires some { (plan.now.count ≤ moves_left (run_for W.moves given.now) (standing_of state.old.owner.state)) × (0 < moves_left (run_for W.moves given.now) (standing_of state.old.owner.state)) }
     requires older { IsSound (run_for W.moves given.now) (arc_value state.old.older) }
     requires same { IsTrue plan.now.each → standing_of (arc_value state.old.older) ≡ standing_of state.old.owner.state }
     requires batch { (1 ≤ plan.now.batch) × (plan.now.batch ≤ 4096) }
     requires own { shower.old.dial ≡ plan.now.dial.now }
     ensures older { IsSound (run_for W.moves given.now) (arc_value state.new.older) }
     ensures same { IsTrue plan.now.each → standing_of (arc_value state.new.older) ≡ standing_of state.new.owner.state }
-    ensures left { (t : LastTurn) × IsAlone (run_for W.moves given.now) t state.new.owner ahead.new }
-    ensures none { ahead.new.moves ≡ 0 }
-    ensures gone { OnOk result ((t : LastTurn) → IsAlone (run_for W.moves given.now) t state.old.owner ahead.old → (n : ℕ) × HaveGone (run_for W.moves given.now) plan.now.batch t state.old.owner n (moves_left (run_for W.moves given.now) (standing_of state.old.owner.state)) state.new.owner ahead.new) }
+    ensures left { (t : LastTurn) × IsAlone (run_for W.moves given.now) t state.new.owner course.new.ahead }
+    ensures none { OnErr result (course.new.ahead.moves ≡ 0) }
+    ensures rest { IfOk result (λ k. (k < plan.now.batch) × (k ≤ plan.now.count) × (plan.now.count ≡ moves_left (run_for W.moves given.now) (standing_of state.old.owner.state) → (k ≡ 0) × (course.new.ahead.moves ≡ 0))) }
+    ensures stands { IfOk result (λ k. standing_of state.new.owner.state ≡ from (run_for W.moves given.now) (standing_of state.old.owner.state) (plan.now.count - k)) }
+    ensures done { IfOk result (λ k. state.new.owner.state.done ≡ state.old.owner.state.done + (plan.now.count - k)) }
+    ensures gone { IfOk result (λ k. (t : LastTurn) → IsAlone (run_for W.moves given.now) t state.old.owner course.old.ahead → (n : ℕ) × HaveGone (run_for W.moves given.now) plan.now.batch t state.old.owner n (plan.now.count - k) state.new.owner course.new.ahead) }
+    ensures stopped { OnErr result ((t : LastTurn) → IsAlone (run_for W.moves given.now) t state.old.owner course.old.ahead → (n : ℕ) × (made : ℕ) × (made ≤ plan.now.count) × HaveStopped (run_for W.moves given.now) plan.now.batch t state.old.owner n made state.new.owner course.new.ahead) }
     ensures dial { shower.new.dial ≡ shower.old.dial }
-    ensures shown { OnOk result (LeadsTo (run_for W.moves given.now) plan.now.batch (standing_of state.old.owner.state) (standing_of state.new.owner.state) shower.old.shown shower.new.shown) }
-    ensures shown_cut { OnErr result (LeadsWithin (run_for W.moves given.now) plan.now.batch (standing_of state.old.owner.state) (moves_left (run_for W.moves given.now) (standing_of state.old.owner.state)) shower.old.shown shower.new.shown) }
+    ensures shown { LeadsTo (run_for W.moves given.now) plan.now.batch (standing_of state.old.owner.state) (standing_of state.new.owner.state) shower.old.shown shower.new.shown }
 {
-    let mut left = moves_left(&given.schedule, &state.owner.state);
-    while left > 0 {
+    let left = moves_left(&given.schedule, &state.owner.state);
+    let mut rest = plan.count;
+    'turns: while goes_on(rest, plan.batch, plan.count, left) {
         let before = state.owner.state.done;
-        match turn_alone(given, &mut state.owner, *ahead, plan.batch, plan.gate) {
-            Ok(next) => *ahead = next,
-            Err(error) => {
-                *ahead = Ahead {
-                    base: before,
-                    moves: 0,
-                };
-                return Err(error);
-            }
-        }
-        let owner = &state.owner;
-        follow_turn(rt, given, &mut state.older, plan.each, &owner.state, &owner.swaps);
-        show_state(rt, given, &owner.state, plan.dial, shower);
-        left -= owner.state.done - before;
+        one_turn(rt, given, state, plan, plan.batch, course, shower)?;
+        rest -= state.owner.state.done - before;
     }
+    Ok(rest)
+}
+
+/// Makes the plan's moves of the running stage by turns of one batch, of which the last may be shorter. Then nothing counts as judged ahead.
+/// If memory runs out, the turns that were made stay.
+fn make_count<W: Words, G: Gate, R: Wait>(
+    rt: &R,
+    given: &Given<'_, W>,
+    state: &mut Pipeline,
+    plan: &AlonePlan<'_, G>,
+    course: &mut Course,
+    shower: &mut Shower,
+) -> Result<(), AllocError>
+    requires alone { (t : LastTurn) × IsAlone (run_for W.moves given.now) t state.old.owner course.old.ahead }
+    requires some { (plan.now.count ≤ moves_left (run_for W.moves given.now) (standing_of state.old.owner.state)) × (0 < moves_left (run_for W.moves given.now) (standing_of state.old.owner.state)) }
+    requires older { IsSound (run_for W.moves given.now) (arc_value state.old.older) }
+    requires same { IsTrue plan.now.each → standing_of (arc_value state.old.older) ≡ standing_of state.old.owner.state }
+    requires batch { (1 ≤ plan.now.batch) × (plan.now.batch ≤ 4096) }
+    requires own { shower.old.dial ≡ plan.now.dial.now }
+    ensures older { IsSound (run_for W.moves given.now) (arc_value state.new.older) }
+    ensures same { IsTrue plan.now.each → standing_of (arc_value state.new.older) ≡ standing_of state.new.owner.state }
+    ensures made { AreMadeAlone (run_for W.moves given.now) plan.now.batch plan.now.count state.old.owner course.old.ahead state.new.owner course.new.ahead result shower.old.shown shower.new.shown }
+    ensures dial { shower.new.dial ≡ shower.old.dial }
+{
+    let rest = whole_turns(rt, given, state, plan, course, shower)?;
+    if rest == 0 {
+        course.ahead.moves = 0;
+        return Ok(());
+    }
+    one_turn(rt, given, state, plan, rest, course, shower)?;
+    course.ahead.moves = 0;
     Ok(())
 }
 
@@ -341,8 +452,8 @@ pub(crate) fn is_short<W: Words>(given: &Given<'_, W>, left: u64) -> bool {
     left.saturating_mul(ENTRIES_A_MOVE) < entries as u64
 }
 
-/// Makes the moves that are left in the running stage, each judged by the owner, by turns. If memory runs out, the turns that were made
-/// stay, and nothing is judged ahead.
+/// Makes the plan's moves of the running stage, each judged by the owner, by turns. If memory runs out, the turns that were made stay. In
+/// either case nothing is judged ahead then.
 pub(crate) fn finish_alone<W: Words, G: Gate, R: Wait>(
     rt: &R,
     given: &Given<'_, W>,
@@ -351,22 +462,23 @@ pub(crate) fn finish_alone<W: Words, G: Gate, R: Wait>(
     shower: &mut Shower,
 ) -> Result<(), AllocError>
     requires behind { HasTurn (run_for W.moves given.now) state.old }
-    requires some { 0 < moves_left (run_for W.moves given.now) (standing_of state.old.owner.state) }
+    requires some { (plan.now.count ≤ moves_left (run_for W.moves given.now) (standing_of state.old.owner.state)) × (0 < moves_left (run_for W.moves given.now) (standing_of state.old.owner.state)) }
     requires batch { (1 ≤ plan.now.batch) × (plan.now.batch ≤ 4096) }
     requires own { shower.old.dial ≡ plan.now.dial.now }
     ensures left { HasTurn (run_for W.moves given.now) state.new }
-    ensures finished { OnOk result ((t : LastTurn) → IsBehind (run_for W.moves given.now) t state.old → (n : ℕ) × HasFinished (run_for W.moves given.now) plan.now.batch t state.old n state.new) }
+    ensures made { (due : IsAhead) × IsFollowed (run_for W.moves given.now) state.new due × AreMadeAlone (run_for W.moves given.now) plan.now.batch plan.now.count state.old.owner (record { base = state.old.base; moves = length state.old.ahead.items }) state.new.owner due result shower.old.shown shower.new.shown }
     ensures dial { shower.new.dial ≡ shower.old.dial }
-    ensures shown { OnOk result (LeadsTo (run_for W.moves given.now) plan.now.batch (standing_of state.old.owner.state) (standing_of state.new.owner.state) shower.old.shown shower.new.shown) }
-    ensures shown_cut { OnErr result (LeadsWithin (run_for W.moves given.now) plan.now.batch (standing_of state.old.owner.state) (moves_left (run_for W.moves given.now) (standing_of state.old.owner.state)) shower.old.shown shower.new.shown) }
 {
-    let mut ahead = Ahead {
-        base: state.base,
-        moves: state.ahead.len() as u64,
+    let mut course = Course {
+        ahead: Ahead {
+            base: state.base,
+            moves: state.ahead.len() as u64,
+        },
+        words: [[0u32; 4]; AT_ONCE],
     };
-    let made = turns_alone(rt, given, state, plan, &mut ahead, shower);
+    let made = make_count(rt, given, state, plan, &mut course, shower);
     follow_at_end(rt, given, &mut state.older, plan.each, &state.owner.state);
-    state.base = ahead.base;
+    state.base = course.ahead.base;
     state.ahead.clear();
     made
 }

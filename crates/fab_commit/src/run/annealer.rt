@@ -8,7 +8,7 @@ ghost use Rattle.fab_site.specs.Placement.{IsLegal};
 ghost use Rattle.fab_move.specs.Judge.{says};
 ghost use Rattle.fab_commit.specs.declared.model.judged.JudgedMove.{JudgedMove};
 ghost use Rattle.fab_commit.specs.Serial.{IsStanding, at_start, from, moves_left, stage_of};
-ghost use Rattle.fab_commit.specs.Run.Alone.{IsFinishedAlone};
+ghost use Rattle.fab_commit.specs.Run.Alone.{IsMadeAlone};
 ghost use Rattle.fab_commit.specs.Run.Commits.{IsSound, run, run_for, run_of, standing_of, turn_of};
 ghost use Rattle.fab_commit.specs.Run.Points.{IsPoint, TellsPoint, going_on, standing_at};
 ghost use Rattle.fab_commit.specs.Run.Readings.{IsShown, reading_at};
@@ -262,13 +262,7 @@ impl<'a, W: Words + Drop> Anneal<'a, W> {
 }
 
 impl<'a, W: Words + Drop> Anneal<'a, W> {
-    /// Makes the moves that are left in the running stage, of which there are some. The calling thread judges each when its turn comes, on
-    /// the live placement; no move is judged ahead. The moves are those of turns of `batch` moves, from 1 to 4,096, which show on the dial
-    /// how far the run has come, and whose judgements ahead would have been spoilt as often. By contract the shower is one of this dial.
-    ///
-    /// The gate is called before and after the judgement of each move, and before its commit.
-    ///
-    /// An error means that memory ran out. Then the turns that were made stay, and nothing is judged ahead.
+    /// Makes the moves that are left in the running stage, of which there are some, as [`Anneal::make_alone`] does.
     pub fn finish_stage_alone<G: Gate, R: Wait>(
         &mut self,
         rt: &R,
@@ -280,14 +274,45 @@ impl<'a, W: Words + Drop> Anneal<'a, W> {
         requires some { 0 < moves_left (run_of W.moves self.old) self.old.standing }
         requires batch { (1 ≤ batch) × (batch ≤ 4096) }
         requires own { shower.old.dial ≡ dial.now }
-        ensures finished { IsFinishedAlone W.moves batch self.old self.new result shower.old.shown shower.new.shown }
+        ensures finished { IsMadeAlone W.moves batch (moves_left (run_of W.moves self.old) self.old.standing) self.old self.new result shower.old.shown shower.new.shown }
+        ensures dial { shower.new.dial ≡ shower.old.dial }
+    {
+        let left = moves_left(&self.given.schedule, &self.pipeline.owner.state);
+        self.make_alone(rt, left, batch, gate, dial, shower)
+    }
+
+    /// Makes the next `count` moves of the running stage, of which some are left, and at least so many. The calling thread judges each when its
+    /// turn comes, on the live placement; no move is judged ahead. The moves are those of turns of `batch` moves, from 1 to 4,096, of which
+    /// the last may be shorter. Each turn shows on the dial how far the run has come. The judgements ahead of these turns would have been
+    /// spoilt as often: `redone` grows by as many as they would have judged again, though nothing is judged twice. By contract the shower
+    /// is one of this dial.
+    ///
+    /// The gate is called before and after the judgement of each move, and before its commit, all by the calling thread. So a gate that
+    /// waits in one call for another waits for ever here. If the gate says that it does nothing, the words of some moves are asked for
+    /// together; else those of a move are asked for between the calls before and after its judgement.
+    ///
+    /// An error means that memory ran out. Then the turns that were made stay, as `done`, `accepted` and `redone` tell, and another call
+    /// can go on. In either case nothing is judged ahead then.
+    pub fn make_alone<G: Gate, R: Wait>(
+        &mut self,
+        rt: &R,
+        count: u64,
+        batch: u64,
+        gate: &G,
+        dial: &Dial,
+        shower: &mut Shower,
+    ) -> Result<(), AllocError>
+        requires some { (count ≤ moves_left (run_of W.moves self.old) self.old.standing) × (0 < moves_left (run_of W.moves self.old) self.old.standing) }
+        requires batch { (1 ≤ batch) × (batch ≤ 4096) }
+        requires own { shower.old.dial ≡ dial.now }
+        ensures made { IsMadeAlone W.moves batch count self.old self.new result shower.old.shown shower.new.shown }
         ensures dial { shower.new.dial ≡ shower.old.dial }
     {
         let given: &Given<'_, W> = &self.given;
-        let left = moves_left(&given.schedule, &self.pipeline.owner.state);
         let plan = AlonePlan {
             batch,
-            each: is_short(given, left),
+            count,
+            each: is_short(given, count),
             gate,
             dial,
         };

@@ -1,6 +1,6 @@
-use Rattle.std.proofs.Common.{◌≡◌, ◌+◌, length, refl, ap, subst, ◌∙◌, arith}
+use Rattle.std.proofs.Common.{◌≡◌, ◌+◌, length, drop, refl, ap, subst, ◌∙◌, arith}
 use Rattle.std.specs.List.{count_by, range_with_len}
-use Rattle.std.proofs.lemmas.List.{length-take}
+use Rattle.std.proofs.lemmas.List.{length-append, length-drop, length-take}
 use Rattle.fab_commit.specs.Run.Commits.{run_for}
 use Rattle.fab_commit.specs.Run.Owners.{HasMade}
 use Rattle.fab_commit.specs.Model.History.{is_redone}
@@ -48,7 +48,7 @@ loop-made-preserved g c =
     let n = c.loop-made.made in
     let m = c.min-count.result in
     let inv = c.loop-made.invariant in
-    let array = c.min-count.array_long in
+    let array = inv.long in
     let long = length-take c.min-count.result c.loop-made.words in
     let same = c.fill_words.auto.out in
     let count = c.min-count.ensures in
@@ -57,6 +57,7 @@ loop-made-preserved g c =
     let all : length c.fill_words.new.out ≡ m = omega (arith, array, long, same, count) in
     record {
       low = omega (arith, low, more, count);
+      long = length-append c.fill_words.new.out (drop m c.loop-made.words) ∙ (let rest = length-drop m c.loop-made.words in omega (arith, all, array, rest, long, same));
       has = made_more r o mid now n m inv.has (subst (λ k. HasMade r mid k now) all c.commit_some.ensures.made);
       redone = λ due.
           let next = open_later r o mid c.args.base c.args.moves n (length c.fill_words.new.out) due inv.has (omega (arith, low, more, long, same, count)) in

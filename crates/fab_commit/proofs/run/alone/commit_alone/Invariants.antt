@@ -1,4 +1,4 @@
-use Rattle.std.proofs.Common.{◌≡◌, ℕ, ◌+◌, ◌-◌, ◌≤◌}
+use Rattle.std.proofs.Common.{◌≡◌, ℕ, ◌+◌, ◌-◌, ◌≤◌, length}
 use Rattle.std.specs.List.{count_by, range_with_len}
 use Rattle.fab_commit.specs.Run.Alone.{AreOpen}
 use Rattle.fab_commit.specs.Run.Commits.{run_for}
@@ -11,6 +11,7 @@ invariant-loop-made g l =
     let r = run_for g.W.Words.moves l.given in
     record {
       low : l.made ≤ l.moves;
+      long : length l.words ≡ 32;
       has : HasMade r l.initial.owner l.made l.owner;
       redone : (due : AreOpen r l.initial.owner l.base l.moves) → l.owner.redone ≡ l.initial.owner.redone + count_by (is_redone r due.start l.base) (range_with_len l.initial.owner.state.done l.made);
       room : (n : ℕ) → HasRoom l.initial.owner (l.made + n) → HasRoom l.owner n;

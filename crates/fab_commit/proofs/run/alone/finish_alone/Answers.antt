@@ -1,17 +1,41 @@
-use Rattle.std.proofs.Common.{refl, arith}
+use Rattle.std.proofs.Common.{refl, subst, arith}
 use Rattle.fab_commit.specs.declared.run.alone.Ahead.{Ahead}
+use Rattle.fab_commit.specs.Run.Alone.{AreMadeAlone, IsFollowed}
 use Rattle.fab_commit.specs.Run.Commits.{run_for}
-use Rattle.fab_commit.proofs.RunLemmas.Alone.{alone_behind, finished, on_ok}
+use Rattle.fab_commit.proofs.RunLemmas.Alone.{alone_behind, left_alone, sound_alone}
 use Rattle.fab_commit.proofs.run.alone.finish_alone.Goals as goal
 
-pub returns-clause-finished : goal.returns-clause-finished
-returns-clause-finished g c =
+pub follow_at_end-requires-clause-live : goal.follow_at_end-requires-clause-live
+follow_at_end-requires-clause-live g c =
     let r = run_for g.W.Words.moves c.args.given.now in
     let s = c.args.state.now in
     let long = c.len.ensures in
     let kept = s.ahead.ok.0 in
     let ahead : Ahead = record { base = s.base; moves = c.len.result } in
-    on_ok c.turns_alone-made.result _ _ c.turns_alone-made.ensures.gone
-    (λ gone t b.
-    let h = gone t (alone_behind r t s ahead b refl (omega (arith, long, kept))) in
-    (h.0, finished r c.args.plan.now.batch t s _ h.0 c.turns_alone-made.new.ahead h.1 c.turns_alone-made.ensures.none c.clear.ensures.items c.follow_at_end.ensures.sound c.follow_at_end.ensures.stands refl))
+    let alone = alone_behind r c.requires.behind.0 s ahead c.requires.behind.1 refl (omega (arith, long, kept)) in
+    sound_alone r c.args.plan.now.batch c.args.plan.now.count c.requires.behind.0 s.owner ahead c.make_count-made.new.state.owner c.make_count-made.new.course.ahead c.make_count-made.result _ _ alone c.make_count-made.ensures.made
+
+pub returns-clause-left : goal.returns-clause-left
+returns-clause-left g c =
+    let r = run_for g.W.Words.moves c.args.given.now in
+    let s = c.args.state.now in
+    let long = c.len.ensures in
+    let kept = s.ahead.ok.0 in
+    let ahead : Ahead = record { base = s.base; moves = c.len.result } in
+    let due = c.make_count-made.new.course.ahead in
+    let alone = alone_behind r c.requires.behind.0 s ahead c.requires.behind.1 refl (omega (arith, long, kept)) in
+    let followed : IsFollowed r _ due = record { older = c.follow_at_end.ensures.sound; same = c.follow_at_end.ensures.stands; base = refl; ahead = c.clear.ensures.items } in
+    left_alone r c.args.plan.now.batch c.args.plan.now.count c.requires.behind.0 s.owner ahead _ due c.make_count-made.result _ _ alone c.make_count-made.ensures.made followed
+
+pub returns-clause-made : goal.returns-clause-made
+returns-clause-made g c =
+    let r = run_for g.W.Words.moves c.args.given.now in
+    let s = c.args.state.now in
+    let long = c.len.ensures in
+    let kept = s.ahead.ok.0 in
+    let due = c.make_count-made.new.course.ahead in
+    let now = c.make_count-made.new.state.owner in (
+      due,
+      record { older = c.follow_at_end.ensures.sound; same = c.follow_at_end.ensures.stands; base = refl; ahead = c.clear.ensures.items },
+      subst (λ n. AreMadeAlone r c.args.plan.now.batch c.args.plan.now.count s.owner (record { base = s.base; moves = n }) now due c.make_count-made.result c.args.shower.now.shown c.make_count-made.new.shower.shown) (omega (arith, long, kept)) c.make_count-made.ensures.made,
+    )

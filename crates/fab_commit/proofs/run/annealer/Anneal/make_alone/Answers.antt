@@ -1,0 +1,28 @@
+use Rattle.std.proofs.Common.{length, refl, subst}
+use Rattle.std.specs.Arc.{arc_value}
+use Rattle.fab_commit.specs.declared.run.alone.Ahead.{Ahead}
+use Rattle.fab_commit.specs.declared.run.state.Given.{Given}
+use Rattle.fab_commit.specs.Run.Alone.{AreMadeAlone, IsFollowed, IsMadeAlone}
+use Rattle.fab_commit.specs.Run.Commits.{run_for}
+use Rattle.fab_commit.proofs.RunLemmas.Alone.{alone_behind}
+use Rattle.fab_commit.proofs.RunLemmas.Ended.{made_alone}
+use Rattle.fab_commit.proofs.RunLemmas.Turned.{seen}
+use Rattle.fab_commit.proofs.run.annealer.Anneal.make_alone.Goals as goal
+
+pub returns-clause-made : goal.returns-clause-made
+returns-clause-made g c =
+    let a = c.self.inside in
+    let moves = g.W.Words.moves in
+    let given = arc_value a.given in
+    let s = a.pipeline in
+    let now = c.finish_alone.new.state in
+    let old = c.args.shower.now.shown in
+    let new = c.finish_alone.new.shower.shown in
+    let batch = c.args.batch in
+    let count = c.args.count in
+    let answer = c.finish_alone.result in
+    let b = c.self.invariant in
+    let ahead : Ahead = record { base = s.base; moves = length s.ahead.items } in
+    let made = subst (λ (v : Given g.row.W.Denot). (due : Ahead) × IsFollowed (run_for moves v) now due × AreMadeAlone (run_for moves v) batch count s.owner ahead now.owner due answer old new) c.deref-given.ensures c.finish_alone.ensures.made in
+    subst (λ m. IsMadeAlone moves batch count m (seen given now) answer old new) c.self.view_is
+    (made_alone moves given batch count s now b.0 ahead made.0 answer old new b.1 (alone_behind (run_for moves given) b.0 s ahead b.1 refl refl) made.2 made.1)
