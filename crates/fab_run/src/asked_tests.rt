@@ -168,7 +168,7 @@ fn words_of_a_move_are_asked_for_once_for_each_judgement(rt: HostRuntime) -> Res
 // do, for at most so many milliseconds; then no other waits.
 #[derive(Drop)]
 struct TogetherWords<'a> {
-    rt: &'a HostRuntime,
+    clock: &'a HostRuntime,
     words: StreamWords,
     from: u64,
     wanted: u64,
@@ -192,7 +192,7 @@ impl<'a> Words for TogetherWords<'a> {
                 if is_full || self.over.load(Ordering::SeqCst) != 0 {
                     break;
                 }
-                thread::sleep(self.rt, Duration::from_millis(1));
+                thread::sleep(self.clock, Duration::from_millis(1));
             }
             self.over.store(1, Ordering::SeqCst);
         }
@@ -205,8 +205,9 @@ impl<'a> Words for TogetherWords<'a> {
 }
 
 // How many threads ask at once for the words of moves from this one on, if at most so many are waited for.
-fn threads_from(
-    rt: &HostRuntime,
+fn threads_from<R: AllocGlobal + Threads + Wait + Sync>(
+    rt: &R,
+    clock: &HostRuntime,
     inputs: &Inputs,
     options: &Options,
     from: u64,
@@ -216,7 +217,7 @@ fn threads_from(
     let begun = AtomicU64::new(0);
     let over = AtomicU64::new(0);
     let words = TogetherWords {
-        rt,
+        clock,
         words: StreamWords::new(options.seed),
         from,
         wanted,
@@ -291,7 +292,7 @@ fn a_crew_judges_cold_stages_of_large_designs(rt: HostRuntime) -> Result<(), Fai
         } else {
             (wanted, 10_000)
         };
-        let threads = threads_from(&rt, &ring_of(net), &options, from, most, millis)?;
+        let threads = threads_from(&rt, &rt, &ring_of(net), &options, from, most, millis)?;
         if wanted == 1 {
             assert_eq!(rt; threads, 1, "{workers} workers from move {from}");
         } else {

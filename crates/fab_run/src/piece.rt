@@ -190,8 +190,8 @@ fn tell_end<W: Sink>(
     Ok(outcome)
 }
 
-/// Makes the moves of a piece with a crew, and reports them. The gate is called around each judgement, but not one that is made again, and
-/// before each commit.
+/// Makes the moves of a piece, while a crew stands by, and reports them. The gate is called around each judgement, but not one that is made
+/// again, and before each commit; one that does nothing need not be.
 fn anneal_told<
     'a,
     'g,
@@ -279,7 +279,8 @@ fn tell_placement<P: Sink>(
 
 /// Makes a piece. Writes the lines of its report as its stages end, and the place text once the report is whole, if the piece finishes
 /// the run. Before the first move, after the head of the report, the writer of the place text is asked whether it is ready.
-/// The gate is called around each judgement, but not one that is made again, and before each commit. The dial shows the run's progress,
+/// The gate is called around each judgement, but not one that is made again, and before each commit; one that does nothing need not be. The
+/// dial shows the run's progress,
 /// once for each turn that succeeds and made moves.
 pub(crate) fn run_piece<G: Gate, R: AllocGlobal + Threads + Wait + Sync, W: Sink, P: Sink>(
     rt: &R,

@@ -496,9 +496,9 @@ fn many_runs_end_with_short_stages_on_a_large_array(rt: HostRuntime) -> Result<(
 fn a_crew_that_slept_judges_a_cold_stage(rt: HostRuntime) -> Result<(), Fail> {
     let net = ring(rt.alloc(), 16_384)?;
     let inputs = ring_of(&net);
-    for stop in [Some(200_700), None] {
+    for stop in [Some(100_700), None] {
         let options = Options {
-            moves: Moves::Given(200_000),
+            moves: Moves::Given(100_000),
             workers: 1,
             stop,
             ..TWO_STAGES

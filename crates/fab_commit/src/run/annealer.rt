@@ -219,7 +219,8 @@ impl<'a, W: Words + Drop> Anneal<'a, W> {
         &self.pipeline.ahead
     }
 
-    /// How many moves this value judged again, because a move accepted before them had touched what their verdicts rested on.
+    /// How many moves this value judged again, because a move accepted before them had touched what their verdicts rested on. Where the
+    /// owner makes moves alone nothing is judged twice, and the number is that of the turns of the batch.
     pub fn redone(&self) -> u64
         ensures { result ≡ self.now.redone }
     {

@@ -3,6 +3,7 @@ use Rattle.fab_commit.specs.Run.ByTurns.{LeadsByTurns}
 use Rattle.fab_commit.specs.Run.Commits.{run_of}
 use Rattle.fab_commit.specs.Serial.{accepted_among, from, moves_left}
 use Rattle.fab_commit.proofs.RunLemmas.ByTurns.{by_turns_then}
+use Rattle.fab_run.proofs.Alone.{alone_accepted, alone_counted, alone_cut, alone_done, alone_ends, alone_stands}
 use Rattle.fab_run.proofs.Pieces.{left_le}
 use Rattle.fab_run.proofs.Telling.{same_run, same_twice}
 use Rattle.fab_run.proofs.Turning.{accepted_then, counted_behind, counted_by_turns, from_then, turn_makes_all}
@@ -169,3 +170,21 @@ returns-in_err-turn_shown_by-2-clause-shown_cut g c =
       leads = leads_to r c.args.batch x c.loop-made.anneal.standing c.args.shower.now.shown c.loop-made.shower.shown c.turn_shown_by-2.new.shower.shown inv.shown c.in_err-turn_shown_by-2.ensures.shown.short;
     } in
     search (rules, fact)
+
+pub returns-then-not-ahead-clause-done : goal.returns-then-not-ahead-clause-done
+returns-then-not-ahead-clause-done g c = alone_done g.V.Words.moves c.args.batch c.args.count c.args.anneal.now c.make_alone.new.self c.make_alone.result c.args.shower.now.shown c.make_alone.new.shower.shown c.make_alone.ensures.made
+
+pub returns-then-not-ahead-clause-stands : goal.returns-then-not-ahead-clause-stands
+returns-then-not-ahead-clause-stands g c = alone_stands g.V.Words.moves c.args.batch c.args.count c.args.anneal.now c.make_alone.new.self c.make_alone.result c.args.shower.now.shown c.make_alone.new.shower.shown c.make_alone.ensures.made
+
+pub returns-then-not-ahead-clause-accepted : goal.returns-then-not-ahead-clause-accepted
+returns-then-not-ahead-clause-accepted g c = alone_accepted g.V.Words.moves c.args.batch c.args.count c.args.anneal.now c.make_alone.new.self c.make_alone.result c.args.shower.now.shown c.make_alone.new.shower.shown c.make_alone.ensures.made
+
+pub returns-then-not-ahead-clause-counted : goal.returns-then-not-ahead-clause-counted
+returns-then-not-ahead-clause-counted g c = alone_counted g.V.Words.moves c.args.batch c.args.count c.args.anneal.now c.make_alone.new.self c.make_alone.result c.args.shower.now.shown c.make_alone.new.shower.shown c.make_alone.ensures.made
+
+pub returns-then-not-ahead-clause-shown : goal.returns-then-not-ahead-clause-shown
+returns-then-not-ahead-clause-shown g c = alone_ends g.V.Words.moves c.args.batch c.args.count c.args.anneal.now c.make_alone.new.self c.make_alone.result c.args.shower.now.shown c.make_alone.new.shower.shown c.make_alone.ensures.made
+
+pub returns-then-not-ahead-clause-shown_cut : goal.returns-then-not-ahead-clause-shown_cut
+returns-then-not-ahead-clause-shown_cut g c = alone_cut g.V.Words.moves c.args.batch c.args.count c.args.anneal.now c.make_alone.new.self c.make_alone.result c.args.shower.now.shown c.make_alone.new.shower.shown c.make_alone.ensures.made
