@@ -2,13 +2,13 @@
 # The cost of a batch that judges nothing: the time to start the workers, claim the numbers and join, by the number of workers. Prints
 # nanoseconds per batch, and that time in hundredths of the time with one worker. Needs the kit's `rt` on the path.
 set -euo pipefail
-here="$(cd "$(dirname "$0")/.." && pwd)"
+here="$(cd "$(dirname "$0")" && pwd)"
+. "$here/scratch.sh"
 room="$(mktemp -d)"
 trap 'rm -rf "$room"' EXIT
 
 mkdir -p "$room/crates/board_bench/src"
-cp -r "$here/crates/fab_board" "$room/crates/fab_board"
-cp "$here/HANDLES" "$room/HANDLES"
+copy_to "$room" HANDLES crates/fab_board
 printf 'fab_board: atomic_table logbook\nboard_bench: fab_board\n' > "$room/crates.txt"
 cat > "$room/crates/board_bench/src/main.rt" <<'MAIN'
 //! Times batches whose closure does nothing.

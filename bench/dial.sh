@@ -2,12 +2,13 @@
 # The time of `show` with no watcher and with two that read all the time, on this machine.
 # It builds a small program over fab_dial in a temporary folder, so that crates.txt names no crate that only measures.
 set -euo pipefail
-top=$(cd "$(dirname "$0")/.." && pwd)
+here=$(cd "$(dirname "$0")" && pwd)
+. "$here/scratch.sh"
+top=$(cd "$here/.." && pwd)
 scratch=$(mktemp -d)
 trap 'rm -rf "$scratch"' EXIT
 mkdir -p "$scratch/crates/dial_bench/src"
-cp "$top/HANDLES" "$scratch/HANDLES"
-cp -r "$top/crates/fab_dial" "$scratch/crates/fab_dial"
+copy_to "$scratch" HANDLES crates/fab_dial
 rm -rf "$scratch/crates/fab_dial/must-fail"
 grep '^fab_dial:' "$top/crates.txt" > "$scratch/crates.txt"
 echo 'dial_bench: fab_dial' >> "$scratch/crates.txt"

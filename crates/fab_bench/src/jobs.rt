@@ -92,8 +92,10 @@ pub fn placed<R: AllocGlobal + Threads + Wait + Sync>(
     Some(Run { answer, place })
 }
 
-/// Checks a placement of a circuit, and returns its cost; `None` if the check refuses it.
-pub fn checked(alloc: Global, circuit: &Circuit<'_>, place: &[u8]) -> Option<u64> {
+/// Checks a placement of a circuit, and returns its cost and a digest of the report; `None` if the check refuses it.
+pub fn checked(alloc: Global, circuit: &Circuit<'_>, place: &[u8]) -> Option<(u64, u64)> {
     let mut report = Counted::new(Vec::new(alloc));
-    check_run(alloc, circuit.arch, circuit.net, place, &mut report).ok()
+    let cost = check_run(alloc, circuit.arch, circuit.net, place, &mut report).ok()?;
+    let report = report.into_inner();
+    Some((cost, with_bytes(START, &report)))
 }

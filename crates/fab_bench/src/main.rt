@@ -98,7 +98,9 @@ fn suite<R: AllocGlobal + Threads + Wait + Sync>(rt: &R, words: &Words) -> anyho
         };
         text.push_str(told(alloc, &run.answer)?.as_str())?;
         match checked(alloc, &circuit, &run.place) {
-            Some(cost) => text.push_str(format!(in alloc; "checked {cost}\n")?.as_str())?,
+            Some((cost, digest)) => {
+                text.push_str(format!(in alloc; "checked {cost} digest {digest}\n")?.as_str())?
+            }
             None => text.push_str("not legal\n")?,
         }
     }
