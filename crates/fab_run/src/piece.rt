@@ -280,8 +280,7 @@ fn tell_placement<P: Sink>(
 /// Makes a piece. Writes the lines of its report as its stages end, and the place text once the report is whole, if the piece finishes
 /// the run. Before the first move, after the head of the report, the writer of the place text is asked whether it is ready.
 /// The gate is called around each judgement, but not one that is made again, and before each commit; one that does nothing need not be. The
-/// dial shows the run's progress,
-/// once for each turn that succeeds and made moves.
+/// dial shows the run's progress, once for each turn that succeeds and made moves.
 pub(crate) fn run_piece<G: Gate, R: AllocGlobal + Threads + Wait + Sync, W: Sink, P: Sink>(
     rt: &R,
     anneal: Anneal<'_, StreamWords>,
