@@ -366,6 +366,35 @@ impl<'a> Words for FollowedWords<'a> {
     }
 }
 
+// Makes the moves that are left in the running stage alone, the first ones, so many, by themselves, and then the rest.
+fn stage_alone<V: Words + Sync + Drop, G: Gate, R: Threads + Wait + Sync>(
+    rt: &R,
+    anneal: &mut Anneal<'_, V>,
+    moves: u64,
+    part: u64,
+    batch: u64,
+    gate: &G,
+    dial: &Dial,
+    shower: &mut Shower,
+) -> Result<(), AllocError>
+    requires moves { moves ≡ anneal.old.plan.moves }
+    requires own { shower.old.dial ≡ dial.now }
+    requires limits { (1 ≤ batch) × (batch ≤ 4096) }
+{
+    let mut nobody = Workers::<'_, '_, V, G, Brand>::none(gate);
+    let workers = &mut nobody;
+    if let Some(stage) = anneal.stage() {
+        if part < moves - stage.done {
+            make_part(rt, anneal, part, batch, false, workers, dial, shower)?;
+        }
+    }
+    if let Some(stage) = anneal.stage() {
+        let left = moves - stage.done;
+        make_rest(rt, anneal, left, batch, false, workers, dial, shower)?;
+    }
+    Ok(())
+}
+
 #[test]
 fn the_owner_alone_asks_for_words_between_the_calls_of_a_gate(rt: HostRuntime) -> Result<(), Fail> {
     for batch in [1, 3, 64] {
