@@ -274,8 +274,8 @@ pub(crate) fn ring_of(net: &[u8]) -> Inputs<'_> {
 // alone, and all stages if there is one worker or the design is smaller.
 #[test]
 fn a_crew_judges_cold_stages_of_large_designs(rt: HostRuntime) -> Result<(), Fail> {
-    let large = ring(rt.alloc(), 16_384)?;
-    let small = ring(rt.alloc(), 16_383)?;
+    let large = ring(rt.alloc(), 40_000)?;
+    let small = ring(rt.alloc(), 39_999)?;
     for (net, workers, from, wanted) in [
         (&large, 3, 64, 4),
         (&large, 3, 0, 1),
@@ -378,6 +378,7 @@ fn stage_alone<V: Words + Sync + Drop, G: Gate, R: Threads + Wait + Sync>(
     shower: &mut Shower,
 ) -> Result<(), AllocError>
     requires moves { moves ≡ anneal.old.plan.moves }
+    requires plan { IsLawful anneal.old.plan }
     requires own { shower.old.dial ≡ dial.now }
     requires limits { (1 ≤ batch) × (batch ≤ 4096) }
 {
@@ -397,7 +398,7 @@ fn stage_alone<V: Words + Sync + Drop, G: Gate, R: Threads + Wait + Sync>(
 
 #[test]
 fn the_owner_alone_asks_for_words_between_the_calls_of_a_gate(rt: HostRuntime) -> Result<(), Fail> {
-    for batch in [1, 3, 64] {
+    for batch in 1..5u64 {
         let gate = InOrder {
             next: AtomicU64::new(0),
             wrong: AtomicU64::new(0),
@@ -413,28 +414,8 @@ fn the_owner_alone_asks_for_words_between_the_calls_of_a_gate(rt: HostRuntime) -
             alloc, &design, &grid, placement, pins.fixed, schedule, words,
         )?;
         let (dial, mut shower) = unwatched(&rt, alloc)?;
-        let mut workers = Workers::<'_, '_, FollowedWords<'_>, InOrder, Brand>::none(&gate);
-        // A part of the first stage, and its rest.
-        make_part(
-            &rt,
-            &mut anneal,
-            3,
-            batch,
-            false,
-            &mut workers,
-            &dial,
-            &mut shower,
-        )?;
-        make_rest(
-            &rt,
-            &mut anneal,
-            5,
-            batch,
-            false,
-            &mut workers,
-            &dial,
-            &mut shower,
-        )?;
+        let moves = schedule.moves();
+        stage_alone(&rt, &mut anneal, moves, 3, batch, &gate, &dial, &mut shower)?;
         assert_eq!(rt; gate.next.load(Ordering::SeqCst), 32);
         assert_eq!(rt; gate.wrong.load(Ordering::SeqCst), 0);
     }

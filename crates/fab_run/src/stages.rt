@@ -54,8 +54,8 @@ fn moves_before(stop: Option<u64>, done: u64, left: u64) -> Option<u64>
     Some(rest)
 }
 
-/// In a design of fewer blocks a crew costs more time than it saves, in every stage.
-const LARGE_DESIGN: usize = 16_384;
+/// In a design of fewer blocks a crew costs as much time as it saves, or more, also in cold stages (bench/stages.py).
+const LARGE_DESIGN: usize = 40_000;
 
 /// The least range of a stage, in thousandths. A stage has it where few moves of the stages before were accepted.
 const LEAST_RANGE: u64 = 1000;

@@ -494,7 +494,7 @@ fn many_runs_end_with_short_stages_on_a_large_array(rt: HostRuntime) -> Result<(
 // to a stop.
 #[test]
 fn a_crew_that_slept_judges_a_cold_stage(rt: HostRuntime) -> Result<(), Fail> {
-    let net = ring(rt.alloc(), 16_384)?;
+    let net = ring(rt.alloc(), 40_000)?;
     let inputs = ring_of(&net);
     for stop in [Some(100_700), None] {
         let options = Options {
