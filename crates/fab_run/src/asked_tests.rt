@@ -7,7 +7,7 @@ use crate::crews::{Course, anneal_beside};
 use crate::piece::unwatched;
 use crate::run_tests::{ARCH, INPUTS, OPTIONS, SEVEN, SHORT, writer_with};
 use crate::setting::read_setting;
-use crate::stages::{Pace, make_part, make_rest};
+use crate::stages::{Pace, is_judged_ahead, make_part, make_rest};
 use crate::watched_tests::Quiet;
 use crate::{Inputs, Moves, Options, RunFault};
 use fab_board::{Gate, Naming, NoGate, Opened};
@@ -15,6 +15,7 @@ use fab_commit::{Anneal, Work, Workers, found_crew};
 use fab_dial::{Dial, Shower};
 use fab_file::Labels;
 use fab_move::{StreamWords, Verdict};
+use fab_sched::Stage;
 use fab_site::{Words, start};
 use fab_text::push_number;
 use std::alloc::{AllocError, Global};
@@ -84,6 +85,7 @@ fn run_with<V: Words + Send + Sync + Drop, G: Gate, R: AllocGlobal + Threads + W
         moves: schedule.moves(),
         batch: options.batch,
         workers: options.workers,
+        side: u64::from(grid.nx().max(grid.ny())),
         stop: options.stop,
     };
     let placement = start(alloc, &design, &grid, &pins, &words)?;
@@ -301,6 +303,49 @@ fn a_crew_judges_cold_stages_of_large_designs(rt: HostRuntime) -> Result<(), Fai
                 "{threads} threads for {workers} workers"
             );
         }
+    }
+    Ok(())
+}
+
+// Which way a stage goes, on both sides of each bound: whether it is frozen, its range, the blocks, the workers, and whether a crew judges.
+const WAYS: &[(bool, u64, usize, u64, bool)] = &[
+    (false, 1000, 40_000, 2, true),
+    (false, 1000, 39_999, 64, false),
+    (false, 1000, 65_535, 1, false),
+    (false, 1001, 49_999, 64, false),
+    (true, 200_000, 40_000, 2, true),
+    (true, 200_000, 39_999, 2, false),
+    (false, 100_000, 50_000, 3, true),
+    (false, 100_000, 50_000, 2, false),
+    (false, 100_000, 49_999, 3, false),
+    (false, 100_001, 65_535, 64, false),
+];
+
+#[test]
+fn the_standing_and_the_options_tell_which_way_a_stage_goes(rt: HostRuntime) -> Result<(), Fail> {
+    for (frozen, range, blocks, workers, wanted) in WAYS {
+        let stage = Stage {
+            index: 7,
+            t: 1,
+            range: *range,
+            done: 0,
+            accepted: 0,
+            frozen: *frozen,
+        };
+        let pace = Pace {
+            moves: 1,
+            batch: 1,
+            workers: *workers,
+            side: 200,
+            stop: None,
+        };
+        let ahead = is_judged_ahead(&stage, *blocks, &pace, true);
+        assert_eq!(rt;
+            ahead,
+            *wanted,
+            "range {range}, {blocks} blocks, {workers} workers"
+        );
+        assert!(rt; is_judged_ahead(&stage, *blocks, &pace, false));
     }
     Ok(())
 }

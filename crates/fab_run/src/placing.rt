@@ -120,6 +120,7 @@ pub fn place_run_shown<G: Gate, R: AllocGlobal + Threads + Wait + Sync, W: Sink,
         moves: schedule.moves(),
         batch: options.batch,
         workers: options.workers,
+        side: u64::from(grid.nx().max(grid.ny())),
         stop: options.stop,
     };
     let (anneal, head) = begin(alloc, &design, &grid, pins, schedule, options.seed)?;

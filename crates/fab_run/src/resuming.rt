@@ -116,6 +116,7 @@ pub(crate) fn resume_run_shown<G: Gate, R: AllocGlobal + Threads + Wait + Sync, 
         moves: point.schedule.moves(),
         batch,
         workers,
+        side: u64::from(grid.nx().max(grid.ny())),
         stop,
     };
     let anneal = Anneal::from_point(alloc, &design, &grid, point, StreamWords::new(seed))?;

@@ -32,6 +32,8 @@ pub(crate) struct Pace {
     pub(crate) batch: u64,
     /// How many workers judge ahead.
     pub(crate) workers: u64,
+    /// The columns or the rows of the array, whichever are more.
+    pub(crate) side: u64,
     /// After how many moves of the run it stops.
     pub(crate) stop: Option<u64>,
 }
@@ -54,22 +56,34 @@ fn moves_before(stop: Option<u64>, done: u64, left: u64) -> Option<u64>
     Some(rest)
 }
 
-/// In a design of fewer blocks a crew costs as much time as it saves, or more, also in cold stages (bench/stages.py).
+/// In a design of fewer blocks a crew costs as much time as it saves, or more, in each stage (bench/stages.py).
 const LARGE_DESIGN: usize = 40_000;
+
+/// From so many blocks on, a crew of three or more workers saves time before the stages are cold, too.
+const VERY_LARGE_DESIGN: usize = 50_000;
 
 /// The least range of a stage, in thousandths. A stage has it where few moves of the stages before were accepted.
 const LEAST_RANGE: u64 = 1000;
 
 /// Whether the moves of a stage are judged ahead by the crew; else the owner judges each when its turn comes. A crew saves time where few
-/// moves are accepted and the design is large, and only if it has more than one worker. What decides is told by the standing, so a run
-/// that goes on from a point decides as the unbroken run. A gate that does something sees which way a stage goes: with one that does not
-/// say that it does nothing, all moves are judged ahead.
-fn is_judged_ahead(stage: &Stage, blocks: usize, workers: u64, does_nothing: bool) -> bool {
+/// moves are accepted, the design is large, and it has more than one worker. How few are accepted is told by the range: it falls where fewer
+/// than 44 of 100 are. All that decides is told by the standing and the options, so a run that goes on from a point decides as the unbroken
+/// run. A gate that does something sees which way a stage goes: with one that does not say that it does nothing, all moves are judged ahead.
+pub(crate) fn is_judged_ahead(
+    stage: &Stage,
+    blocks: usize,
+    pace: &Pace,
+    does_nothing: bool,
+) -> bool {
     if !does_nothing {
         return true;
     }
     let is_cold = stage.frozen || stage.range <= LEAST_RANGE;
-    is_cold && blocks >= LARGE_DESIGN && workers > 1
+    let is_cooler = stage.range <= pace.side.saturating_mul(1000) / 2;
+    if is_cold && blocks >= LARGE_DESIGN && pace.workers >= 2 {
+        return true;
+    }
+    is_cooler && blocks >= VERY_LARGE_DESIGN && pace.workers >= 3
 }
 
 /// Makes the next `count` moves of the running stage, fewer than are left in it: in turns of one batch, and a shorter turn for the rest. They
@@ -259,7 +273,7 @@ pub(crate) fn anneal_all<
     let does_nothing = workers.gate().does_nothing();
     let blocks = anneal.placement().blocks();
     while let Some(stage) = anneal.stage() {
-        let ahead = is_judged_ahead(&stage, blocks, pace.workers, does_nothing);
+        let ahead = is_judged_ahead(&stage, blocks, pace, does_nothing);
         if let Some(rest) = moves_before(pace.stop, anneal.done(), moves - stage.done) {
             make_part(rt, anneal, rest, pace.batch, ahead, workers, dial, shower)?;
             return Ok(());
