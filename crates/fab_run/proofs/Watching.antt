@@ -12,7 +12,6 @@ use Rattle.fab_commit.specs.Run.Commits.{AnnealOf, IsSameRun, run, run_of}
 use Rattle.fab_commit.specs.Run.Readings.{IsShown, begins, reading_at, readings, shown_after}
 use Rattle.fab_commit.specs.Run.Turned.{IsTurned}
 use Rattle.fab_commit.proofs.RunLemmas.Folding.{from_add, step_done}
-use Rattle.fab_run.specs.Ends.{Piece}
 use Rattle.fab_run.specs.Shown.{AreMadeAll}
 use Rattle.fab_run.specs.Watched.{AreOf, AreRising, IsAfter, IsAfterOne, OnlyShowed, PiecesShowStandings, Showed, Source, TurnsShowStandings, WatchersReadInOrder, WatchersReadStandings}
 

@@ -14,8 +14,7 @@ use Rattle.fab_run.specs.Piece.{IsOver, stage_costs, stage_lines}
 use Rattle.fab_run.proofs.Pieces.{left_is, left_there, no_costs, no_lines, over_later}
 use Rattle.fab_run.proofs.Turning.{counted_by_turns, counted_then}
 use Rattle.fab_run.proofs.Telling.{HasTold, appends_none, warmth, colder_by_stage, cut_between, cut_within, short_within, same_run, same_twice, told_on}
-use Rattle.fab_commit.proofs.RunLemmas.Showing.{shown_first}
-use Rattle.fab_run.specs.Shown.{AreShownBegun, EndsShown, LeadsShown, LeadsShownWithin}
+use Rattle.fab_run.specs.Shown.{EndsShown, LeadsShown, LeadsShownWithin}
 use Rattle.fab_run.proofs.Showing.{begun_within, shown_all}
 use Rattle.fab_run.proofs.stages.anneal_all.Goals as goal
 

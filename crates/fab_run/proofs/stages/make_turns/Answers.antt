@@ -1,4 +1,4 @@
-use Rattle.std.proofs.Common.{◌≡◌, ◌+◌, ◌-◌, ◌<◌, ◌++◌, ap, subst, ◌∙◌, arith, rules}
+use Rattle.std.proofs.Common.{◌≡◌, ◌-◌, ◌<◌, ◌++◌, ap, subst, ◌∙◌, arith, rules}
 use Rattle.fab_commit.specs.Serial.{accepted_among, from, moves_left}
 use Rattle.fab_commit.specs.Run.ByTurns.{LeadsByTurns}
 use Rattle.fab_commit.specs.Run.Commits.{run_of}
