@@ -1,5 +1,5 @@
-# Draws a placement as SVG: awk -f picture.awk NAME.place > NAME.svg. Pads stand round the logic blocks. The pads of a position stand in rows
-# of one length, in as many of them as the highest place of any pad needs.
+# Draws a placement as SVG: awk -f picture.awk NAME.place > NAME.svg. Pads stand round the logic blocks, those of one position in rows of
+# one length: as many rows, and as long, as the highest place of any pad needs.
 BEGIN { cell = 40; edge = 3; inside = cell - 2 * edge; count = 0; most = 0 }
 /^Array size:/ { nx = $3; ny = $5; next }
 /^Netlist/ || /^#/ || NF < 4 { next }
