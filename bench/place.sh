@@ -4,9 +4,9 @@
 # the best of each.
 # usage: [PROGRAM=PROGRAM] [BASELINE=PROGRAM] [MOVES=N] [RUNS=N] bench/place.sh [DESIGN..]
 # A design is one of examples, or /PATH/NAME; by default there is also a grown one of 60,000 blocks (grown.awk). PROGRAM is by default the
-# one that `make test` built. BASELINE is another placer that takes the same words: it makes the same moves in the same run, in turn with
-# PROGRAM. A stage has MOVES moves, 60,000 by default, or one in the run of few; there are 11 stages. Each run is made RUNS times, 5 by
-# default.
+# one that `make test` built. BASELINE is another placer that takes the same words (none is in the repository): it makes the same moves in
+# the same run, in turn with PROGRAM. A stage has MOVES moves, 60,000 by default, or one in the run of few; there are 11 stages. Each run is
+# made RUNS times, 5 by default.
 set -eu
 top=$(cd "$(dirname "$0")/.." && pwd)
 program=${PROGRAM:+$(realpath "$PROGRAM")}
