@@ -156,7 +156,8 @@ impl HostFiles<'_> {
         name: &str,
     ) -> Result<(String, Option<Metadata>), WriteFault> {
         let mut name = text_of(alloc, name)?;
-        for _ in 0..MOST_LINKS {
+        // What the last link names is looked at, too.
+        for _ in 0..=MOST_LINKS {
             let found = if is_open_file(name.as_str()) {
                 fs::metadata(self.rt, name.as_str())
             } else {
