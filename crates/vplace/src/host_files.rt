@@ -15,6 +15,9 @@ use std::{fs, str};
 // How many names are tried for a temporary file.
 const MOST_BESIDE: u32 = 100;
 
+// How often a file is looked at while memory is short, before a run gives up.
+const MOST_LOOKS: u32 = 3;
+
 // How many symbolic links are followed, as in Linux.
 const MOST_LINKS: u32 = 40;
 
@@ -41,10 +44,11 @@ enum Way {
     InPlace(String),
 }
 
-// A temporary file that is to replace another.
+// A temporary file that is to replace another. The lock, a second handle of the file, is held until it is gone or has the other's name.
 #[derive(Drop)]
 struct Beside {
     file: File,
+    lock: File,
     name: String,
     target: String,
 }
@@ -98,9 +102,7 @@ impl NamedFiles for HostFiles<'_> {
     fn release(&self, outlet: Outlet) {
         let Outlet { way, .. } = outlet;
         if let Way::Beside(beside) = way {
-            if self.is_at(&beside.file, beside.name.as_str()) {
-                let _ = fs::remove_file(self.rt, beside.name.as_str());
-            }
+            self.remove(&beside.lock, beside.name.as_str());
         }
     }
 }
@@ -193,7 +195,7 @@ impl HostFiles<'_> {
     }
 
     // Makes a temporary file next to the target, and gives it the target's mode before it has a byte. If the folder takes no new file, or
-    // none with so long a name, the target itself is written.
+    // none with so long a name, the target itself is written; if it is not there yet, making it is tried first.
     fn place_beside(
         &self,
         alloc: Global,
@@ -203,9 +205,12 @@ impl HostFiles<'_> {
         for number in 0..MOST_BESIDE {
             let name = beside_name(alloc, target.as_str(), number)?;
             match self.fresh(name.as_str()) {
-                Ok(Some(file)) => return self.with_mode(Beside { file, name, target }, mode),
+                Ok(Some(file)) => return self.with_lock(file, name, target, mode),
                 Ok(None) => {}
                 Err(error) if must_be_in_place(error.kind(), mode.is_some()) => {
+                    if mode.is_none() {
+                        self.try_new(target.as_str())?;
+                    }
                     return Ok(Way::InPlace(target));
                 }
                 Err(error) => return Err(WriteFault::of(&error)),
@@ -214,14 +219,53 @@ impl HostFiles<'_> {
         Err(WriteFault::Unwritable)
     }
 
-    fn with_mode(&self, beside: Beside, mode: Option<Permissions>) -> Result<Way, WriteFault> {
+    // Whether a file of a name that is not there can be made: it is made, and removed again. So a run that could not write it ends before
+    // its first move.
+    fn try_new(&self, name: &str) -> Result<(), WriteFault> {
+        match self.create(name) {
+            Ok(_) => {
+                let _ = fs::remove_file(self.rt, name);
+                Ok(())
+            }
+            Err(error) if error.kind() == ErrorKind::AlreadyExists => Ok(()),
+            Err(error) => Err(WriteFault::of(&error)),
+        }
+    }
+
+    // Takes the second handle of the temporary file before the first move: no descriptor may be left after the last one.
+    fn with_lock(
+        &self,
+        file: File,
+        name: String,
+        target: String,
+        mode: Option<Permissions>,
+    ) -> Result<Way, WriteFault> {
+        let lock = match file.try_clone() {
+            Ok(lock) => lock,
+            Err(error) => {
+                self.remove(&file, name.as_str());
+                return Err(WriteFault::of(&error));
+            }
+        };
         if let Some(mode) = mode {
-            if let Err(error) = beside.file.set_permissions(mode) {
-                let _ = fs::remove_file(self.rt, beside.name.as_str());
+            if let Err(error) = file.set_permissions(mode) {
+                self.remove(&file, name.as_str());
                 return Err(WriteFault::of(&error));
             }
         }
-        Ok(Way::Beside(beside))
+        Ok(Way::Beside(Beside {
+            file,
+            lock,
+            name,
+            target,
+        }))
+    }
+
+    // Removes a temporary file, if the name is still its own.
+    fn remove(&self, lock: &File, name: &str) {
+        if let Ok(true) = self.is_at(lock, name) {
+            let _ = fs::remove_file(self.rt, name);
+        }
     }
 
     // A new file of this name, under a lock; none if another run uses the file that is there, or if something else has the name. A file
@@ -249,10 +293,18 @@ impl HostFiles<'_> {
 
     // Another run may have taken a new file for one that a killed run left, and removed it.
     fn locked(&self, file: File, name: &str) -> Result<Option<File>, Error> {
-        if is_in_use(&file) || !self.is_at(&file, name) {
+        if is_in_use(&file) {
             return Ok(None);
         }
-        Ok(Some(file))
+        match self.is_at(&file, name) {
+            Ok(true) => Ok(Some(file)),
+            Ok(false) => Ok(None),
+            Err(_) => {
+                // The file was made just now, and would be left for good.
+                let _ = fs::remove_file(self.rt, name);
+                Err(Error::from(ErrorKind::OutOfMemory))
+            }
+        }
     }
 
     // Removes a plain file that no run uses. Returns whether it did.
@@ -264,45 +316,73 @@ impl HostFiles<'_> {
         match File::open(self.rt, name) {
             Ok(file) => {
                 !is_in_use(&file)
-                    && self.is_at(&file, name)
+                    && matches!(self.is_at(&file, name), Ok(true))
                     && fs::remove_file(self.rt, name).is_ok()
             }
             Err(_) => false,
         }
     }
 
-    // Whether the name is still that of the open file: the run that held the lock before may have renamed it.
-    fn is_at(&self, file: &File, name: &str) -> bool {
-        match (file.metadata(), fs::symlink_metadata(self.rt, name)) {
-            (Ok(open), Ok(named)) => open.dev() == named.dev() && open.ino() == named.ino(),
-            _ => false,
+    // Whether the name is still that of the open file: the run that held the lock before may have renamed it. An error means that memory is
+    // short.
+    fn is_at(&self, file: &File, name: &str) -> Result<bool, WriteFault> {
+        for _ in 0..MOST_LOOKS {
+            if let (Ok(open), Ok(named)) = (
+                there(file.metadata()),
+                there(fs::symlink_metadata(self.rt, name)),
+            ) {
+                return Ok(match (open, named) {
+                    (Some(open), Some(named)) => {
+                        open.dev() == named.dev() && open.ino() == named.ino()
+                    }
+                    _ => false,
+                });
+            }
         }
+        Err(WriteFault::NoMemory)
     }
 
     // If the temporary file cannot replace the target (the target is a mount point, or belongs to another user in a sticky folder, or
-    // somebody removed the temporary file), the target itself is written.
+    // somebody removed the temporary file), the target itself is written. If memory is short while it is to replace the target, the
+    // temporary file stays: it is whole.
     fn replace(&self, beside: Beside, bytes: &[u8]) -> Result<(), WriteFault> {
-        let Beside { file, name, target } = beside;
-        // The lock is held until what a failed write left is removed.
-        let lock = file.try_clone().map_err(|error| WriteFault::of(&error))?;
-        let filled = self.fill(file, bytes);
-        let is_there = self.is_at(&lock, name.as_str());
-        let is_renamed = filled.is_ok()
-            && is_there
-            && self.is_replaceable(target.as_str())
-            && fs::rename(self.rt, name.as_str(), target.as_str()).is_ok();
-        if is_renamed {
+        let Beside {
+            file,
+            lock,
+            name,
+            target,
+        } = beside;
+        if let Err(fault) = self.fill(file, bytes) {
+            self.remove(&lock, name.as_str());
+            return Err(fault);
+        }
+        let is_there = self.is_at(&lock, name.as_str())?;
+        if is_there && self.is_renamed(name.as_str(), target.as_str())? {
             self.sync_folder(target.as_str());
             return Ok(());
         }
-        if is_there {
-            let _ = fs::remove_file(self.rt, name.as_str());
-        }
-        filled?;
-        if !self.is_replaceable(target.as_str()) {
+        let is_replaceable = self.is_replaceable(target.as_str())?;
+        self.remove(&lock, name.as_str());
+        if !is_replaceable {
             return Err(WriteFault::Unwritable);
         }
         self.overwrite(target.as_str(), bytes)
+    }
+
+    // Gives a temporary file the name of its target, if that is one that it may replace. Returns whether it did. An error means that memory is
+    // short.
+    fn is_renamed(&self, name: &str, target: &str) -> Result<bool, WriteFault> {
+        if !self.is_replaceable(target)? {
+            return Ok(false);
+        }
+        for _ in 0..MOST_LOOKS {
+            match fs::rename(self.rt, name, target) {
+                Ok(()) => return Ok(true),
+                Err(error) if error.kind() == ErrorKind::OutOfMemory => {}
+                Err(_) => return Ok(false),
+            }
+        }
+        Err(WriteFault::NoMemory)
     }
 
     fn fill(&self, file: File, bytes: &[u8]) -> Result<(), WriteFault> {
@@ -310,12 +390,16 @@ impl HostFiles<'_> {
         file.sync_all().map_err(|error| WriteFault::of(&error))
     }
 
-    // Whether the name is that of a plain file or of none: this may have changed during a long run.
-    fn is_replaceable(&self, target: &str) -> bool {
-        match fs::symlink_metadata(self.rt, target) {
-            Ok(found) => found.is_file(),
-            Err(error) => error.kind() == ErrorKind::NotFound,
+    // Whether the name is that of a plain file or of none: this may have changed during a long run. An error means that memory is short.
+    fn is_replaceable(&self, target: &str) -> Result<bool, WriteFault> {
+        for _ in 0..MOST_LOOKS {
+            match fs::symlink_metadata(self.rt, target) {
+                Ok(found) => return Ok(found.is_file()),
+                Err(error) if error.kind() == ErrorKind::OutOfMemory => {}
+                Err(error) => return Ok(error.kind() == ErrorKind::NotFound),
+            }
         }
+        Err(WriteFault::NoMemory)
     }
 
     // Faults are ignored: the file is whole by now, and a system that cannot sync a folder stores the name in its own time.
@@ -352,6 +436,15 @@ fn must_be_in_place(kind: ErrorKind, is_there: bool) -> bool {
         ErrorKind::InvalidFilename => true,
         ErrorKind::PermissionDenied | ErrorKind::ReadOnlyFilesystem => is_there,
         _ => false,
+    }
+}
+
+// What is there, if anything can be told of it. An error means that memory is short.
+fn there(found: Result<Metadata, Error>) -> Result<Option<Metadata>, WriteFault> {
+    match found {
+        Ok(found) => Ok(Some(found)),
+        Err(error) if error.kind() == ErrorKind::OutOfMemory => Err(WriteFault::NoMemory),
+        Err(_) => Ok(None),
     }
 }
 
