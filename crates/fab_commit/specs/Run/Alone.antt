@@ -122,7 +122,7 @@ pub record AreMadeAlone {A : Type 0} (r : Run) (batch count : ℕ) (o : Owner) (
   pub ends : OnOk answer (EndsAt r batch (standing_of o.state) (standing_of now.state) old new)
   pub cut : OnErr answer (LeadsTo r batch (standing_of o.state) (standing_of now.state) old new)
 
--- what is kept between turns says the same of the annealer
+-- the older placement is the live one again, and nothing is judged ahead
 pub record IsFollowed (r : Run) (now : Pipeline) (due : Ahead) : Type 0 where
   pub older : IsSound r (arc_value now.older)
   pub same : standing_of (arc_value now.older) ≡ standing_of now.owner.state
