@@ -72,7 +72,7 @@ point_of_texts t u seed q text arch net is =
     }
 
 -- what a name gave twice is one text
-given_once : (given : Option (List ℕ)) (a b : List ℕ) → given ≡ Some a → given ≡ Some b → a ≡ b
+pub given_once : (given : Option (List ℕ)) (a b : List ℕ) → given ≡ Some a → given ≡ Some b → a ≡ b
 given_once given a b x y = cc
 
 are_calls : (cs : List ResumeCall) (t : Texts) (seed : ℕ) (a : Call) (e : Ending) (saved : Option (List ℕ)) → a.answer.ending ≡ e → SavesPoint t seed e saved → AreBehind (Some t.arch) (Some t.net) e saved cs
@@ -192,7 +192,7 @@ no_number : (n : ℕ) → decimal_of (codes "adaptive") 3 ≡ Ok n → ⊥
 unfolding decimal_of
 no_number n h = absurd (let fault : Err BadDigit ≡ Ok n = h in cc)
 
-cooling_once : (text other : List ℕ) (c d : Cooling) → text ≡ other → IsCoolingAsked text c → IsCoolingAsked other d → c ≡ d
+pub cooling_once : (text other : List ℕ) (c d : Cooling) → text ≡ other → IsCoolingAsked text c → IsCoolingAsked other d → c ≡ d
 cooling_once text other Adaptive Adaptive is h k = refl
 cooling_once text other Adaptive (Factor b) is h k =
     let word : decimal_of (codes "adaptive") 3 ≡ Ok b = subst (λ t. decimal_of t 3 ≡ Ok b) (sym is ∙ h) k in
@@ -226,7 +226,7 @@ asks_the_same u w p o same a b =
     }
 
 -- the text of a location file is what its name gives
-pads_given : (held : Held) (name text : Option (List ℕ)) → GivesPads (Some held) name text → text ≡ given_at name held
+pub pads_given : (held : Held) (name text : Option (List ℕ)) → GivesPads (Some held) name text → text ≡ given_at name held
 pads_given held None text gives = gives
 pads_given held (Some name) text gives = gives.1 ∙ sym gives.2
 

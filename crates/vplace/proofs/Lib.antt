@@ -2,3 +2,5 @@ pub mod Ends
 pub mod Heard
 pub mod Stopping
 pub mod Chains
+mod Once
+mod Telling

@@ -1,32 +1,87 @@
 -- What a run leaves after its answer, and where it is put (our own).
-use Rattle.std.specs.Prelude.{ℕ, ◌≡◌, List, [], Option, Some, None, codes, option_copied, refl}
+use Rattle.std.specs.Prelude.{ℕ, true, ◌≡◌, ◌⊎◌, List, [], Option, Some, None, codes, option_copied, refl}
 use Rattle.fab_run.specs.declared.inputs.Ending.{Ending}
 use Rattle.fab_run.specs.declared.inputs.Ending.TheVariants.{Finished, Stopped}
+use Rattle.fab_text.specs.Failures.{grown}
 use Rattle.fab_text.specs.Lines.{lines}
 use Rattle.fab_net.specs.Netlist.{Netlist}
-use Rattle.fab_commit.specs.declared.run.point.Point.{Point}
+use Rattle.fab_commit.specs.declared.run.point.Point.{Point as PointOf}
 use Rattle.fab_run.specs.Check.{MeanDesign}
 use Rattle.fab_run.specs.PointMeaning.{StandsForPoint}
 use Rattle.fab_run.specs.PointText.{point_text}
 use Rattle.fab_run.specs.Ends.{Answer, Piece}
 use Rattle.fab_run.specs.Placed.{IsPlaced}
 use Rattle.fab_run.specs.Setting.{Texts}
+use Rattle.vplace.specs.declared.forecast.Forecast.{Forecast}
+use Rattle.vplace.specs.declared.forecast.Forecast.TheVariants.{Finishes}
+use Rattle.vplace.specs.declared.messages.OutRole.{OutRole}
+use Rattle.vplace.specs.declared.messages.OutRole.TheVariants.{Place, Point}
 use Rattle.vplace.specs.declared.out_names.OutNames.{OutNames}
-use Rattle.vplace.specs.Files.{Held, Puts}
+use Rattle.vplace.specs.Files.{Held, IsShut, Puts, Shut}
+use Rattle.vplace.specs.Forecasts.{may_leave}
+use Rattle.vplace.specs.Said.{report_line, unwritable_line}
 
--- the name that is tried before the first move: the save name if there is one, else the out name
-abbrev pub tried_of : List ℕ → Option (List ℕ) → List ℕ
-tried_of out (Some save) = save
-tried_of out None = out
+-- the name that a checkpoint goes to: the save name, which is given wherever a run can stop
+abbrev pub save_or_out : List ℕ → Option (List ℕ) → List ℕ
+save_or_out out (Some save) = save
+save_or_out out None = out
 
-abbrev pub tried_name : OutNames → List ℕ
-tried_name n = tried_of n.out.now (option_copied n.save)
+abbrev pub point_name : OutNames → List ℕ
+point_name n = save_or_out n.out.now (option_copied n.save)
 
-pub a_save_name_is_tried : tried_of (codes "t.place") (Some (codes "t.point")) ≡ codes "t.point"
-a_save_name_is_tried = refl
+pub a_checkpoint_goes_to_the_save_name : save_or_out (codes "t.place") (Some (codes "t.point")) ≡ codes "t.point"
+a_checkpoint_goes_to_the_save_name = refl
+
+-- the name of the file of a role
+abbrev pub name_for : List ℕ → Option (List ℕ) → OutRole → List ℕ
+name_for out save Place = out
+name_for out save Point = save_or_out out save
+
+-- what is known of the files of a run before its first move: the out name, the save name if there is one, how the run ends as far as that is
+-- known, and which names no bytes can be put at
+pub record OutPlan : Type 0 where
+  pub out : List ℕ
+  pub save : Option (List ℕ)
+  pub forecast : Forecast
+  pub shut : Option Shut
+
+abbrev pub plan_for : List ℕ → Option (List ℕ) → Forecast → Option Shut → OutPlan
+plan_for out save f shut = record { out = out; save = save; forecast = f; shut = shut }
+
+abbrev pub plan_of : OutNames → Forecast → Option Shut → OutPlan
+plan_of n f shut = plan_for n.out.now (option_copied n.save) f shut
+
+abbrev pub no_plan : OutPlan
+no_plan = plan_for [] None Finishes None
+
+-- the run may leave a file of this role, and no bytes can be put at its name
+abbrev pub IsShutFor : OutPlan → OutRole → Type 0
+IsShutFor p role = (may_leave p.forecast role ≡ true) × IsShut p.shut (name_for p.out p.save role)
+
+-- a file that the run may leave by its forecast cannot be written, and that is what is said
+abbrev pub IsTriedInVain : (Forecast → Type 0) → List ℕ → Option (List ℕ) → Option Shut → (List ℕ → Type 0) → Type 0
+IsTriedInVain IsOf out save shut Said =
+    (f : Forecast) × IsOf f × (role : OutRole) × IsShutFor (plan_for out save f shut) role × Said (unwritable_line role)
+
+-- what a run leaves: its placement if it finished, its checkpoint if it stopped
+abbrev pub role_by : Ending → OutRole
+role_by Finished = Place
+role_by (Stopped q) = Point
+
+-- what a run left cannot be put at its name, and that is what is said
+abbrev pub IsPutInVain : (Answer → List ℕ → Type 0) → List ℕ → Option (List ℕ) → Option Shut → (List ℕ → Type 0) → Type 0
+IsPutInVain IsAnswer out save shut Said =
+    (a : Answer) × (place : List ℕ) × IsAnswer a place × IsShut shut (name_for out save (role_by a.ending)) × Said (unwritable_line (role_by a.ending))
+
+-- a device failed in a run, and that is what is said: the report's writer; or a name that was tried before the first move; or, after the
+-- last one, the name of what the run left
+abbrev pub IsDeviceTold : (Forecast → Type 0) → (Answer → List ℕ → Type 0) → List ℕ → Option (List ℕ) → Option Shut → ℕ → ℕ → (List ℕ → Type 0) → Type 0
+IsDeviceTold IsOf IsAnswer out save shut failed_old failed_new Said =
+    ((failed_new ≡ grown failed_old) × Said report_line)
+    ⊎ (IsTriedInVain IsOf out save shut Said ⊎ IsPutInVain IsAnswer out save shut Said)
 
 -- the text of a point of a run with this seed, of the design that the texts mean; it stands for the point
-pub record IsPointText (t : Texts) (seed : ℕ) (q : Point) (text : List ℕ) : Type 0 where
+pub record IsPointText (t : Texts) (seed : ℕ) (q : PointOf) (text : List ℕ) : Type 0 where
   pub design : Netlist
   pub mean : MeanDesign t.arch t.net q.placement.grid.io_rat design
   pub exact : text ≡ point_text seed design q.placement.grid q

@@ -1,6 +1,7 @@
 pub mod Status
 pub mod Asked
 pub mod Files
+pub mod Forecasts
 pub mod Leaving
 pub mod Placing
 pub mod Resuming

@@ -1,5 +1,5 @@
 -- What `resume` reads, prints and writes (our own).
-use Rattle.std.specs.Prelude.{ℕ, ◌≡◌, List, [], Option, Some, None, option_map}
+use Rattle.std.specs.Prelude.{ℕ, ◌≡◌, ◌⊎◌, List, [], Option, Some, None, option_map}
 use Rattle.fab_run.specs.Ends.{Answer}
 use Rattle.fab_run.specs.Going.{Going, HasPoint}
 use Rattle.fab_run.specs.Placed.{AskToGoOn, IsPlaced}
@@ -8,6 +8,10 @@ use Rattle.vplace.specs.declared.asked.ResumeWords.{ResumeWords}
 use Rattle.vplace.specs.Asked.{stop_asked}
 use Rattle.vplace.specs.Files.{Gives, Held}
 use Rattle.vplace.specs.Leaving.{IsPut}
+use Rattle.vplace.specs.Placing.{AreTextsGiven, AreTextsUnread}
+use Rattle.vplace.specs.Said.{IsUnread}
+use Rattle.vplace.specs.declared.messages.Role.TheVariants.{Point as PointRole}
+use Rattle.vplace.specs.declared.status.Status.{Status}
 
 -- the save name, if there is one
 abbrev pub save_name : ResumeWords → Option (List ℕ)
@@ -21,6 +25,12 @@ pub record AreNamedToResume (held : Option Held) (w : ResumeWords) (t : Texts) (
   pub pads : t.pads ≡ None
   pub net_label : t.net_label ≡ w.net.items
   pub arch_label : t.arch_label ≡ w.arch.items
+
+-- a file of a resumed run was not read: the first of architecture, netlist and checkpoint of which this is so
+abbrev pub AreUnreadToResume : Option Held → ResumeWords → Status → (List ℕ → Type 0) → Type 0
+AreUnreadToResume held w status Said =
+    AreTextsUnread held w.arch.items w.net.items status Said
+    ⊎ (AreTextsGiven held w.arch.items w.net.items × IsUnread held PointRole w.point.items status Said)
 
 -- `resume` with these words did what it was asked: the report of the piece that goes on from the named checkpoint was written, and what the
 -- run left was put at its name; a new checkpoint has the seed of the one that was read

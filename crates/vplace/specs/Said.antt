@@ -1,9 +1,19 @@
 -- What is said on standard error (our own).
-use Rattle.std.specs.Prelude.{ℕ, ◌≡◌, ◌<◌, ◌⊎◌, List, ◌++◌, Option, codes, length, refl}
+use Rattle.std.specs.Prelude.{ℕ, ◌≡◌, ◌<◌, ◌⊎◌, List, ◌++◌, Option, Some, codes, length, refl}
 use Rattle.std.specs.Io.KnownBytes.{Appends}
 use Rattle.fab_text.specs.Failures.{grown}
 use Rattle.fab_text.specs.FaultTexts.{num_fault_text}
 use Rattle.fab_text.specs.declared.numbers.NumFault.TheVariants.{BadDigit}
+use Rattle.fab_file.specs.declared.fault.PlaceFault.TheVariants.{Write}
+use Rattle.fab_run.specs.declared.fault.RunFault.{RunFault}
+use Rattle.fab_run.specs.declared.fault.RunFault.TheVariants.{Place as RunPlace}
+use Rattle.fab_run.specs.FaultLines.{fault_line}
+use Rattle.vplace.specs.declared.files.WriteFault.TheVariants.{Unwritable}
+use Rattle.vplace.specs.declared.out_file.Refusal.{Refusal}
+use Rattle.vplace.specs.declared.status.Status.{Status}
+use Rattle.vplace.specs.declared.status.Status.TheVariants.{NoMemory, Device}
+use Rattle.vplace.specs.Files.{Held, Lacks}
+use Rattle.vplace.specs.Status.{status_of}
 use Rattle.vplace.specs.declared.messages.Role.{Role}
 use Rattle.vplace.specs.declared.messages.Role.TheVariants.{Arch, Net, Pads, Place, Point}
 use Rattle.vplace.specs.declared.messages.OutRole.{OutRole}
@@ -21,6 +31,9 @@ IsSaid line old new failed_old failed_new = Appends old new (line ++ codes "\n")
 abbrev pub IsFaultSaid : Option (List ℕ) → Option (List ℕ) → ℕ → ℕ → Type 0
 IsFaultSaid old new failed_old failed_new = (text : List ℕ) × (0 < length text) × (Appends old new text ⊎ (failed_new ≡ grown failed_old))
 
+abbrev pub report_line : List ℕ
+report_line = codes "vplace: cannot write report"
+
 abbrev pub no_memory_line : List ℕ
 no_memory_line = codes "vplace: no memory"
 
@@ -34,6 +47,23 @@ unreadable_line Point = codes "vplace: cannot read point"
 abbrev pub unwritable_line : OutRole → List ℕ
 unwritable_line OutPlace = codes "vplace: cannot write place"
 unwritable_line OutPoint = codes "vplace: cannot write point"
+
+-- a file of this role and name was not read, and that is what is said: no file has the name, or memory ran out
+abbrev pub IsUnread : Option Held → Role → List ℕ → Status → (List ℕ → Type 0) → Type 0
+IsUnread held role name status Said =
+    ((status ≡ Device) × Lacks held name × Said (unreadable_line role)) ⊎ ((status ≡ NoMemory) × Said no_memory_line)
+
+-- what is said of a run that gave no answer: that memory ran out, for the run or for the line of its fault; for a place text whose writer
+-- failed, which name was refused; for any other fault its line
+abbrev pub IsFaultTold : RunFault → Option Refusal → List ℕ → Status → (List ℕ → Type 0) → Type 0
+IsFaultTold fault refusal net status Said =
+    ((status ≡ NoMemory) × Said no_memory_line)
+    ⊎ (((fault ≡ RunPlace Write) × (status ≡ Device) × (x : Refusal) × (refusal ≡ Some x) × (x.fault ≡ Unwritable) × Said (unwritable_line x.role))
+    ⊎ ((fault ≡ RunPlace Write → ⊥) × (status_of fault ≡ NoMemory → ⊥) × (status ≡ status_of fault) × Said (fault_line fault net)))
+
+-- a run or a check was refused for a fault of its inputs, and its line is what is said
+abbrev pub IsToldRefusal : (RunFault → Type 0) → List ℕ → Status → (List ℕ → Type 0) → Type 0
+IsToldRefusal IsFault net status Said = (fault : RunFault) × IsFault fault × (status_of fault ≡ status) × Said (fault_line fault net)
 
 abbrev pub option_name : Number → List ℕ
 option_name InitT = codes "init-t"

@@ -1,15 +1,14 @@
 //! The subcommand `check`: reads all three files before it looks at the first text.
 
-ghost use Rattle.std.specs.Prelude.{◌≡◌, ◌≢◌, ◌⊎◌, ℕ, List, OnOk, IfErr};
+ghost use Rattle.std.specs.Prelude.{◌≡◌, ◌≢◌, ◌⊎◌, ℕ, List, Some};
 ghost use Rattle.fab_arch.specs.declared.array.Site.{Site};
 ghost use Rattle.fab_arch.specs.Grid.{GridShape};
 ghost use Rattle.fab_net.specs.Netlist.{Netlist};
 ghost use Rattle.fab_text.specs.Failures.{grown};
 ghost use Rattle.fab_run.specs.Check.{AreChecked, FaultOf, IsReported};
-ghost use Rattle.fab_run.specs.declared.fault.RunFault.{RunFault as RunFaultOf};
-ghost use Rattle.vplace.specs.Said.{IsFaultSaid};
-ghost use Rattle.vplace.specs.Placing.{AreGiven};
-ghost use Rattle.vplace.specs.Status.{status_of};
+ghost use Rattle.vplace.specs.Files.{Held};
+ghost use Rattle.vplace.specs.Said.{IsFaultSaid, IsSaid, IsToldRefusal, no_memory_line, report_line};
+ghost use Rattle.vplace.specs.Placing.{AreGiven, IsCheckUnread};
 
 use crate::files::NamedFiles;
 use crate::messages;
@@ -38,8 +37,13 @@ pub fn check_files<F: NamedFiles, O: Sink, E: Sink>(
 ) -> Status
     // The report of the named files is written.
     ensures done { result ≡ Status.Done → (arch net place : List ℕ) × (cost : ℕ) × AreGiven (F.held files.now) names.now arch net place × IsReported arch net place cost (O.contents out.old) (O.contents out.new) }
-    // A refusal is that of the first check of the named files that fails.
-    ensures refused { result ≡ Status.Refused → (arch net place : List ℕ) × (fault : RunFaultOf) × AreGiven (F.held files.now) names.now arch net place × FaultOf arch net place fault × (status_of fault ≡ Status.Refused) }
+    // A refusal is that of the first check of the named files that fails, and its line is said.
+    ensures refused { result ≡ Status.Refused → (arch net place : List ℕ) × AreGiven (F.held files.now) names.now arch net place × IsToldRefusal (FaultOf arch net place) net result (λ line. IsSaid line (E.contents err.old) (E.contents err.new) (E.failed err.old) (E.failed err.new)) }
+    // Files in memory that mean a legal placement are never refused.
+    ensures only { (h : Held) (arch net place : List ℕ) (d : Netlist) (g : GridShape) (sites : List Site) → F.held files.now ≡ Some h → AreGiven (Some h) names.now arch net place → AreChecked arch net place d g sites → (result ≡ Status.Done) ⊎ ((result ≡ Status.NoMemory) ⊎ (result ≡ Status.Device)) }
+    // A device failed only if a file is not there, or if the report's writer failed.
+    ensures device { result ≡ Status.Device → IsCheckUnread (F.held files.now) names.now result (λ line. IsSaid line (E.contents err.old) (E.contents err.new) (E.failed err.old) (E.failed err.new)) ⊎ ((O.failed out.new ≡ grown (O.failed out.old)) × IsSaid report_line (E.contents err.old) (E.contents err.new) (E.failed err.old) (E.failed err.new)) }
+    ensures memory { result ≡ Status.NoMemory → IsSaid no_memory_line (E.contents err.old) (E.contents err.new) (E.failed err.old) (E.failed err.new) }
     ensures silent { result ≡ Status.Refused → O.contents out.new ≡ O.contents out.old }
     ensures written { result ≡ Status.Done → O.failed out.new ≡ O.failed out.old }
     ensures quiet { result ≡ Status.Done → E.contents err.new ≡ E.contents err.old }
@@ -83,13 +87,14 @@ pub fn check_texts<O: Sink, E: Sink>(
 ) -> Status
     // The report of what the texts mean is written.
     ensures done { result ≡ Status.Done → (cost : ℕ) × IsReported arch.now net.now place.now cost (O.contents out.old) (O.contents out.new) }
-    // A refusal is that of the first check that fails.
-    ensures refused { result ≡ Status.Refused → (fault : RunFaultOf) × FaultOf arch.now net.now place.now fault × (status_of fault ≡ Status.Refused) }
+    // A refusal is that of the first check that fails, and its line is said.
+    ensures refused { result ≡ Status.Refused → IsToldRefusal (FaultOf arch.now net.now place.now) net.now result (λ line. IsSaid line (E.contents err.old) (E.contents err.new) (E.failed err.old) (E.failed err.new)) }
     // Texts that mean all this are never refused.
     ensures only { (d : Netlist) (g : GridShape) (sites : List Site) → AreChecked arch.now net.now place.now d g sites → (result ≡ Status.Done) ⊎ ((result ≡ Status.NoMemory) ⊎ (result ≡ Status.Device)) }
     ensures silent { result ≡ Status.Refused → O.contents out.new ≡ O.contents out.old }
     // A device failed only if the report's writer did.
-    ensures device { result ≡ Status.Device → O.failed out.new ≡ grown (O.failed out.old) }
+    ensures device { result ≡ Status.Device → (O.failed out.new ≡ grown (O.failed out.old)) × IsSaid report_line (E.contents err.old) (E.contents err.new) (E.failed err.old) (E.failed err.new) }
+    ensures memory { result ≡ Status.NoMemory → IsSaid no_memory_line (E.contents err.old) (E.contents err.new) (E.failed err.old) (E.failed err.new) }
     ensures written { result ≡ Status.Done → O.failed out.new ≡ O.failed out.old }
     ensures quiet { result ≡ Status.Done → E.contents err.new ≡ E.contents err.old }
     ensures said { result ≢ Status.Done → IsFaultSaid (E.contents err.old) (E.contents err.new) (E.failed err.old) (E.failed err.new) }

@@ -2,7 +2,7 @@
 // program on them.
 
 ghost use Rattle.std.specs.Prelude.{Some, [], ◌∷◌, option_map, codes};
-ghost use Rattle.vplace.specs.Files.{text_among};
+ghost use Rattle.vplace.specs.Files.{shut_but, text_among};
 
 use crate::files::{NamedFiles, ReadFault, WriteFault};
 use crate::narrow::Narrow;
@@ -17,6 +17,9 @@ const ARCH: &[u8] = b"io_rat 1\ninpin class: 0 left\noutpin class: 1 right\n";
 
 const NET: &[u8] =
     b".input a\npinlist: n1\n.output z\npinlist: n2\n.clb b\npinlist: n1 n2\nsubblock: b 0 1\n";
+
+// A netlist of which nobody drives the second net.
+const UNDRIVEN: &[u8] = b".input a\npinlist: n1\n.output z\npinlist: n2\n";
 
 const PADS: &[u8] = b"a 0 1 0\nz 2 1 0\n";
 
@@ -85,12 +88,13 @@ pub const WORDS: [&[u8]; 17] = [
     b"3",
 ];
 
-/// The files of the design. Bytes that are put at `t.place` and at `t.point` are kept. Two more names can be reserved: for `late` the disk
+/// The files of the design, and the netlist `u.net` that nobody drives. Bytes that are put at `t.place` and at `t.point` are kept. Two more names can be reserved: for `late` the disk
 /// is full when the bytes come, and for `huge` memory has run out by then. No other name can; `none` runs out of memory.
 #[derive(Drop)]
 pub struct Desk {
     arch: &'static [u8],
     net: &'static [u8],
+    undriven: &'static [u8],
     pads: &'static [u8],
     placed: Option<Vec<u8>>,
     point: Option<Vec<u8>>,
@@ -104,6 +108,7 @@ impl Desk {
         Desk {
             arch: ARCH,
             net: NET,
+            undriven: UNDRIVEN,
             pads: PADS,
             placed: None,
             point,
@@ -114,7 +119,10 @@ impl Desk {
 }
 
 impl NamedFiles for Desk {
-    ghost held = { λ desk. Some (text_among ((codes "t.arch", Some desk.arch.now) ∷ (codes "t.net", Some desk.net.now) ∷ (codes "t.pads", Some desk.pads.now) ∷ (codes "t.place", option_map (λ bytes. bytes.items) desk.placed) ∷ (codes "t.point", option_map (λ bytes. bytes.items) desk.point) ∷ [])) };
+    ghost held = { λ desk. Some (text_among ((codes "t.arch", Some desk.arch.now) ∷ (codes "t.net", Some desk.net.now) ∷ (codes "u.net", Some desk.undriven.now) ∷ (codes "t.pads", Some desk.pads.now) ∷ (codes "t.place", option_map (λ bytes. bytes.items) desk.placed) ∷ (codes "t.point", option_map (λ bytes. bytes.items) desk.point) ∷ [])) };
+
+    // A name that is not known, and one whose disk is full.
+    ghost shut = { λ desk. Some (shut_but (codes "t.place" ∷ codes "t.point" ∷ codes "huge" ∷ codes "none" ∷ [])) };
 
     // The name.
     type Outlet = Vec<u8>;
@@ -126,8 +134,15 @@ impl NamedFiles for Desk {
             self.arch
         } else if name == b"t.net".as_slice() {
             self.net
+        } else if name == b"u.net".as_slice() {
+            self.undriven
         } else if name == b"t.pads".as_slice() {
             self.pads
+        } else if name == b"t.place".as_slice() {
+            match &self.placed {
+                Some(place) => place.as_slice(),
+                None => return Err(ReadFault::Unreadable),
+            }
         } else if name == b"t.point".as_slice() {
             match &self.point {
                 Some(point) => point.as_slice(),

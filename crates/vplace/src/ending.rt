@@ -1,29 +1,28 @@
 //! What a run leaves after its answer, and where it goes: the placement if it finished, or the checkpoint if it stopped.
 
-ghost use Rattle.std.specs.Prelude.{◌≡◌, ◌≢◌, ◌⊎◌, ℕ, Ok, OnOk, OnErr, IfOk, IfErr, IfSome, IsErrAnd, MatchOption, MatchResult};
-ghost use Rattle.fab_text.specs.Lines.{lines};
+ghost use Rattle.std.specs.Prelude.{◌≡◌, ◌≢◌, ◌≤◌, ◌⊎◌, ℕ, Ok, Some, OnOk, OnErr, IfOk, IfErr, IfSome, IsErrAnd, MatchOption, MatchResult, option_copied};
 ghost use Rattle.fab_net.specs.Netlist.{Netlist};
-ghost use Rattle.fab_run.specs.Check.{MeanDesign};
-ghost use Rattle.fab_run.specs.PointMeaning.{StandsForPoint};
-ghost use Rattle.fab_run.specs.PointText.{IsWritable, point_text};
+ghost use Rattle.fab_run.specs.Check.{IsDesignFault, MeanDesign};
 ghost use Rattle.fab_run.specs.declared.fault.RunFault.TheVariants.{NoMemory};
-ghost use Rattle.vplace.specs.Files.{Puts};
-ghost use Rattle.vplace.specs.Leaving.{tried_name};
-ghost use Rattle.vplace.specs.Said.{IsFaultSaid};
+ghost use Rattle.vplace.specs.Files.{IsShut, Puts};
+ghost use Rattle.vplace.specs.Leaving.{IsShutFor, point_name};
+ghost use Rattle.vplace.specs.Said.{IsFaultSaid, IsFaultTold, IsSaid, no_memory_line, unwritable_line};
+ghost use Rattle.vplace.specs.declared.files.WriteFault.TheVariants.{Unwritable};
+ghost use Rattle.vplace.specs.declared.messages.OutRole.TheVariants.{Place as OutPlace, Point as OutPoint};
 ghost use Rattle.vplace.specs.Status.{status_of};
 
 use crate::files::{NamedFiles, WriteFault};
 use crate::messages;
 use crate::messages::OutRole;
-use crate::out_file::{Named, OutFile};
+use crate::out_file::{OutFile, Planned, Refusal};
 use crate::out_names::OutNames;
 use crate::status::Status;
-use fab_arch::{Arch, Grid, read_arch};
+use fab_arch::{Arch, read_arch};
 use fab_file::PlaceFault;
 use fab_net::{Design, read_net};
-use fab_run::{Inputs, Point, RunFault, write_point};
-use fab_text::{Counted, Sink};
-use std::alloc::{AllocError, Global};
+use fab_run::{Inputs, RunFault};
+use fab_text::Sink;
+use std::alloc::Global;
 
 /// What a run left in memory.
 #[derive(Drop)]
@@ -32,47 +31,60 @@ pub struct Left<O: Drop> {
     pub place: Vec<u8>,
     /// The text of the point where it stopped, if it did.
     pub point: Option<Vec<u8>>,
-    /// The place that was reserved at the name that was tried.
-    pub outlet: Option<O>,
+    /// The place that was reserved at the out name, if one was.
+    pub out: Option<O>,
+    /// The place that was reserved at the save name, if one was.
+    pub save: Option<O>,
 }
 
-/// Says why a run gave no answer. `refusal` is why the name that was tried was refused, if it was.
+/// Says why a run gave no answer. `refusal` is why a name that was tried was refused, if one was.
 fn tell_fault<E: Sink>(
     alloc: Global,
     err: &mut E,
     fault: &RunFault,
-    refusal: Option<WriteFault>,
-    role: OutRole,
+    refusal: Option<Refusal>,
     net: &[u8],
 ) -> Status
     ensures status { (result ≡ status_of fault.now) ⊎ (result ≡ Status.NoMemory) }
+    ensures told { IsFaultTold fault.now refusal net.now result (λ line. IsSaid line (E.contents err.old) (E.contents err.new) (E.failed err.old) (E.failed err.new)) }
     ensures said { IsFaultSaid (E.contents err.old) (E.contents err.new) (E.failed err.old) (E.failed err.new) }
     ensures open { result ≢ Status.Done }
 {
     match (fault, refusal) {
-        (RunFault::Place(PlaceFault::Write), Some(WriteFault::Unwritable)) => {
-            messages::unwritable(err, role)
-        }
-        // Otherwise memory ran out, for the name or for the place text.
-        (RunFault::Place(PlaceFault::Write), _) => messages::no_memory(err),
+        (RunFault::Place(PlaceFault::Write), Some(refusal)) => match refusal.fault {
+            WriteFault::Unwritable => messages::unwritable(err, refusal.role),
+            WriteFault::NoMemory => messages::no_memory(err),
+        },
+        // The place text is in memory, so memory ran out for it.
+        (RunFault::Place(PlaceFault::Write), None) => messages::no_memory(err),
         _ => messages::run_fault(alloc, err, fault, net),
     }
 }
 
+/// Releases a place, if there is one.
+fn release<F: NamedFiles>(files: &F, outlet: Option<F::Outlet>) {
+    if let Some(outlet) = outlet {
+        files.release(outlet);
+    }
+}
+
 /// What a run left in memory, given its place text and `told`, the text of the point where it stopped, if it did. If the run gave no
-/// answer, its reserved place is released, and the fault is said.
-pub fn left_by<F: NamedFiles, N: Named, E: Sink>(
+/// answer, its reserved places are released, and the fault is said.
+pub fn left_by<F: NamedFiles, N: Planned, E: Sink>(
     alloc: Global,
     told: Result<Option<Vec<u8>>, RunFault>,
     file: OutFile<'_, F, N>,
-    role: OutRole,
     net: &[u8],
     err: &mut E,
 ) -> Result<Left<F::Outlet>, Status>
     ensures point { IfOk result (λ left. told ≡ Ok left.point) }
     ensures place { IfOk result (λ left. left.place.items ≡ file.entry.text.items) }
-    ensures taken { IfOk result (λ left. IfSome left.outlet (λ outlet. F.name_of outlet ≡ N.name)) }
+    ensures at_out { IfOk result (λ left. IfSome left.out (λ outlet. F.name_of outlet ≡ N.plan.out)) }
+    ensures at_save { IfOk result (λ left. IfSome left.save (λ outlet. Some (F.name_of outlet) ≡ N.plan.save)) }
     ensures fault { IfErr result (λ status. IsErrAnd told (λ fault. (status ≡ status_of fault) ⊎ (status ≡ Status.NoMemory))) }
+    ensures told { IfErr result (λ status. IsErrAnd told (λ fault. IsFaultTold fault file.entry.refusal net.now status (λ line. IsSaid line (E.contents err.old) (E.contents err.new) (E.failed err.old) (E.failed err.new)))) }
+    // A name that was refused is one that the run may need.
+    ensures refused { IfSome file.entry.refusal (λ r. r.fault ≡ Unwritable → IsShutFor N.plan r.role) }
     ensures quiet { OnOk result (E.contents err.new ≡ E.contents err.old) }
     ensures still { OnOk result (E.failed err.new ≡ E.failed err.old) }
     ensures said { OnErr result (IsFaultSaid (E.contents err.old) (E.contents err.new) (E.failed err.old) (E.failed err.new)) }
@@ -81,8 +93,9 @@ pub fn left_by<F: NamedFiles, N: Named, E: Sink>(
     let OutFile {
         files,
         text,
-        outlet,
-        fault: refusal,
+        out,
+        save,
+        refusal,
         ..
     } = file;
     let fault = match told {
@@ -90,45 +103,27 @@ pub fn left_by<F: NamedFiles, N: Named, E: Sink>(
             return Ok(Left {
                 place: text,
                 point,
-                outlet,
+                out,
+                save,
             });
         }
         Err(fault) => fault,
     };
-    if let Some(outlet) = outlet {
-        files.release(outlet);
-    }
-    Err(tell_fault(alloc, err, &fault, refusal, role, net))
+    release(files, out);
+    release(files, save);
+    Err(tell_fault(alloc, err, &fault, refusal, net))
 }
 
 /// The architecture and the design that the texts of a run mean.
 pub fn read_design(alloc: Global, inputs: &Inputs) -> Result<(Arch, Design), RunFault>
     ensures found { IfOk result (λ r. MeanDesign inputs.now.arch.now inputs.now.net.now r.0.io_rat r.1) }
+    ensures ratio { IfOk result (λ r. (1 ≤ r.0.io_rat) × (r.0.io_rat ≤ 64)) }
     ensures only { (io_rat : ℕ) (d : Netlist) → MeanDesign inputs.now.arch.now inputs.now.net.now io_rat d → MatchResult result (λ r. (r.0.io_rat ≡ io_rat) × (r.1 ≡ d)) (λ e. e ≡ NoMemory) }
+    ensures fault { IfErr result (IsDesignFault inputs.now.arch.now inputs.now.net.now) }
 {
     let arch = read_arch(alloc, inputs.arch)?;
     let design = read_net(alloc, inputs.net, &arch)?;
     Ok((arch, design))
-}
-
-/// The text of a point of a run with this seed, of a design on an array.
-pub fn text_of_point(
-    alloc: Global,
-    seed: u64,
-    design: &Design,
-    grid: &Grid,
-    point: &Point,
-) -> Result<Vec<u8>, AllocError>
-    requires { IsWritable design.now grid.now point.now }
-    ensures exact { IfOk result (λ text. text.items ≡ point_text seed design.now grid.now point.now) }
-    ensures back { IfOk result (λ text. StandsForPoint grid.now.io_rat design.now (lines text.items) seed grid.now point.now) }
-{
-    let mut text = Counted::new(Vec::new(alloc));
-    match write_point(alloc, &mut text, seed, design, grid, point) {
-        Ok(()) => Ok(text.into_inner()),
-        // A vector refuses bytes only if memory runs out.
-        Err(_) => Err(AllocError),
-    }
 }
 
 /// Puts the text of a file of this role at its name. `outlet` is the place that was reserved there, if one was.
@@ -144,6 +139,8 @@ fn put_text<F: NamedFiles, E: Sink>(
     requires { IfSome outlet (λ outlet. F.name_of outlet ≡ name.now) }
     ensures put { result ≡ Status.Done → Puts (F.held files.old) (F.held files.new) name.now text.now }
     ensures kept { result ≢ Status.Done → F.held files.new ≡ F.held files.old }
+    ensures device { result ≡ Status.Device → IsShut (F.shut files.old) name.now × IsSaid (unwritable_line role) (E.contents err.old) (E.contents err.new) (E.failed err.old) (E.failed err.new) }
+    ensures memory { result ≡ Status.NoMemory → IsSaid no_memory_line (E.contents err.old) (E.contents err.new) (E.failed err.old) (E.failed err.new) }
     ensures quiet { result ≡ Status.Done → E.contents err.new ≡ E.contents err.old }
     ensures said { result ≢ Status.Done → IsFaultSaid (E.contents err.old) (E.contents err.new) (E.failed err.old) (E.failed err.new) }
     ensures open { (result ≡ Status.Done) ⊎ ((result ≡ Status.Device) ⊎ (result ≡ Status.NoMemory)) }
@@ -163,25 +160,7 @@ fn put_text<F: NamedFiles, E: Sink>(
     }
 }
 
-/// The place that was reserved at the out name, if one was. One at the save name is released.
-fn outlet_at_out<F: NamedFiles>(
-    files: &F,
-    names: &OutNames,
-    outlet: Option<F::Outlet>,
-) -> Option<F::Outlet>
-    requires { IfSome outlet (λ outlet. F.name_of outlet ≡ tried_name names.now) }
-    ensures { IfSome result (λ outlet. F.name_of outlet ≡ names.now.out.now) }
-{
-    if names.save.is_none() {
-        return outlet;
-    }
-    if let Some(outlet) = outlet {
-        files.release(outlet);
-    }
-    None
-}
-
-/// Puts what a run left at its name: the checkpoint if it stopped, else the placement.
+/// Puts what a run left at its name: the checkpoint if it stopped, else the placement. The place at the other name is released.
 pub fn leave<F: NamedFiles, E: Sink>(
     alloc: Global,
     files: &mut F,
@@ -189,9 +168,12 @@ pub fn leave<F: NamedFiles, E: Sink>(
     left: Left<F::Outlet>,
     err: &mut E,
 ) -> Status
-    requires { IfSome left.outlet (λ outlet. F.name_of outlet ≡ tried_name names.now) }
-    ensures put { result ≡ Status.Done → MatchOption left.point (Puts (F.held files.old) (F.held files.new) names.now.out.now left.place.items) (λ point. Puts (F.held files.old) (F.held files.new) (tried_name names.now) point.items) }
+    requires at_out { IfSome left.out (λ outlet. F.name_of outlet ≡ names.now.out.now) }
+    requires at_save { IfSome left.save (λ outlet. Some (F.name_of outlet) ≡ option_copied names.now.save) }
+    ensures put { result ≡ Status.Done → MatchOption left.point (Puts (F.held files.old) (F.held files.new) names.now.out.now left.place.items) (λ point. Puts (F.held files.old) (F.held files.new) (point_name names.now) point.items) }
     ensures kept { result ≢ Status.Done → F.held files.new ≡ F.held files.old }
+    ensures device { result ≡ Status.Device → MatchOption left.point (IsShut (F.shut files.old) names.now.out.now × IsSaid (unwritable_line OutPlace) (E.contents err.old) (E.contents err.new) (E.failed err.old) (E.failed err.new)) (λ point. IsShut (F.shut files.old) (point_name names.now) × IsSaid (unwritable_line OutPoint) (E.contents err.old) (E.contents err.new) (E.failed err.old) (E.failed err.new)) }
+    ensures memory { result ≡ Status.NoMemory → IsSaid no_memory_line (E.contents err.old) (E.contents err.new) (E.failed err.old) (E.failed err.new) }
     ensures quiet { result ≡ Status.Done → E.contents err.new ≡ E.contents err.old }
     ensures said { result ≢ Status.Done → IsFaultSaid (E.contents err.old) (E.contents err.new) (E.failed err.old) (E.failed err.new) }
     ensures open { (result ≡ Status.Done) ⊎ ((result ≡ Status.Device) ⊎ (result ≡ Status.NoMemory)) }
@@ -199,26 +181,30 @@ pub fn leave<F: NamedFiles, E: Sink>(
     let Left {
         place,
         point,
-        outlet,
+        out,
+        save,
     } = left;
     match point {
-        Some(point) => put_text(
-            alloc,
-            files,
-            OutRole::Point,
-            names.tried(),
-            outlet,
-            point.as_slice(),
-            err,
-        ),
+        Some(point) => {
+            release(&*files, out);
+            put_text(
+                alloc,
+                files,
+                OutRole::Point,
+                names.of_point(),
+                save,
+                point.as_slice(),
+                err,
+            )
+        }
         None => {
-            let outlet = outlet_at_out(&*files, names, outlet);
+            release(&*files, save);
             put_text(
                 alloc,
                 files,
                 OutRole::Place,
                 names.out,
-                outlet,
+                out,
                 place.as_slice(),
                 err,
             )

@@ -1,7 +1,11 @@
 //! Files by name, as the program reads and writes them: those of the system, or, in a test, files in memory.
 
-ghost use Rattle.std.specs.Prelude.{◌≡◌, ℕ, List, Option, IfOk, OnOk, OnErr};
-ghost use Rattle.vplace.specs.Files.{Gives, Held, Puts};
+ghost use Rattle.std.specs.Prelude.{◌≡◌, ◌↔◌, ℕ, List, Option, IfOk, IfErr, OnOk, OnErr};
+ghost use Rattle.std.specs.IoError.{error_kind};
+ghost use Rattle.std.specs.declared.io.ErrorKind.TheVariants.{OutOfMemory};
+ghost use Rattle.vplace.specs.Files.{Gives, Held, IsShut, Lacks, Puts, Shut};
+ghost use Rattle.vplace.specs.declared.files.ReadFault.TheVariants.{Unreadable};
+ghost use Rattle.vplace.specs.declared.files.WriteFault.TheVariants.{NoMemory, Unwritable};
 
 use std::alloc::Global;
 use std::io::{Error, ErrorKind};
@@ -25,8 +29,10 @@ pub enum WriteFault {
 }
 
 impl WriteFault {
-    /// The fault that an error of the system is reported as.
-    pub fn of(error: &Error) -> Self {
+    /// The fault that an error of the system is reported as: want of memory as itself, any other as one of the file.
+    pub fn of(error: &Error) -> Self
+        ensures { (result ≡ NoMemory) ↔ (error_kind error.now ≡ OutOfMemory) }
+    {
         match error.kind() {
             ErrorKind::OutOfMemory => WriteFault::NoMemory,
             _ => WriteFault::Unwritable,
@@ -39,6 +45,9 @@ pub trait NamedFiles {
     /// What the names give, if that is known.
     ghost held: { Self → Option Held };
 
+    /// The names at which bytes cannot be put, if they are known.
+    ghost shut: { Self → Option Shut };
+
     /// The place of a file that is to be written.
     type Outlet: Drop;
 
@@ -47,16 +56,19 @@ pub trait NamedFiles {
 
     /// All bytes of a file.
     fn read(&self, alloc: Global, name: &[u8]) -> Result<Vec<u8>, ReadFault>
-        ensures { IfOk result (λ bytes. Gives (held self.now) name.now bytes.items) };
+        ensures gives { IfOk result (λ bytes. Gives (held self.now) name.now bytes.items) }
+        ensures lacks { IfErr result (λ fault. fault ≡ Unreadable → Lacks (held self.now) name.now) };
 
     /// Checks that bytes can be put at a name, and reserves a place for them. Nothing is made at the name itself.
     fn reserve(&self, alloc: Global, name: &[u8]) -> Result<Self::Outlet, WriteFault>
-        ensures { IfOk result (λ outlet. name_of outlet ≡ name.now) };
+        ensures name { IfOk result (λ outlet. name_of outlet ≡ name.now) }
+        ensures shut { IfErr result (λ fault. fault ≡ Unwritable → IsShut (shut self.now) name.now) };
 
     /// Puts bytes at the name that the place was reserved for, in place of all that it gave.
     fn put(&mut self, outlet: Self::Outlet, bytes: &[u8]) -> Result<(), WriteFault>
         ensures put { OnOk result (Puts (held self.old) (held self.new) (name_of outlet) bytes.now) }
-        ensures kept { OnErr result (held self.new ≡ held self.old) };
+        ensures kept { OnErr result (held self.new ≡ held self.old) }
+        ensures shut { IfErr result (λ fault. fault ≡ Unwritable → IsShut (shut self.old) (name_of outlet)) };
 
     /// Releases a place that is not needed.
     fn release(&self, outlet: Self::Outlet);

@@ -7,9 +7,9 @@ ghost use Rattle.std.specs.Io.KnownBytes.{Appends};
 use crate::files::{NamedFiles, ReadFault, WriteFault};
 use fab_text::{Counted, Sink, write_whole};
 use std::alloc::Global;
-use std::fs::{File, Metadata, OpenOptions, Permissions, TryLockError};
+use std::fs::{File, Metadata, OpenOptions, TryLockError};
 use std::io::{Error, ErrorKind};
-use std::os::unix::fs::{FileTypeExt, MetadataExt};
+use std::os::unix::fs::{FileTypeExt, MetadataExt, fchown};
 use std::{fs, str};
 
 // How many names are tried for a temporary file.
@@ -62,6 +62,8 @@ impl<'a> HostFiles<'a> {
 
 impl NamedFiles for HostFiles<'_> {
     ghost held = { λ files. None };
+
+    ghost shut = { λ files. None };
 
     type Outlet = Outlet;
 
@@ -141,7 +143,7 @@ impl HostFiles<'_> {
         };
         if found.is_file() && !is_open_file(target.as_str()) {
             self.stop_unless_writable(target.as_str())?;
-            return self.place_beside(alloc, target, Some(found.permissions()));
+            return self.place_beside(alloc, target, Some(found));
         }
         // A pipe is opened only when there are bytes for it: opening it waits for a reader.
         if !found.file_type().is_fifo() {
@@ -194,21 +196,21 @@ impl HostFiles<'_> {
         }
     }
 
-    // Makes a temporary file next to the target, and gives it the target's mode before it has a byte. If the folder takes no new file, or
-    // none with so long a name, the target itself is written; if it is not there yet, making it is tried first.
+    // Makes a temporary file next to the target, and gives it the group and the mode of what is there before it has a byte. If the folder
+    // takes no new file, or none with so long a name, the target itself is written; if it is not there yet, making it is tried first.
     fn place_beside(
         &self,
         alloc: Global,
         target: String,
-        mode: Option<Permissions>,
+        old: Option<Metadata>,
     ) -> Result<Way, WriteFault> {
         for number in 0..MOST_BESIDE {
             let name = beside_name(alloc, target.as_str(), number)?;
             match self.fresh(name.as_str()) {
-                Ok(Some(file)) => return self.with_lock(file, name, target, mode),
+                Ok(Some(file)) => return self.with_lock(file, name, target, old),
                 Ok(None) => {}
-                Err(error) if must_be_in_place(error.kind(), mode.is_some()) => {
-                    if mode.is_none() {
+                Err(error) if must_be_in_place(error.kind(), old.is_some()) => {
+                    if old.is_none() {
                         self.try_new(target.as_str())?;
                     }
                     return Ok(Way::InPlace(target));
@@ -238,7 +240,7 @@ impl HostFiles<'_> {
         file: File,
         name: String,
         target: String,
-        mode: Option<Permissions>,
+        old: Option<Metadata>,
     ) -> Result<Way, WriteFault> {
         let lock = match file.try_clone() {
             Ok(lock) => lock,
@@ -247,8 +249,11 @@ impl HostFiles<'_> {
                 return Err(WriteFault::of(&error));
             }
         };
-        if let Some(mode) = mode {
-            if let Err(error) = file.set_permissions(mode) {
+        if let Some(old) = old {
+            // The group comes first, since a new one may take bits of the mode away. It stays as it is where the user of this run is not in
+            // the old one.
+            let _ = fchown(&file, None, Some(old.gid()));
+            if let Err(error) = file.set_permissions(old.permissions()) {
                 self.remove(&file, name.as_str());
                 return Err(WriteFault::of(&error));
             }

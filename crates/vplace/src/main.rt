@@ -9,7 +9,9 @@ mod ending;
 mod example;
 mod files;
 mod flags;
+mod forecast;
 mod host_files;
+mod kept;
 mod laws;
 mod messages;
 #[cfg(test)]

@@ -128,22 +128,26 @@ pub fn word_fault<E: Sink>(alloc: Global, err: &mut E, fault: WordFault) -> Stat
     }
 }
 
-/// Says why a run gave no answer. `net` is the netlist text that the span of a fault refers to.
+/// Says why a run gave no answer. `net` is the netlist text that the span of a fault refers to. Memory may run out for its line.
 pub fn run_fault<E: Sink>(alloc: Global, err: &mut E, fault: &RunFault, net: &[u8]) -> Status
     ensures status { (result ≡ status_of fault.now) ⊎ (result ≡ Status.NoMemory) }
-    // The line of the fault was written, or that there was no memory for it.
-    ensures said { ((result ≡ status_of fault.now) × IsSaid (line_of_fault fault.now net.now) (E.contents err.old) (E.contents err.new) (E.failed err.old) (E.failed err.new)) ⊎ ((result ≡ Status.NoMemory) × IsSaid no_memory_line (E.contents err.old) (E.contents err.new) (E.failed err.old) (E.failed err.new)) }
+    // The line of the fault was written, or that there was no memory.
+    ensures said { ((status_of fault.now ≢ Status.NoMemory) × (result ≡ status_of fault.now) × IsSaid (line_of_fault fault.now net.now) (E.contents err.old) (E.contents err.new) (E.failed err.old) (E.failed err.new)) ⊎ ((result ≡ Status.NoMemory) × IsSaid no_memory_line (E.contents err.old) (E.contents err.new) (E.failed err.old) (E.failed err.new)) }
     ensures heard { IsFaultSaid (E.contents err.old) (E.contents err.new) (E.failed err.old) (E.failed err.new) }
     ensures open { result ≢ Status.Done }
     ensures device { result ≡ Status.Device → (fault.now ≡ Report) ⊎ ((fault.now ≡ Place Write) ⊎ (fault.now ≡ Point PointWrite)) }
 {
+    let status = status_after(fault);
+    if status == Status::NoMemory {
+        return no_memory(err);
+    }
     match fault_line(alloc, fault, net) {
         Ok(mut line) => {
             if line.push(b'\n').is_err() {
                 return no_memory(err);
             }
             let _ = write_whole(err, line.as_slice());
-            status_after(fault)
+            status
         }
         Err(_) => no_memory(err),
     }

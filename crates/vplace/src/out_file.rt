@@ -1,59 +1,128 @@
-//! The output file of a run: its text stays in memory until the run has answered, and its name is tried before the first move.
+//! The output file of a run: its text stays in memory until the run has answered, and the names of the files that the run may leave are tried
+//! before the first move.
 
-ghost use Rattle.std.specs.Prelude.{◌≡◌, ℕ, List, [], Some};
+ghost use Rattle.std.specs.Prelude.{◌≡◌, [], Some, OnOk, OnErr, IfErr};
 ghost use Rattle.std.specs.Option.{ForSome};
+ghost use Rattle.vplace.specs.Leaving.{IsShutFor, OutPlan, no_plan, plan_of};
+ghost use Rattle.vplace.specs.declared.files.WriteFault.TheVariants.{Unwritable};
 
 use crate::files::{NamedFiles, WriteFault};
+use crate::forecast::Forecast;
+use crate::messages::OutRole;
+use crate::out_names::OutNames;
 use std::alloc::Global;
 use std::io::Write;
 use std::marker::{Brand, PhantomData};
 
-/// The name of an out file as part of its type, so that code that borrows the file cannot leave one of another name.
-pub trait Named {
-    ghost name: { List ℕ };
+/// What is known of the files of a run before its first move, as part of a type: code that borrows an out file of this type cannot leave one
+/// of another name or forecast.
+pub trait Planned {
+    ghost plan: { OutPlan };
 }
 
-impl Named for Brand {
-    ghost name = { [] };
+impl Planned for Brand {
+    ghost plan = { no_plan };
 }
 
-/// The bytes of a file that is not written yet, and the place that was reserved for them.
+/// Why no place was reserved for a file of this role.
+#[derive(Clone, Copy, Debug, PartialEq, Eq)]
+pub struct Refusal {
+    pub role: OutRole,
+    pub fault: WriteFault,
+}
+
+/// The bytes of a file that is not written yet, and the places that were reserved for the files that the run may leave.
 #[derive(Drop)]
-pub struct OutFile<'a, F: NamedFiles, N: Named> {
+pub struct OutFile<'a, F: NamedFiles, N: Planned> {
     pub files: &'a F,
     pub alloc: Global,
-    pub name: &'a [u8],
+    pub names: OutNames<'a>,
+    pub forecast: Forecast,
+    /// The text of the placement, as far as it is written.
     pub text: Vec<u8>,
-    pub outlet: Option<F::Outlet>,
-    pub fault: Option<WriteFault>,
+    /// The place at the out name.
+    pub out: Option<F::Outlet>,
+    /// The place at the save name.
+    pub save: Option<F::Outlet>,
+    pub refusal: Option<Refusal>,
     pub failures: u64,
     pub of: PhantomData<N>,
-    // The place was reserved for the name.
-    ghost named: { name.now ≡ N.name },
-    ghost placed: { ForSome outlet (λ place. F.name_of place ≡ N.name) },
+    ghost planned: { plan_of names forecast (F.shut files.now) ≡ N.plan },
+    // Each place was reserved for its name.
+    ghost at_out: { ForSome out (λ place. F.name_of place ≡ N.plan.out) },
+    ghost at_save: { ForSome save (λ place. Some (F.name_of place) ≡ N.plan.save) },
+    // A name that the run may need was refused.
+    ghost refused: { ForSome refusal (λ r. r.fault ≡ Unwritable → IsShutFor N.plan r.role) },
 }
 
-impl<'a, F: NamedFiles, N: Named> OutFile<'a, F, N> {
+impl<'a, F: NamedFiles, N: Planned> OutFile<'a, F, N> {
     /// No bytes yet, and no place.
-    pub fn new(files: &'a F, alloc: Global, name: &'a [u8]) -> Self
-        requires { name.now ≡ N.name }
+    pub fn new(files: &'a F, alloc: Global, names: &OutNames<'a>, forecast: Forecast) -> Self
+        requires { plan_of names.now forecast (F.shut files.now) ≡ N.plan }
         ensures text { result.text.items ≡ [] }
         ensures failures { result.failures ≡ 0 }
     {
         OutFile {
             files,
             alloc,
-            name,
+            names: *names,
+            forecast,
             text: Vec::new(alloc),
-            outlet: None,
-            fault: None,
+            out: None,
+            save: None,
+            refusal: None,
             failures: 0,
             of: PhantomData,
         }
     }
+
+    // Reserves a place at the out name, if the run may leave its placement.
+    fn reserve_out(&mut self) -> Result<(), Refusal>
+        ensures text { self.new.text ≡ self.old.text }
+        ensures failures { self.new.failures ≡ self.old.failures }
+        ensures refused { IfErr result (λ r. r.fault ≡ Unwritable → IsShutFor N.plan r.role) }
+    {
+        let role = OutRole::Place;
+        if self.forecast.may_leave(role) {
+            match self.files.reserve(self.alloc, self.names.out) {
+                Ok(place) => self.out = Some(place),
+                Err(fault) => return Err(Refusal { role, fault }),
+            }
+        }
+        Ok(())
+    }
+
+    // Reserves a place at the save name, if the run may leave a checkpoint.
+    fn reserve_save(&mut self) -> Result<(), Refusal>
+        ensures text { self.new.text ≡ self.old.text }
+        ensures failures { self.new.failures ≡ self.old.failures }
+        ensures refused { IfErr result (λ r. r.fault ≡ Unwritable → IsShutFor N.plan r.role) }
+    {
+        let role = OutRole::Point;
+        let Some(name) = self.names.save else {
+            return Ok(());
+        };
+        if self.forecast.may_leave(role) {
+            match self.files.reserve(self.alloc, name) {
+                Ok(place) => self.save = Some(place),
+                Err(fault) => return Err(Refusal { role, fault }),
+            }
+        }
+        Ok(())
+    }
+
+    // Reserves both places, that at the out name first.
+    fn reserve(&mut self) -> Result<(), Refusal>
+        ensures text { self.new.text ≡ self.old.text }
+        ensures failures { self.new.failures ≡ self.old.failures }
+        ensures refused { IfErr result (λ r. r.fault ≡ Unwritable → IsShutFor N.plan r.role) }
+    {
+        self.reserve_out()?;
+        self.reserve_save()
+    }
 }
 
-impl<F: NamedFiles, N: Named> fab_text::Sink for OutFile<'_, F, N> {
+impl<F: NamedFiles, N: Planned> fab_text::Sink for OutFile<'_, F, N> {
     ghost contents = { λ file. Some file.text.items };
 
     ghost failed = { λ file. file.failures };
@@ -78,13 +147,10 @@ impl<F: NamedFiles, N: Named> fab_text::Sink for OutFile<'_, F, N> {
     }
 
     fn is_ready(&mut self) -> bool {
-        match self.files.reserve(self.alloc, self.name) {
-            Ok(outlet) => {
-                self.outlet = Some(outlet);
-                true
-            }
-            Err(fault) => {
-                self.fault = Some(fault);
+        match self.reserve() {
+            Ok(()) => true,
+            Err(refusal) => {
+                self.refusal = Some(refusal);
                 self.failures = self.failures.saturating_add(1);
                 false
             }

@@ -1,9 +1,7 @@
 //! The names of the files that a run may leave.
 
 ghost use Rattle.std.specs.Prelude.{◌≡◌};
-ghost use Rattle.vplace.specs.Leaving.{tried_name};
-
-use crate::messages::OutRole;
+ghost use Rattle.vplace.specs.Leaving.{point_name};
 
 /// The names of the files that a run may leave.
 #[derive(Clone, Copy, Debug)]
@@ -15,21 +13,13 @@ pub struct OutNames<'a> {
 }
 
 impl<'a> OutNames<'a> {
-    /// The name that is tried before the first move: the save name if a stop is requested, else the out name.
-    pub fn tried(&self) -> &'a [u8]
-        ensures { result.now ≡ tried_name self.now }
+    /// The name of a checkpoint: the save name. There is one wherever a run stops.
+    pub fn of_point(&self) -> &'a [u8]
+        ensures { result.now ≡ point_name self.now }
     {
         match self.save {
             Some(save) => save,
             None => self.out,
-        }
-    }
-
-    /// What the file at that name is.
-    pub fn tried_role(&self) -> OutRole {
-        match self.save {
-            Some(_) => OutRole::Point,
-            None => OutRole::Place,
         }
     }
 }

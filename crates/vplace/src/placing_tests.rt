@@ -65,6 +65,39 @@ fn a_disk_that_is_full_by_then_is_told_at_the_end(rt: HostRuntime) -> Result<(),
     Ok(())
 }
 
+#[test]
+fn each_fault_of_the_inputs_is_told_by_its_line(rt: HostRuntime) -> Result<(), Fail> {
+    let rows: [(usize, &[u8], &[u8]); 4] = [
+        (2, b"t.net", b"1\nvplace: arch: A1 NoIoRat\n"),
+        (4, b"u.net", b"1\nvplace: net: N8 NoDriver name n2\n"),
+        (6, b"t.arch", b"1\nvplace: pads: P10 BadLine line 1\n"),
+        (16, b"0", b"2\nvplace: schedule: S4 MovesOutOfRange\n"),
+    ];
+    for (place, word, told) in rows {
+        let mut words = WORDS;
+        words[place] = word;
+        let left = run(&rt, words.as_slice())?;
+        assert_eq!(rt; left.as_slice(), told);
+    }
+    Ok(())
+}
+
+#[test]
+fn each_file_that_is_not_there_is_told_by_its_role(rt: HostRuntime) -> Result<(), Fail> {
+    let rows: [(usize, &[u8]); 3] = [
+        (2, b"4\nvplace: cannot read arch\n"),
+        (4, b"4\nvplace: cannot read net\n"),
+        (6, b"4\nvplace: cannot read pads\n"),
+    ];
+    for (place, told) in rows {
+        let mut words = WORDS;
+        words[place] = b"no";
+        let left = run(&rt, words.as_slice())?;
+        assert_eq!(rt; left.as_slice(), told);
+    }
+    Ok(())
+}
+
 // More bytes than a pipe or a page cache takes at once.
 #[test]
 fn a_long_text_is_written_whole(rt: HostRuntime) -> Result<(), Fail> {

@@ -98,6 +98,97 @@ fn a_save_name_that_cannot_be_written_is_told_before_the_first_move(
 }
 
 #[test]
+fn a_name_that_the_run_does_not_need_is_not_tried(rt: HostRuntime) -> Result<(), Fail> {
+    let alloc = rt.alloc();
+    // All fifteen moves are made, or more than there are.
+    for moves in [b"15".as_slice(), b"18446744073709551615"] {
+        let stop: [&[u8]; 4] = [b"--stop", moves, b"--save", b"missing/t.point"];
+        let words = with(alloc, WORDS.as_slice(), stop.as_slice())?;
+        let wanted = [b"0\n".as_slice(), REPORT, PLACE].concat(alloc)?;
+        assert_eq!(rt; run(&rt, words.as_slice())?, wanted);
+    }
+    // The stop lies before the checkpoint.
+    let stop: [&[u8]; 4] = [b"--stop", b"4", b"--save", b"missing/t.point"];
+    let wanted = [b"0\n".as_slice(), REST, PLACE, POINT].concat(alloc)?;
+    assert_eq!(rt; resume(&rt, stop.as_slice())?, wanted);
+    // The run stops after five moves.
+    let mut begun = WORDS;
+    begun[8] = b"missing/t.place";
+    let stop: [&[u8]; 4] = [b"--stop", b"5", b"--save", b"t.point"];
+    let words = with(alloc, begun.as_slice(), stop.as_slice())?;
+    let wanted = [b"0\n".as_slice(), FIRST, POINT].concat(alloc)?;
+    assert_eq!(rt; run(&rt, words.as_slice())?, wanted);
+    Ok(())
+}
+
+#[test]
+fn an_out_name_that_the_run_needs_is_tried_before_the_first_move(
+    rt: HostRuntime,
+) -> Result<(), Fail> {
+    let alloc = rt.alloc();
+    let mut begun = WORDS;
+    begun[8] = b"missing/t.place";
+    let stop: [&[u8]; 4] = [b"--stop", b"15", b"--save", b"t.point"];
+    let words = with(alloc, begun.as_slice(), stop.as_slice())?;
+    let wanted = [b"4\n".as_slice(), HEAD, b"vplace: cannot write place\n"].concat(alloc)?;
+    assert_eq!(rt; run(&rt, words.as_slice())?, wanted);
+    Ok(())
+}
+
+#[test]
+fn both_names_are_tried_where_acceptance_cools(rt: HostRuntime) -> Result<(), Fail> {
+    let alloc = rt.alloc();
+    let rows: [(&[u8], &[u8], &[u8], &[u8]); 4] = [
+        (
+            b"missing/t.place",
+            b"t.point",
+            b"4\n",
+            b"vplace: cannot write place\n",
+        ),
+        (
+            b"t.place",
+            b"missing/t.point",
+            b"4\n",
+            b"vplace: cannot write point\n",
+        ),
+        (b"none", b"missing/t.point", b"3\n", b"vplace: no memory\n"),
+        (b"t.place", b"none", b"3\n", b"vplace: no memory\n"),
+    ];
+    for (out, save, status, told) in rows {
+        let mut begun = WORDS;
+        begun[8] = out;
+        begun[14] = b"adaptive";
+        let stop: [&[u8]; 4] = [b"--stop", b"5", b"--save", save];
+        let words = with(alloc, begun.as_slice(), stop.as_slice())?;
+        let wanted = [status, HEAD, told].concat(alloc)?;
+        assert_eq!(rt; run(&rt, words.as_slice())?, wanted);
+    }
+    Ok(())
+}
+
+#[test]
+fn each_file_of_a_resumed_run_is_told_by_its_role(rt: HostRuntime) -> Result<(), Fail> {
+    let rows: [(usize, &[u8], &[u8]); 6] = [
+        (2, b"no", b"4\nvplace: cannot read arch\n"),
+        (4, b"no", b"4\nvplace: cannot read net\n"),
+        (6, b"no", b"4\nvplace: cannot read point\n"),
+        (2, b"t.net", b"1\nvplace: arch: A1 NoIoRat\n"),
+        (4, b"u.net", b"1\nvplace: net: N8 NoDriver name n2\n"),
+        (6, b"t.net", b"1\nvplace: point: C1 BadVersion\n"),
+    ];
+    for (place, word, told) in rows {
+        let mut words = RESUME;
+        words[place] = word;
+        let point = Vec::from_slice(rt.alloc(), POINT)?;
+        let desk = Desk::new(rt.alloc(), Some(point));
+        let left = run_on(&rt, desk, words.as_slice(), 100_000)?;
+        let wanted = [told, POINT].concat(rt.alloc())?;
+        assert_eq!(rt; left, wanted);
+    }
+    Ok(())
+}
+
+#[test]
 fn a_checkpoint_that_cannot_be_read_is_told(rt: HostRuntime) -> Result<(), Fail> {
     let left = run(&rt, RESUME.as_slice())?;
     assert_eq!(rt;

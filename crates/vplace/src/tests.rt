@@ -39,6 +39,8 @@ impl Shelf {
 impl NamedFiles for Shelf {
     ghost held = { λ shelf. None };
 
+    ghost shut = { λ shelf. None };
+
     type Outlet = ();
 
     ghost name_of = { λ outlet. [] };

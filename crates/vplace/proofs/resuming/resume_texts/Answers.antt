@@ -1,35 +1,23 @@
-use Rattle.std.proofs.Common.{ℕ, List, Option, Some, option_map, subst, Vec, Global}
-use Rattle.std.specs.Prelude.{IfOk}
-use Rattle.fab_run.specs.Ends.{Answer}
-use Rattle.fab_run.specs.Going.{Going, HasPoint, IsGoingFault}
-use Rattle.fab_run.specs.Placed.{AskToGoOn, IsPlaced}
+use Rattle.std.proofs.Common.{◌≡◌, inl}
+use Rattle.std.specs.Prelude.{option_copied}
+use Rattle.fab_text.specs.Failures.{grown}
+use Rattle.fab_commit.specs.Run.Points.{done_at}
+use Rattle.fab_run.specs.Going.{Going, IsGoing}
 use Rattle.fab_run.specs.Setting.{texts_of}
-use Rattle.vplace.specs.Leaving.{AreLeft, IsCheckpoint}
-use Rattle.vplace.proofs.Ends.{device_told, never_refused_told, refused_told}
-use Rattle.vplace.proofs.Stopping.{left_is}
+use Rattle.vplace.specs.Forecasts.{IsForecast, forecast_in}
+use Rattle.vplace.specs.Said.{IsSaid, report_line}
+use Rattle.vplace.proofs.Telling.{memory_told_as, tried_told}
 use Rattle.vplace.proofs.resuming.resume_texts.Goals as goal
 
-pub returns-clause-placed : goal.returns-clause-placed
-returns-clause-placed g c =
+pub returns-in-Ok-clause-device : goal.returns-in-Ok-clause-device
+returns-in-Ok-clause-device g c =
     let t = texts_of c.args.inputs.now in
     let r = c.args.restart.now in
-    let old = g.O.Sink.contents c.args.out.now in
-    let new = g.O.Sink.contents c.run_on-told.new.out in
-    let text = c.run_on-told.new.place.text.items in
-    let placed = subst (λ (was : List ℕ). IfOk c.run_on-told.result (λ (point : Option (Vec ℕ Global)). (s : Going) × HasPoint t r.point.now s × ((a : Answer) × IsPlaced (AskToGoOn t r.point.now r.batch r.workers r.stop) t a old new (Some was) (Some text) × IsCheckpoint t s.seed a.ending (option_map (λ (v : Vec ℕ Global). v.items) point)))) c.new-place.ensures.text c.run_on-told.ensures.placed in
-    left_is c.left_by.result c.run_on-told.result
-    (λ (point : Option (Vec ℕ Global)) (place : List ℕ). (s : Going) × HasPoint t r.point.now s × AreLeft (AskToGoOn t r.point.now r.batch r.workers r.stop) t s.seed old new place (option_map (λ (v : Vec ℕ Global). v.items) point))
-    (λ left. left.point) (λ left. left.place.items) text placed c.left_by.ensures.point c.left_by.ensures.place
+    tried_told (IsGoing t r.point.now r.batch r.workers) (λ (s : Going) f. IsForecast s.point.schedule (done_at s.point) r.stop f)
+    ((g.O.Sink.failed c.resume_kept.new.out ≡ grown (g.O.Sink.failed c.args.out.now)) × IsSaid report_line (g.E.Sink.contents c.args.err.now) (g.E.Sink.contents c.resume_kept.new.err) (g.E.Sink.failed c.args.err.now) (g.E.Sink.failed c.resume_kept.new.err))
+    (forecast_in c.in-Ok.kept) c.args.names.now.out.now (option_copied c.args.names.now.save) (g.F.NamedFiles.shut c.args.files.now) (λ line. IsSaid line (g.E.Sink.contents c.args.err.now) (g.E.Sink.contents c.resume_kept.new.err) (g.E.Sink.failed c.args.err.now) (g.E.Sink.failed c.resume_kept.new.err))
+    c.resume_kept.result (λ s k. (c.in-Ok.ensures.kept s k.text).0) c.resume_kept.ensures.device
 
-pub returns-clause-refused : goal.returns-clause-refused
-returns-clause-refused g c =
-    let r = c.args.restart.now in
-    refused_told (IsGoingFault (texts_of c.args.inputs.now) r.point.now r.batch r.workers) c.run_on-told.result c.left_by.result c.run_on-told.ensures.fault c.left_by.ensures.fault
-
-pub returns-clause-only : goal.returns-clause-only
-returns-clause-only g c s going = never_refused_told c.run_on-told.result c.left_by.result (c.run_on-told.ensures.only s going) c.left_by.ensures.fault
-
-pub returns-clause-device : goal.returns-clause-device
-returns-clause-device g c =
-    let r = c.args.restart.now in
-    device_told (texts_of c.args.inputs.now) r.point.now r.batch r.workers _ _ c.run_on-told.result c.left_by.result c.run_on-told.ensures.fault c.run_on-told.ensures.failed c.left_by.ensures.fault
+pub returns-in-Err-clause-only : goal.returns-in-Err-clause-only
+returns-in-Err-clause-only g c s going =
+    inl (memory_told_as c.run_fault.result c.in-Err.fault (c.in-Err.ensures.only s going.text) c.run_fault.ensures.status)

@@ -1,0 +1,24 @@
+use Rattle.std.proofs.Common.{◌∙◌, rules, subst}
+use Rattle.fab_run.specs.Check.{AreChecked, FaultOf}
+use Rattle.fab_run.specs.FaultLines.{fault_line}
+use Rattle.vplace.specs.Placing.{AreGiven}
+use Rattle.vplace.specs.Said.{IsSaid, IsToldRefusal}
+use Rattle.vplace.proofs.Heard.{line_since}
+use Rattle.vplace.proofs.Once.{texts_once_to_check}
+use Rattle.vplace.proofs.checking.check_files.Goals as goal
+
+pub returns-clause-refused : goal.returns-clause-refused
+returns-clause-refused g c h =
+    let quiet = c.in-Ok-read_role.ensures.read ∙ c.in-Ok.ensures.read in
+    let still = c.in-Ok-read_role.ensures.still ∙ c.in-Ok.ensures.still in
+    let r = c.check_texts.ensures.refused h in
+    let told : IsToldRefusal (FaultOf c.as_slice-4.result.now c.as_slice-5.result.now c.as_slice-6.result.now) c.as_slice-5.result.now c.check_texts.result (λ line. IsSaid line (g.E.Sink.contents c.args.err.now) (g.E.Sink.contents c.check_texts.new.err) (g.E.Sink.failed c.args.err.now) (g.E.Sink.failed c.check_texts.new.err)) =
+    (r.0, r.1, r.2, line_since _ _ _ _ _ _ (fault_line r.0 c.as_slice-5.result.now) quiet still r.3) in
+    (_, _, _, search (rules, c.in-Ok.ensures.arch, c.in-Ok.ensures.net, c.in-Ok-read_role.ensures.gives), told)
+
+pub returns-clause-only : goal.returns-clause-only
+returns-clause-only g c h arch net place d grid sites is given checked =
+    let found : AreGiven (g.F.NamedFiles.held c.args.files.now) c.args.names.now c.in-Ok.texts.0.items c.in-Ok.texts.1.items c.in-Ok-read_role.text.items = search (rules, c.in-Ok.ensures.arch, c.in-Ok.ensures.net, c.in-Ok-read_role.ensures.gives) in
+    let same = texts_once_to_check h c.args.names.now arch net place c.in-Ok.texts.0.items c.in-Ok.texts.1.items c.in-Ok-read_role.text.items given (subst (λ x. AreGiven x c.args.names.now c.in-Ok.texts.0.items c.in-Ok.texts.1.items c.in-Ok-read_role.text.items) is found) in
+    let here : AreChecked c.in-Ok.texts.0.items c.in-Ok.texts.1.items c.in-Ok-read_role.text.items d grid sites = rw (← same.0, ← same.1, ← same.2) checked in
+    c.check_texts.ensures.only d grid sites (search (rules, here))
