@@ -2,3 +2,4 @@ pub mod Ends
 pub mod Heard
 pub mod Stopping
 pub mod Chains
+pub mod Subcommands
