@@ -72,7 +72,6 @@ fn run<R: AllocGlobal + Threads + Wait + Sync, F: NamedFiles, O: Sink, E: Sink>(
     ensures quiet { result ≡ Status.Done → E.contents err.new ≡ E.contents err.old }
     ensures said { result ≢ Status.Done → IsFaultSaid (E.contents err.old) (E.contents err.new) (E.failed err.old) (E.failed err.new) }
     ensures example { words.now ≡ [] → result ≡ Status.Done → IsExample ARCH.now NET.now PLACE.now (O.contents out.old) (O.contents out.new) }
-    ensures done { result ≡ Status.Done → IsTold (O.contents out.old) (O.contents out.new) ⊎ (IsExample ARCH.now NET.now PLACE.now (O.contents out.old) (O.contents out.new) ⊎ (IsChecked (F.held files.old) (O.contents out.old) (O.contents out.new) ⊎ (IsPlaced (F.held files.old) (F.held files.new) (O.contents out.old) (O.contents out.new) ⊎ IsResumed (F.held files.old) (F.held files.new) (O.contents out.old) (O.contents out.new)))) }
     ensures decided { result ≡ Status.Done → IsAsAsked ARCH.now NET.now PLACE.now (map (λ word. word.items) words.now) (F.held files.old) (F.held files.new) (O.contents out.old) (O.contents out.new) }
     ensures wrong { words.now ≢ [] → faults (map (λ word. word.items) words.now) ≢ [] → (result ≡ Status.CommandLine) ⊎ ((result ≡ Status.NoMemory) ⊎ AskForHelp (map (λ word. word.items) words.now)) }
     ensures kept { result ≢ Status.Done → F.held files.new ≡ F.held files.old }
