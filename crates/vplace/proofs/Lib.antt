@@ -3,3 +3,4 @@ pub mod Heard
 pub mod Stopping
 pub mod Chains
 pub mod Subcommands
+pub mod WordsBack

@@ -8,5 +8,6 @@ pub mod Said
 pub mod CommandLine
 pub mod Given
 pub mod Asking
+pub mod CommandLineExamples
 pub mod Done
 pub mod FileChains

@@ -4,8 +4,8 @@
 //! replaced by a letter from the end of Unicode's private range. A word that is UTF-8 is shown as it is, unless it contains such a letter
 //! itself.
 
-ghost use Rattle.std.specs.Prelude.{◌≡◌, ◌++◌, IfOk, OnOk, map};
-ghost use Rattle.std.specs.List.{list_any};
+ghost use Rattle.std.specs.Prelude.{ℕ, ◌≡◌, ◌<◌, ◌++◌, IfOk, List, OnOk, map};
+ghost use Rattle.std.specs.List.{All, list_any};
 ghost use Rattle.std.specs.Str.{chars, encode_utf8_all};
 ghost use Rattle.std.specs.String.{string_bytes};
 ghost use Rattle.vplace.specs.CommandLine.{bytes_of, is_stand_in, letter_of, shown, word_of};
@@ -85,6 +85,11 @@ pub fn as_bytes(alloc: Global, text: &str) -> Result<Vec<u8>, AllocError>
     }
     Ok(bytes)
 }
+
+/// The law that the word comes back from the text that shows it, whatever its bytes are.
+pub fn words_come_back()
+    ensures { (word : List ℕ) → All (λ byte. byte < 256) word → word_of (shown word) ≡ word }
+{}
 
 // The word at a place. The buffer starts at 256 bytes and doubles until the word fits.
 fn word_at<R: Env + AllocGlobal>(rt: &R, place: usize) -> Result<Option<Vec<u8>>, AllocError> {

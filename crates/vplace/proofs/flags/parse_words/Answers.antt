@@ -1,6 +1,5 @@
 use Rattle.std.proofs.Common.{rules, ◌≡◌, ◌∙◌, ap₂, ap, true, refl, sym, subst, map, List, ℕ, []}
 use Rattle.std.specs.String.{string_bytes}
-use Rattle.clap.specs.Walk.{Text}
 use Rattle.clap.specs.Words.{HasKind, fault_of, is_simple, is_simple_and_free, subcommand_of, subcommand_rows_of}
 use Rattle.clap.proofs.OnLiterals.{clap_on_literals}
 use Rattle.vplace.specs.declared.flags.Asked.{Asked}
