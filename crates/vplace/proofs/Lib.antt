@@ -4,3 +4,5 @@ pub mod Stopping
 pub mod Chains
 mod Once
 mod Telling
+pub mod Subcommands
+pub mod WordsBack

@@ -6,6 +6,9 @@ pub mod Leaving
 pub mod Placing
 pub mod Resuming
 pub mod Said
+pub mod CommandLine
 pub mod Given
+pub mod Asking
+pub mod CommandLineExamples
 pub mod Done
 pub mod FileChains

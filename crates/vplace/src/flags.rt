@@ -1,6 +1,11 @@
 //! The command line: its subcommands and options, and what the words ask for.
 
-ghost use Rattle.std.specs.Prelude.{◌≡◌, [], Ok};
+ghost use Rattle.std.specs.Prelude.{◌≡◌, [], IfErr, IfOk, Ok, codes, false, map};
+ghost use Rattle.std.specs.String.{string_bytes};
+ghost use Rattle.clap.specs.Words.{HasKind, app_of, found_of, rows_of, shape_of, subcommand_rows_of};
+ghost use Rattle.vplace.specs.Asking.{Asks, IsAskedBy, IsOneOfThree, faults};
+ghost use Rattle.vplace.specs.CommandLine.{check_options, command, shown_after_name, vplace};
+ghost use Rattle.vplace.specs.Given.{AreGivenToCheck};
 ghost use Rattle.vplace.specs.declared.flags.Asked.TheVariants.{Example};
 
 use crate::asked::{PlaceWords, ResumeWords};
@@ -64,14 +69,18 @@ const CHECK_OPTIONS: [OptionRow; 3] = [
     ),
 ];
 
-fn check_command<'a>(alloc: Global) -> Result<Command<'a>, AllocError> {
+fn check_command<'a>(alloc: Global) -> Result<Command<'a>, AllocError>
+    ensures shape { IfOk result (λ made. shape_of made ≡ command (codes "check") check_options) }
+{
     let command = Command::new(alloc, "check")
         .about(CHECK_ABOUT)
         .after_help(CHECK_AFTER);
     with_options(alloc, command, CHECK_OPTIONS.as_slice())
 }
 
-fn vplace_command<'a>(alloc: Global) -> Result<Command<'a>, AllocError> {
+fn vplace_command<'a>(alloc: Global) -> Result<Command<'a>, AllocError>
+    ensures app { IfOk result (λ made. app_of made ≡ vplace) }
+{
     Command::new(alloc, NAME)
         .version(VERSION)
         // Words without a command are wrong; no words at all are not.
@@ -84,7 +93,9 @@ fn vplace_command<'a>(alloc: Global) -> Result<Command<'a>, AllocError> {
         .subcommand(check_command(alloc)?)
 }
 
-fn check_names(alloc: Global, matches: &ArgMatches<'_>) -> Result<CheckNames, AllocError> {
+fn check_names(alloc: Global, matches: &ArgMatches<'_>) -> Result<CheckNames, AllocError>
+    ensures { IfOk result (AreGivenToCheck (rows_of (found_of matches.now))) }
+{
     let arch = file_name(alloc, matches, "arch")?;
     let net = file_name(alloc, matches, "net")?;
     let place = file_name(alloc, matches, "place")?;
@@ -92,7 +103,9 @@ fn check_names(alloc: Global, matches: &ArgMatches<'_>) -> Result<CheckNames, Al
 }
 
 // The words as the parser takes them, after the program's name.
-fn shown_words(alloc: Global, words: &[Vec<u8>]) -> Result<Vec<String>, AllocError> {
+fn shown_words(alloc: Global, words: &[Vec<u8>]) -> Result<Vec<String>, AllocError>
+    ensures { IfOk result (λ texts. map string_bytes texts.items ≡ shown_after_name (map (λ word. word.items) words.now)) }
+{
     let mut texts = Vec::new(alloc);
     texts.push(String::from_str(alloc, NAME)?)?;
     for word in words {
@@ -101,7 +114,10 @@ fn shown_words(alloc: Global, words: &[Vec<u8>]) -> Result<Vec<String>, AllocErr
     Ok(texts)
 }
 
-fn asked_for(alloc: Global, matches: &ArgMatches<'_>) -> Result<Asked, AllocError> {
+fn asked_for(alloc: Global, matches: &ArgMatches<'_>) -> Result<Asked, AllocError>
+    requires { IsOneOfThree (subcommand_rows_of matches.now) }
+    ensures { IfOk result (IsAskedBy (subcommand_rows_of matches.now)) }
+{
     if let Some(place) = matches.subcommand_matches("place") {
         return Ok(Asked::Place(place_words(alloc, place)?));
     }
@@ -110,14 +126,15 @@ fn asked_for(alloc: Global, matches: &ArgMatches<'_>) -> Result<Asked, AllocErro
     }
     match matches.subcommand_matches("check") {
         Some(check) => Ok(Asked::Check(check_names(alloc, check)?)),
-        // This does not happen: the parser requires a command.
-        None => Ok(Asked::Example),
+        None => unreachable!("the parser takes no words without one of these"),
     }
 }
 
 /// What the words ask for; else what to say about them. No words ask for the check of the built-in example.
 pub fn parse_words(alloc: Global, words: &[Vec<u8>]) -> Result<Asked, Error>
     ensures example { words.now ≡ [] → result ≡ Ok Example }
+    ensures asked { IfOk result (Asks (map (λ word. word.items) words.now)) }
+    ensures wrong { IfErr result (HasKind (faults (map (λ word. word.items) words.now))) }
 {
     if words.is_empty() {
         return Ok(Asked::Example);

@@ -1,8 +1,9 @@
 //! The options of a subcommand: what each takes, and what it was given.
 
-ghost use Rattle.std.specs.Prelude.{◌≡◌, IfOk};
-ghost use Rattle.clap.specs.Words.{found_of};
-ghost use Rattle.vplace.specs.Given.{GivesDefault, GivesNumber, GivesText};
+ghost use Rattle.std.specs.Prelude.{◌≡◌, IfOk, false, map, option_map};
+ghost use Rattle.clap.specs.Words.{app_of, first_of, found_of, rows_of, rule_of};
+ghost use Rattle.vplace.specs.CommandLine.{option, rule_for, with_rules};
+ghost use Rattle.vplace.specs.Given.{GivesDefault, GivesName, GivesNumber, GivesOptionalName, GivesText};
 
 use crate::words::as_bytes;
 use clap::{Arg, ArgAction, ArgMatches, Command, value_parser};
@@ -76,7 +77,10 @@ fn option_with_value<'a>(
     name: &'a str,
     value_name: &'a str,
     help: &'a str,
-) -> Arg<'a> {
+) -> Arg<'a>
+    ensures rule { rule_of result ≡ option name.entry.now }
+    ensures local { result.global ≡ false }
+{
     Arg::new(alloc, name)
         .long(name)
         .value_name(value_name)
@@ -84,7 +88,10 @@ fn option_with_value<'a>(
         .help(help)
 }
 
-fn option_of<'a>(alloc: Global, name: &'a str, takes: Takes, help: &'a str) -> Arg<'a> {
+fn option_of<'a>(alloc: Global, name: &'a str, takes: Takes, help: &'a str) -> Arg<'a>
+    ensures rule { rule_of result ≡ rule_for name.entry.now takes }
+    ensures local { result.global ≡ false }
+{
     match takes {
         Takes::NeededFile => option_with_value(alloc, name, "FILE", help).required(true),
         Takes::File => option_with_value(alloc, name, "FILE", help),
@@ -108,11 +115,20 @@ pub fn with_options<'a>(
     alloc: Global,
     mut command: Command<'a>,
     options: &[OptionRow],
-) -> Result<Command<'a>, AllocError> {
+) -> Result<Command<'a>, AllocError>
+    ensures options { IfOk result (λ made. app_of made ≡ with_rules (app_of command.entry) (map (λ row. rule_for row.0.now row.1) options.now)) }
+{
     for (name, takes, help) in options {
         command = command.arg(option_of(alloc, name, *takes, help))?;
     }
     Ok(command)
+}
+
+// The text that an option was given, if it was.
+fn given<'a>(matches: &ArgMatches<'a>, option: &str) -> Option<&'a str>
+    ensures { option_map (λ text. text.now) result ≡ first_of option.now (rows_of (found_of matches.now)) }
+{
+    matches.get_str(option)
 }
 
 /// The file name that an option was given; empty if it was not given.
@@ -120,8 +136,10 @@ pub fn file_name(
     alloc: Global,
     matches: &ArgMatches<'_>,
     option: &str,
-) -> Result<Vec<u8>, AllocError> {
-    as_bytes(alloc, matches.get_str(option).unwrap_or(""))
+) -> Result<Vec<u8>, AllocError>
+    ensures { IfOk result (λ name. GivesName (rows_of (found_of matches.now)) option.now name.items) }
+{
+    as_bytes(alloc, given(matches, option).unwrap_or(""))
 }
 
 /// The file name that an option was given, if it was.
@@ -129,37 +147,39 @@ pub fn optional_name(
     alloc: Global,
     matches: &ArgMatches<'_>,
     option: &str,
-) -> Result<Option<Vec<u8>>, AllocError> {
-    if matches.get_str(option).is_none() {
-        return Ok(None);
+) -> Result<Option<Vec<u8>>, AllocError>
+    ensures { IfOk result (λ name. GivesOptionalName (rows_of (found_of matches.now)) option.now (option_map (λ bytes. bytes.items) name)) }
+{
+    match given(matches, option) {
+        Some(text) => Ok(Some(as_bytes(alloc, text)?)),
+        None => Ok(None),
     }
-    Ok(Some(file_name(alloc, matches, option)?))
 }
 
 /// The whole number that an option was given, if it was.
 pub fn whole(matches: &ArgMatches<'_>, option: &str) -> Option<u64>
-    ensures { GivesNumber 64 (found_of matches.now) option.now result }
+    ensures { GivesNumber 64 (rows_of (found_of matches.now)) option.now result }
 {
     matches.get_one::<u64>(option)
 }
 
 /// The number of columns or rows that an option was given, if it was.
 pub fn side(matches: &ArgMatches<'_>, option: &str) -> Option<u16>
-    ensures { GivesNumber 16 (found_of matches.now) option.now result }
+    ensures { GivesNumber 16 (rows_of (found_of matches.now)) option.now result }
 {
     matches.get_one::<u16>(option)
 }
 
 /// The number of an option that has a default.
 pub fn number(matches: &ArgMatches<'_>, option: &str) -> u64
-    ensures { GivesDefault (found_of matches.now) option.now result }
+    ensures { GivesDefault (rows_of (found_of matches.now)) option.now result }
 {
     whole(matches, option).unwrap_or(0)
 }
 
 /// The text of an option that has a default.
 pub fn text(alloc: Global, matches: &ArgMatches<'_>, option: &str) -> Result<Vec<u8>, AllocError>
-    ensures { IfOk result (λ text. GivesText (found_of matches.now) option.now text.items) }
+    ensures { IfOk result (λ text. GivesText (rows_of (found_of matches.now)) option.now text.items) }
 {
-    Vec::from_slice(alloc, matches.get_str(option).unwrap_or("").as_bytes())
+    Vec::from_slice(alloc, given(matches, option).unwrap_or("").as_bytes())
 }

@@ -1,7 +1,8 @@
 //! The subcommand `place` on the command line: its options, and what they say.
 
-ghost use Rattle.std.specs.Prelude.{IfOk};
-ghost use Rattle.clap.specs.Words.{found_of};
+ghost use Rattle.std.specs.Prelude.{◌≡◌, IfOk, codes, false};
+ghost use Rattle.clap.specs.Words.{found_of, rows_of, shape_of};
+ghost use Rattle.vplace.specs.CommandLine.{command, place_options};
 ghost use Rattle.vplace.specs.Given.{AreGivenBy};
 
 use crate::asked::PlaceWords;
@@ -73,14 +74,16 @@ const OPTIONS: [OptionRow; 16] = [
 ];
 
 /// The subcommand.
-pub fn place_command<'a>(alloc: Global) -> Result<Command<'a>, AllocError> {
+pub fn place_command<'a>(alloc: Global) -> Result<Command<'a>, AllocError>
+    ensures shape { IfOk result (λ made. shape_of made ≡ command (codes "place") place_options) }
+{
     let command = Command::new(alloc, "place").about(ABOUT).after_help(AFTER);
     with_options(alloc, command, OPTIONS.as_slice())
 }
 
 /// What the options say.
 pub fn place_words(alloc: Global, matches: &ArgMatches<'_>) -> Result<PlaceWords, AllocError>
-    ensures { IfOk result (AreGivenBy (found_of matches.now)) }
+    ensures { IfOk result (AreGivenBy (rows_of (found_of matches.now))) }
 {
     Ok(PlaceWords {
         arch: file_name(alloc, matches, "arch")?,

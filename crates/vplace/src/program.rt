@@ -1,7 +1,9 @@
 //! The whole program over its words, its files and its two outputs, so that a test can run it in memory.
 
-ghost use Rattle.std.specs.Prelude.{◌≡◌, ◌≢◌, ◌⊎◌, []};
-ghost use Rattle.vplace.specs.Done.{IsChecked, IsExample, IsPlaced, IsResumed, IsTold};
+ghost use Rattle.std.specs.Prelude.{◌≡◌, ◌≢◌, ◌⊎◌, [], map};
+ghost use Rattle.clap.specs.Words.{kind_of};
+ghost use Rattle.vplace.specs.Asking.{AskForHelp, faults};
+ghost use Rattle.vplace.specs.Done.{IsAsAsked, IsChecked, IsExample, IsPlaced, IsResumed, IsTold};
 ghost use Rattle.vplace.specs.Said.{IsFaultSaid};
 ghost use Rattle.vplace.specs.Status.{IsRefused};
 
@@ -34,6 +36,8 @@ fn tell<O: Sink, E: Sink>(alloc: Global, error: &Error, out: &mut O, err: &mut E
     ensures quiet { result ≡ Status.Done → E.contents err.new ≡ E.contents err.old }
     ensures said { result ≢ Status.Done → IsFaultSaid (E.contents err.old) (E.contents err.new) (E.failed err.old) (E.failed err.new) }
     ensures told { result ≡ Status.Done → IsTold (O.contents out.old) (O.contents out.new) }
+    ensures help { result ≡ Status.Done → (kind_of error.now ≡ ErrorKind.DisplayHelp) ⊎ (kind_of error.now ≡ ErrorKind.DisplayVersion) }
+    ensures wrong { kind_of error.now ≢ ErrorKind.DisplayHelp → kind_of error.now ≢ ErrorKind.DisplayVersion → (result ≡ Status.CommandLine) ⊎ (result ≡ Status.NoMemory) }
 {
     if error.kind() == ErrorKind::OutOfMemory {
         return messages::no_memory(err);
@@ -68,7 +72,9 @@ fn run<R: AllocGlobal + Threads + Wait + Sync, F: NamedFiles, O: Sink, E: Sink>(
     ensures quiet { result ≡ Status.Done → E.contents err.new ≡ E.contents err.old }
     ensures said { result ≢ Status.Done → IsFaultSaid (E.contents err.old) (E.contents err.new) (E.failed err.old) (E.failed err.new) }
     ensures example { words.now ≡ [] → result ≡ Status.Done → IsExample ARCH.now NET.now PLACE.now (O.contents out.old) (O.contents out.new) }
-    ensures done { result ≡ Status.Done → IsTold (O.contents out.old) (O.contents out.new) ⊎ (IsExample ARCH.now NET.now PLACE.now (O.contents out.old) (O.contents out.new) ⊎ (IsChecked (F.held files.old) (O.contents out.old) (O.contents out.new) ⊎ (IsPlaced (F.held files.old) (F.held files.new) (O.contents out.old) (O.contents out.new) ⊎ IsResumed (F.held files.old) (F.held files.new) (O.contents out.old) (O.contents out.new)))) }
+    ensures decided { result ≡ Status.Done → IsAsAsked ARCH.now NET.now PLACE.now (map (λ word. word.items) words.now) (F.held files.old) (F.held files.new) (O.contents out.old) (O.contents out.new) }
+    ensures wrong { words.now ≢ [] → faults (map (λ word. word.items) words.now) ≢ [] → (result ≡ Status.CommandLine) ⊎ ((result ≡ Status.NoMemory) ⊎ AskForHelp (map (λ word. word.items) words.now)) }
+    ensures kept { result ≢ Status.Done → F.held files.new ≡ F.held files.old }
 {
     let alloc = rt.alloc();
     match parse_words(alloc, words) {
@@ -106,6 +112,16 @@ pub fn program<R: AllocGlobal + Threads + Wait + Sync, F: NamedFiles, O: Sink, E
     // named files; or the report of a run of named files, or of one that goes on from a named checkpoint, whose placement is then at the
     // out name, or, if it stopped, its checkpoint at the save name.
     ensures done { result ≡ 0 → IsTold (O.contents out.old) (O.contents out.new) ⊎ (IsExample ARCH.now NET.now PLACE.now (O.contents out.old) (O.contents out.new) ⊎ (IsChecked (F.held files.old) (O.contents out.old) (O.contents out.new) ⊎ (IsPlaced (F.held files.old) (F.held files.new) (O.contents out.old) (O.contents out.new) ⊎ IsResumed (F.held files.old) (F.held files.new) (O.contents out.old) (O.contents out.new)))) }
+
+    // And it was the words that asked for it: help or the version was told only if they ask for that, the built-in check was done only
+    // with no words, and the names and numbers of a check or a run are those that its own subcommand's options give.
+    ensures decided { result ≡ 0 → IsAsAsked ARCH.now NET.now PLACE.now (map (λ word. word.items) words.now) (F.held files.old) (F.held files.new) (O.contents out.old) (O.contents out.new) }
+
+    // Wrong words end with 2, unless memory runs out or they ask for help.
+    ensures wrong { words.now ≢ [] → faults (map (λ word. word.items) words.now) ≢ [] → (result ≡ 2) ⊎ ((result ≡ 3) ⊎ AskForHelp (map (λ word. word.items) words.now)) }
+
+    // If it is not 0, the files are as before.
+    ensures kept { result ≢ 0 → F.held files.new ≡ F.held files.old }
 {
     run(rt, words, files, out, err).code()
 }

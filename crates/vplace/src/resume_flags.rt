@@ -1,7 +1,8 @@
 //! The subcommand `resume` on the command line: its options, and what they say.
 
-ghost use Rattle.std.specs.Prelude.{IfOk};
-ghost use Rattle.clap.specs.Words.{found_of};
+ghost use Rattle.std.specs.Prelude.{◌≡◌, IfOk, codes, false};
+ghost use Rattle.clap.specs.Words.{found_of, rows_of, shape_of};
+ghost use Rattle.vplace.specs.CommandLine.{command, resume_options};
 ghost use Rattle.vplace.specs.Given.{AreGivenToResume};
 
 use crate::asked::ResumeWords;
@@ -44,14 +45,16 @@ const OPTIONS: [OptionRow; 8] = [
 ];
 
 /// The subcommand.
-pub fn resume_command<'a>(alloc: Global) -> Result<Command<'a>, AllocError> {
+pub fn resume_command<'a>(alloc: Global) -> Result<Command<'a>, AllocError>
+    ensures shape { IfOk result (λ made. shape_of made ≡ command (codes "resume") resume_options) }
+{
     let command = Command::new(alloc, "resume").about(ABOUT).after_help(AFTER);
     with_options(alloc, command, OPTIONS.as_slice())
 }
 
 /// What the options say.
 pub fn resume_words(alloc: Global, matches: &ArgMatches<'_>) -> Result<ResumeWords, AllocError>
-    ensures { IfOk result (AreGivenToResume (found_of matches.now)) }
+    ensures { IfOk result (AreGivenToResume (rows_of (found_of matches.now))) }
 {
     Ok(ResumeWords {
         arch: file_name(alloc, matches, "arch")?,

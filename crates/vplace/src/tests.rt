@@ -2,6 +2,7 @@
 
 ghost use Rattle.std.specs.Prelude.{None, []};
 
+use crate::desk::{Desk, PLACE, POINT, REPORT, WORDS};
 use crate::files::{NamedFiles, ReadFault, WriteFault};
 use crate::narrow::Narrow;
 use crate::program::program;
@@ -74,6 +75,76 @@ impl NamedFiles for Shelf {
     }
 
     fn release(&self, _outlet: ()) {}
+}
+
+// The files of the desk, each under its name with the byte 255 in front, so that no name is UTF-8; and what is written, after its name.
+#[derive(Drop)]
+struct OddNames {
+    desk: Desk,
+    written: Vec<u8>,
+}
+
+// The name without the byte in front; empty if it is not there.
+fn without_255(name: &[u8]) -> &[u8] {
+    match name.split_first() {
+        Some((255, rest)) => rest,
+        _ => b"",
+    }
+}
+
+impl NamedFiles for OddNames {
+    ghost held = { λ files. None };
+
+    // The name.
+    type Outlet = Vec<u8>;
+
+    ghost name_of = { λ name. name.items };
+
+    fn read(&self, alloc: Global, name: &[u8]) -> Result<Vec<u8>, ReadFault> {
+        self.desk.read(alloc, without_255(name))
+    }
+
+    fn reserve(&self, alloc: Global, name: &[u8]) -> Result<Vec<u8>, WriteFault> {
+        match Vec::from_slice(alloc, name) {
+            Ok(name) => Ok(name),
+            Err(_) => Err(WriteFault::NoMemory),
+        }
+    }
+
+    fn put(&mut self, name: Vec<u8>, bytes: &[u8]) -> Result<(), WriteFault> {
+        for part in [name.as_slice(), b"\n", bytes] {
+            if self.written.extend_from_slice(part).is_err() {
+                return Err(WriteFault::NoMemory);
+            }
+        }
+        Ok(())
+    }
+
+    fn release(&self, _name: Vec<u8>) {}
+}
+
+// What a run with such names left, in one text: its status, its two outputs, and what it wrote.
+fn run_with_odd_names(
+    rt: &(impl AllocGlobal + Threads + Wait + Sync),
+    words: &[&[u8]],
+) -> Result<Vec<u8>, AllocError> {
+    let alloc = rt.alloc();
+    let words = words_of(alloc, words)?;
+    let point = Vec::from_slice(alloc, POINT)?;
+    let mut files = OddNames {
+        desk: Desk::new(alloc, Some(point)),
+        written: Vec::new(alloc),
+    };
+    let mut out = Counted::new(Vec::new(alloc));
+    let mut err = Counted::new(Vec::new(alloc));
+    let status = program(rt, words.as_slice(), &mut files, &mut out, &mut err);
+    let mut left = Vec::new(alloc);
+    left.push(b'0'.saturating_add(status))?;
+    left.push(b'\n')?;
+    left.extend_from_slice(&out.into_inner())?;
+    left.extend_from_slice(&err.into_inner())?;
+    left.extend_from_slice(&files.written)?;
+    Ok(left)
 }
 
 // What a run of the program left: its status, its two outputs, and how many files it read.
@@ -204,7 +275,7 @@ fn a_wrong_command_line_is_told(rt: HostRuntime) -> Result<(), Fail> {
 
 #[test]
 fn help_goes_to_the_output(rt: HostRuntime) -> Result<(), Fail> {
-    let asked: [(&[&[u8]], &[u8]); 5] = [
+    let asked: [(&[&[u8]], &[u8]); 9] = [
         (&[b"--help"], b"\nUsage: vplace [COMMAND]\n"),
         (&[b"-h"], b"\nUsage: vplace [COMMAND]\n"),
         (&[b"help"], b"\nUsage: vplace [COMMAND]\n"),
@@ -215,6 +286,22 @@ fn help_goes_to_the_output(rt: HostRuntime) -> Result<(), Fail> {
         (
             &[b"check", b"--help"],
             b"\nUsage: vplace check --arch <FILE> --net <FILE> --place <FILE>\n",
+        ),
+        (
+            &[b"place", b"--help"],
+            b"\nUsage: vplace place [OPTIONS] --arch <FILE> --net <FILE> --out <FILE>\n",
+        ),
+        (
+            &[b"place", b"--help"],
+            b"The first temperature, in units of cost, 0.0001 to 107374.1824 [default: 100]\n",
+        ),
+        (
+            &[b"resume", b"--help"],
+            b"\nUsage: vplace resume [OPTIONS] --arch <FILE> --net <FILE> --point <FILE> --out <FILE>\n",
+        ),
+        (
+            &[b"resume", b"--help"],
+            b"The checkpoint that the run goes on from\n",
         ),
     ];
     for (words, usage) in asked {
@@ -345,5 +432,60 @@ fn a_word_is_shown_as_text_and_turned_back(rt: HostRuntime) -> Result<(), Fail> 
         assert_eq!(rt; bytes.as_slice(), word);
     }
     assert_eq!(rt; as_text(alloc, "é€𝄞".as_bytes())?.as_str(), "é€𝄞");
+    Ok(())
+}
+
+// The placement of the desk's design under the odd names.
+fn odd_place(alloc: Global) -> Result<Vec<u8>, AllocError> {
+    let header = b"Netlist file: \xfft.net   Architecture file: \xfft.arch\n".as_slice();
+    let rest = &PLACE[header.len() - 2..];
+    [header, rest].concat(alloc)
+}
+
+#[test]
+fn odd_names_of_a_run_go_each_to_its_option(rt: HostRuntime) -> Result<(), Fail> {
+    let mut words = WORDS;
+    words[2] = b"\xfft.arch";
+    words[4] = b"\xfft.net";
+    words[6] = b"\xfft.pads";
+    words[8] = b"\xffout";
+    let left = run_with_odd_names(&rt, words.as_slice())?;
+    let place = odd_place(rt.alloc())?;
+    let wanted = [b"0\n".as_slice(), REPORT, b"\xffout\n", &place].concat(rt.alloc())?;
+    assert_eq!(rt; left, wanted);
+    let mut stopped = Vec::from_slice(rt.alloc(), words.as_slice())?;
+    let stop: [&[u8]; 4] = [b"--stop", b"5", b"--save", b"\xffsave"];
+    stopped.extend_from_slice(stop.as_slice())?;
+    let left = run_with_odd_names(&rt, stopped.as_slice())?;
+    let saved = [b"\xffsave\n".as_slice(), POINT].concat(rt.alloc())?;
+    assert!(rt; left.starts_with(b"0\n"));
+    assert!(rt; left.ends_with(&saved));
+    Ok(())
+}
+
+#[test]
+fn odd_names_of_a_resumed_run_go_each_to_its_option(rt: HostRuntime) -> Result<(), Fail> {
+    let words: [&[u8]; 9] = [
+        b"resume",
+        b"--out",
+        b"\xffout",
+        b"--point",
+        b"\xfft.point",
+        b"--net",
+        b"\xfft.net",
+        b"--arch=\xfft.arch",
+        b"--batch=7",
+    ];
+    let left = run_with_odd_names(&rt, words.as_slice())?;
+    let place = odd_place(rt.alloc())?;
+    let written = [b"\xffout\n".as_slice(), &place].concat(rt.alloc())?;
+    assert!(rt; left.starts_with(b"0\nstage 1 "));
+    assert!(rt; left.ends_with(&written));
+    let mut stopped = Vec::from_slice(rt.alloc(), words.as_slice())?;
+    let stop: [&[u8]; 2] = [b"--save=\xffsave", b"--stop=5"];
+    stopped.extend_from_slice(stop.as_slice())?;
+    let left = run_with_odd_names(&rt, stopped.as_slice())?;
+    let wanted = [b"0\n\xffsave\n".as_slice(), POINT].concat(rt.alloc())?;
+    assert_eq!(rt; left, wanted);
     Ok(())
 }
