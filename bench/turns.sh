@@ -18,13 +18,14 @@ fi
 
 . "$here/scratch.sh"
 scratch_with bench_turns "fab_file fab_run fab_sched fab_text anyhow" <<'MAIN'
-//! Places two designs with four batches each, and prints how many moves were judged again.
+//! Places the designs that are named with four batches each, and prints how many moves were judged again.
 #![tactic(auto)]
 
 use fab_file::Labels;
-use fab_run::{Inputs, Moves, Options, place_run};
+use fab_run::{Inputs, Moves, Options, RunFault, place_run};
 use fab_sched::Cooling;
 use fab_text::Counted;
+use std::env;
 use std::fs;
 use std::rt::Files;
 use std::sync::Wait;
@@ -37,13 +38,13 @@ const LABELS: Labels<'static> = Labels {
     arch: b"arch",
 };
 
-// How many moves a run judges again, or nothing if it is refused.
+// How many moves a run judges again.
 fn redone<'x, R: AllocGlobal + Threads + Wait + Sync>(
     rt: &R,
     arch: &'x [u8],
     net: &'x [u8],
     batch: u64,
-) -> Option<u64> {
+) -> Result<u64, RunFault> {
     let inputs = Inputs {
         arch,
         net,
@@ -63,10 +64,8 @@ fn redone<'x, R: AllocGlobal + Threads + Wait + Sync>(
     };
     let mut report = Counted::new(Vec::new(rt.alloc()));
     let mut place = Counted::new(Vec::new(rt.alloc()));
-    match place_run(rt, &inputs, &options, &mut report, &mut place) {
-        Ok(outcome) => Some(outcome.redone),
-        Err(_) => None,
-    }
+    let outcome = place_run(rt, &inputs, &options, &mut report, &mut place)?;
+    Ok(outcome.redone)
 }
 
 fn told<R: AllocGlobal + Files + Threads + Wait + Sync>(
@@ -77,23 +76,29 @@ fn told<R: AllocGlobal + Files + Threads + Wait + Sync>(
     let arch = fs::read(rt, format!(in rt.alloc(); "{name}.arch")?.as_str())?;
     let net = fs::read(rt, format!(in rt.alloc(); "{name}.net")?.as_str())?;
     for batch in [64, 256, 1024, 4096] {
-        if let Some(again) = redone(rt, &arch, &net, batch) {
-            text.push_str(format!(in rt.alloc(); "redone {name} {batch} {again}\n")?.as_str())?;
-        }
+        let again = redone(rt, &arch, &net, batch)?;
+        text.push_str(format!(in rt.alloc(); "redone {name} {batch} {again}\n")?.as_str())?;
     }
     Ok(text)
 }
 
 fn main(rt: HostRuntime) -> anyhow::Result<()> {
-    print!(rt; "{}", told(&rt, "picorv32_cl4")?)?;
-    print!(rt; "{}", told(&rt, "duo_ble")?)?;
+    for name in env::args(&rt)?.skip(1) {
+        print!(rt; "{}", told(&rt, name.as_str())?)?;
+    }
     Ok(())
 }
 MAIN
-# The program is built by running it, though that run finds no files.
-(cd "$work/repo/crates/bench_turns" && rt run >> "$work/log" 2>&1) || true
+cd "$work/repo/crates/bench_turns"
+(
+    for design in "$@"; do
+        shift
+        set -- "$@" "$top/examples/$design"
+    done
+    exec rt run -- "$@"
+) 2>> "$work/log" > "$work/told" || { tail -n 40 "$work/log"; exit 1; }
+sed "s|$top/examples/||" "$work/told" > "$work/again"
 cd "$top/examples"
-"$work/repo/crates/bench_turns/out/bench_turns" > "$work/again"
 
 # One run: the design, workers, batch, the moves of a stage. Prints these, the microseconds, and the moves of all stages.
 timed() {

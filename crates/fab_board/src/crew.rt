@@ -249,6 +249,15 @@ impl<E: Task<T>, T: Drop, J: Naming> Shared<E, T, J> {
         }
     }
 
+    /// Sends the crew home: each worker ends once it has judged the numbers that it has claimed. Does not wait for them. If the owner's end
+    /// is kept, its owner judges alone from then on.
+    pub fn send_home(&self) {
+        self.stop.store(1, Ordering::SeqCst);
+        self.next.store(ALL_CLAIMED, Ordering::SeqCst);
+        self.turn.fetch_add(1, Ordering::SeqCst);
+        self.turn.wake_all();
+    }
+
     fn post<R: Wait>(&self, rt: &R, posted: Posted<E, J>) {
         let mut place = self.posted.write(rt);
         // The lock is held, so no worker is at a job, and none claims numbers of an older one.
@@ -538,10 +547,7 @@ impl<E: Task<T>, T: Drop, J: Naming> Drop for Lead<E, T, J> {
             job: _,
             posted: _,
         } = self;
-        shared.stop.store(1, Ordering::SeqCst);
-        shared.next.store(ALL_CLAIMED, Ordering::SeqCst);
-        shared.turn.fetch_add(1, Ordering::SeqCst);
-        shared.turn.wake_all();
+        shared.send_home();
     }
 }
 
@@ -568,8 +574,8 @@ pub fn new_crew<E: Task<T>, T: Drop, J: Naming>(
     Ok((crew, lead))
 }
 
-/// Runs the workers of a crew: one in this thread, and each other one in its own. Returns when the owner's end is dropped; at once if
-/// there are no workers. A worker that the system refuses to start leaves its numbers to the others.
+/// Runs the workers of a crew: one in this thread, and each other one in its own. Returns when the crew is sent home, as it is where the
+/// owner's end is dropped; at once if there are no workers. A worker that the system refuses to start leaves its numbers to the others.
 pub fn work_all<
     E: Task<T> + Send + Sync,
     T: Drop + Send,

@@ -13,4 +13,5 @@ pub mod TurnSteps
 pub mod TurnLaws
 pub mod RunBases
 pub mod RunLaws
+pub mod Proposing
 pub mod Reasons

@@ -2,7 +2,7 @@
 //! function that does nothing.
 
 ghost use Rattle.fab_commit.specs.Laws.EverySchedule.{EveryScheduleIsSerial};
-ghost use Rattle.fab_commit.specs.Laws.Moves.{AcceptedSwapsAreSerial, MovesCompose, PlacementsStayLegal, RedoneIsSerial, StampsTell, VerdictsAreOfTheirBase};
+ghost use Rattle.fab_commit.specs.Laws.Moves.{AcceptedSwapsAreSerial, MovesCompose, PlacementsStayLegal, PlacementsStayLegalByKinds, RedoneIsSerial, SeedsGiveWords, StampsTell, VerdictsAreOfTheirBase};
 ghost use Rattle.fab_commit.specs.Run.Points.{PointsAreToldAgain};
 ghost use Rattle.fab_commit.specs.Laws.Runs.{RedoneInRuns, WaysOfABeginning, WaysOfATurn, WaysOfRuns};
 ghost use Rattle.fab_commit.specs.Laws.Turns.{CutTurnsLeadOn, EveryBatchIsSerial, RedoneByStamps, TurnsAreReached, TurnsLeadOn, WaysOfTurns};
@@ -20,10 +20,13 @@ pub fn moves_compose()
     ensures { MovesCompose }
 {}
 
-/// Law: from a legal placement moves lead only to legal ones, if the words propose lawful swaps. Legal means that each block is on a
-/// site of its kind, no two blocks share a site, and each fixed block is at its site.
+/// Law: from a legal placement moves lead only to legal ones, by words below 2^32. The words of each seed are (`seeds`). Legal means that
+/// each block is on a site of its kind, no two blocks share a site, and each fixed block is at its site. The same holds for words of any
+/// size that propose sites of the block's kind (`kinds`).
 pub fn placements_stay_legal()
-    ensures { PlacementsStayLegal }
+    ensures legal { PlacementsStayLegal }
+    ensures seeds { SeedsGiveWords }
+    ensures kinds { PlacementsStayLegalByKinds }
 {}
 
 /// Law: after every list of events, each verdict is the judgement of its move on the placement of its base, which is a placement that

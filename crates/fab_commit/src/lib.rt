@@ -6,6 +6,8 @@
 mod board_tests;
 #[cfg(test)]
 mod crew_tests;
+#[cfg(test)]
+mod in_time;
 pub mod laws;
 pub mod model;
 #[cfg(test)]

@@ -6,3 +6,4 @@ pub mod Judgements
 pub mod Tested
 pub mod Chances
 pub mod Parts
+pub mod Streams

@@ -121,7 +121,7 @@ end_fits r s heat lawful sound =
 
 -- the swap of a move
 
-abbrev Goes : Site → Site → Swap → Type 0
+abbrev pub Goes : Site → Site → Swap → Type 0
 Goes from to s = (s.from ≡ from) × (s.to ≡ to)
 
 swap_or : Proposal → Swap → Swap
@@ -134,7 +134,7 @@ is_move Nothing = false
 is_move (Void b to) = false
 is_move (Move t) = true
 
-goes_to : (fixed : List (Option Site)) (sites : List Site) (b : BlockId) (from to : Site) (s : Swap) → propose_to fixed sites b from to ≡ Move s → Goes from to s
+pub goes_to : (fixed : List (Option Site)) (sites : List Site) (b : BlockId) (from to : Site) (s : Swap) → propose_to fixed sites b from to ≡ Move s → Goes from to s
 unfolding swap_or is_move
 goes_to fixed sites b from to s e = by_site (same_site from to) e
   where

@@ -16,11 +16,12 @@ use Rattle.fab_commit.specs.declared.model.judged.JudgedMove.{JudgedMove}
 use Rattle.fab_commit.specs.Serial.{Run, Standing, after_move, judged_here, or_zero, step}
 use Rattle.fab_commit.specs.Model.World.{world, run_through, verdict_for}
 use Rattle.fab_commit.specs.Model.History.{accepted_from}
-use Rattle.fab_commit.specs.Laws.Moves.{AcceptedSwapsAreSerial, MovesCompose, PlacementsStayLegal, ProposesKinds, RedoneIsSerial, StampsTell, VerdictsAreOfTheirBase}
+use Rattle.fab_commit.specs.Laws.Moves.{AcceptedSwapsAreSerial, MovesCompose, PlacementsStayLegal, PlacementsStayLegalByKinds, ProposesKinds, RedoneIsSerial, StampsTell, VerdictsAreOfTheirBase}
 use Rattle.fab_commit.proofs.RunLemmas.Kept.{legal_swapped, may_move}
 use Rattle.fab_commit.proofs.ModelLemmas.Happening.{proposed_lawful, run_inv}
 use Rattle.fab_commit.proofs.ModelLemmas.History.{Hist, IsOf, start_hist, run_hist, redone_is}
 use Rattle.fab_commit.proofs.ModelLemmas.Schedules.{Inv, start_inv, from-add}
+use Rattle.fab_commit.proofs.ModelLemmas.Proposing.{proposes_kinds}
 use Rattle.fab_commit.proofs.ModelLemmas.Stamps.{clash-stamps, stamp-push}
 
 pub moves_compose : MovesCompose
@@ -49,10 +50,12 @@ step_legal : (r : Run) (x : Standing) (b : Bool) → is_some x.heat ≡ b → Pr
 step_legal r x true e kinds legal = judged_legal r.problem x.sites x.done (or_zero x.heat) x.range kinds legal
 step_legal r x false e kinds legal = legal
 
+pub legal_by_kinds : PlacementsStayLegalByKinds
+legal_by_kinds r x zero kinds legal = legal
+legal_by_kinds r x (suc n) kinds legal = legal_by_kinds r (step r x) n kinds (step_legal r x (is_some x.heat) refl kinds legal)
+
 pub placements_stay_legal : PlacementsStayLegal
-placements_stay_legal r x zero kinds legal = legal
-placements_stay_legal r x (suc n) kinds legal =
-    placements_stay_legal r (step r x) n kinds (step_legal r x (is_some x.heat) refl kinds legal)
+placements_stay_legal r x n small = legal_by_kinds r x n (proposes_kinds r.problem small)
 
 history : (p : Run) (x : Standing) (events : List Event) → 0 < p.plan.moves → Hist p x (run_through p (world x) events)
 history p x events pos = run_hist p x (world x) events (start_inv p x pos) (start_hist p x)

@@ -1,6 +1,7 @@
 -- What a turn leaves, without a word of the turn before it.
-use Rattle.std.proofs.Common.{◌≡◌, ℕ, ◌+◌, ◌-◌, ◌<◌, ◌≤◌, min, List, [], ◌∷◌, ◌++◌, None, Bool, true, false, length, map, take, refl, sym, ap, ◌∙◌, arith, append-nil}
+use Rattle.std.proofs.Common.{◌≡◌, ℕ, ◌+◌, ◌-◌, ◌<◌, ◌≤◌, min, List, [], ◌∷◌, ◌++◌, Option, Some, None, is_some, Bool, true, false, length, map, take, refl, sym, ap, ◌∙◌, inl, inr, arith, append-nil}
 use Rattle.std.specs.List.{count_by, range_with_len}
+use Rattle.std.proofs.lemmas.Bool.{cases_lt, false≢true}
 use Rattle.std.proofs.lemmas.Option.{none-some}
 use Rattle.fab_move.specs.declared.verdicts.Verdict.{Verdict as Answer}
 use Rattle.fab_move.specs.Judge.{says}
@@ -11,9 +12,11 @@ use Rattle.fab_commit.specs.Serial.{Run, Standing, accepted_among, from, left_at
 use Rattle.fab_commit.specs.Run.Commits.{heat_of, standing_of}
 use Rattle.fab_commit.specs.Run.Owners.{verdict_of}
 use Rattle.fab_commit.specs.Run.Pipelines.{HasTurned, IsBehind, world_in}
+use Rattle.fab_commit.specs.Model.History.{accepted_from}
 use Rattle.fab_commit.specs.Model.TurnEvents.{LastTurn, events_from, forget, next_turn, stands, turn, turn_events, turn_making, verdict_on, world_behind}
 use Rattle.fab_commit.specs.Model.World.{World, is_redone_way, run_through, ways}
 use Rattle.fab_commit.proofs.ModelLemmas.RunLaws.{ways_of_a_beginning}
+use Rattle.fab_commit.proofs.RunLemmas.Folding.{left_from}
 use Rattle.fab_commit.proofs.ModelLemmas.TurnLaws.{length_on, turn_leads, turns_lead_on}
 
 pub some_moves : (r : Run) (t : LastTurn) (s : Pipeline) → IsBehind r t s → 0 < r.plan.moves
@@ -134,3 +137,30 @@ has_ended s now same over = by_end now.owner.state.ended now.owner.state.stage.t
     by_end : (b : Bool) (t : ℕ) → heat_of b t ≡ None → b ≡ true
     by_end true t e = refl
     by_end false t e = absurd (none-some t (sym e))
+
+-- a run that is over has nothing judged ahead
+pub none_ahead : (r : Run) (t : LastTurn) (s : Pipeline) → IsBehind r t s → (standing_of s.owner.state).heat ≡ None → s.ahead.items ≡ []
+none_ahead r t s b over =
+    let none : moves_left r (stands r t) ≡ 0 = none_left r (stands r t) (ap (λ (x : Standing). x.heat) (sym b.here) ∙ over) in
+    let stage = b.stage in
+    let many = b.many in
+    elim (cases_lt t.made (moves_left r t.start)) [
+      | inl l ↦ (let left = left_from r t.start t.made l in absurd (omega (arith, left, none, l)))
+      | inr l ↦ no_items s.ahead.items (omega (arith, l, stage, many))
+    ]
+  where
+    no_items : {A : Type 0} (xs : List A) → length xs ≡ 0 → xs ≡ []
+    no_items [] e = refl
+    no_items (x ∷ xs) e = absurd (omega (arith, e))
+
+-- a turn of no move accepts no swap
+pub no_swaps : (r : Run) (t : LastTurn) (s now : Pipeline) (n ahead : ℕ) → HasTurned r t s n ahead now → n ≡ 0 → now.owner.swaps.items ≡ []
+no_swaps r t s now n ahead h none = h.behind.swaps ∙ ap (accepted_from r (stands r t)) none
+
+-- a run that is not over has moves left in its stage
+pub some_left : (r : Run) (x : Standing) → 0 < r.plan.moves → is_some x.heat ≡ true → 0 < moves_left r x
+some_left r x pos going = by_heat x.heat going
+  where
+    by_heat : (o : Option ℕ) → is_some o ≡ true → 0 < left_at r.plan.moves x.done o
+    by_heat None e = absurd (false≢true e)
+    by_heat (Some t) e = omega (arith, pos)

@@ -1,5 +1,5 @@
 -- What an annealer is after a turn, and what the turn returned.
-use Rattle.std.proofs.Common.{◌≡◌, ℕ, ◌+◌, ◌-◌, ◌<◌, ◌≤◌, min, List, map, Bool, Result, Ok, Err, refl, sym, ap, ◌∙◌, arith}
+use Rattle.std.proofs.Common.{◌≡◌, ℕ, ◌+◌, ◌-◌, ◌<◌, ◌≤◌, min, List, [], map, Bool, Result, Ok, Err, refl, sym, ap, ◌∙◌, arith}
 use Rattle.std.specs.List.{range_with_len}
 use Rattle.std.specs.declared.alloc.AllocError.{AllocError}
 use Rattle.fab_commit.specs.Serial.{Run, moves_left}
@@ -12,7 +12,7 @@ use Rattle.fab_commit.specs.Run.Pipelines.{HasTurn, HasTurned, IsBehind, TurnsOn
 use Rattle.fab_commit.specs.Run.Turned.{IsTurned}
 use Rattle.fab_commit.specs.Model.TurnEvents.{LastTurn, next_turn, turn_events, verdict_on}
 use Rattle.fab_commit.specs.Model.World.{ways}
-use Rattle.fab_commit.proofs.RunLemmas.Annealing.{accepted_on, ahead_on, has_ended, moves_made, none_left, redone_on, some_moves, stands_on, stays, world_cut, world_on}
+use Rattle.fab_commit.proofs.RunLemmas.Annealing.{accepted_on, ahead_on, has_ended, moves_made, no_swaps, none_ahead, none_left, redone_on, some_moves, stands_on, stays, world_cut, world_on}
 use Rattle.fab_commit.proofs.RunLemmas.ByTurns.{by_turns_on}
 
 -- an annealer, as contracts see it
@@ -64,7 +64,25 @@ turn_done moves given batch s now t answer b h told =
       finished = λ over. (
           let all = stays r s now batch (ways r (world_in s) (turn_events r batch (world_in s))) over stands done accepted redone ahead in
           let ended = has_ended s now all.stands over in
-          (ap (λ (a : Turn). Ok a) (told ∙ ap (λ (e : Bool). turn_of (heat_of e now.owner.state.stage.t)) ended), all.stands, all.accepted, all.redone, all.ahead)
+          let left = none_left r x over in
+          let before : map (verdict_of s.base) s.ahead.items ≡ [] = ap (map (verdict_of s.base)) (none_ahead r t s b over) in
+          let ahead : map (verdict_of now.base) now.ahead.items ≡ map (verdict_of s.base) s.ahead.items = all.ahead ∙ sym before in
+          let swaps = no_swaps r t s now next.made next.ahead h (omega (arith, same, left)) in (
+            ap (λ (a : Turn). Ok a) (told ∙ ap (λ (e : Bool). turn_of (heat_of e now.owner.state.stage.t)) ended),
+            before,
+            (λ i. record {
+              design = given.design.now;
+              grid = given.grid.now;
+              fixed = given.fixed;
+              plan = given.schedule;
+              words = given.words;
+              standing = all.stands i;
+              ahead = ahead i;
+              swaps = swaps i;
+              accepted = all.accepted i;
+              redone = all.redone i;
+            }),
+          )
           );
       world = world;
       cut = tt;

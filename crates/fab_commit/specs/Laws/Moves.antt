@@ -1,5 +1,5 @@
 -- Laws of annealing one move at a time, and of what is kept while moves are judged ahead (our own).
-use Rattle.std.specs.Prelude.{ℕ, ◌≡◌, ◌+◌, ◌-◌, ◌<◌, ◌≤◌, if◌then◌else◌, List, [], ◌∷◌, ◌++◌, Some}
+use Rattle.std.specs.Prelude.{ℕ, ◌≡◌, ◌+◌, ◌-◌, ◌^◌, ◌<◌, ◌≤◌, if◌then◌else◌, List, [], ◌∷◌, ◌++◌, Some, slice_index}
 use Rattle.std.specs.List.{All}
 use Rattle.fab_arch.specs.declared.array.Site.{Site}
 use Rattle.fab_arch.specs.Grid.{kind_at}
@@ -9,6 +9,7 @@ use Rattle.fab_site.specs.Placement.{IsLegal}
 use Rattle.fab_move.specs.declared.marks.Mark.{Mark}
 use Rattle.fab_move.specs.declared.proposals.Proposal.TheVariants.{Move}
 use Rattle.fab_move.specs.Propose.{proposal}
+use Rattle.fab_move.specs.Stream.{stream_moves}
 use Rattle.fab_move.specs.Judge.{Problem, has_mark, touched}
 use Rattle.fab_commit.specs.declared.model.events.Event.{Event}
 use Rattle.fab_commit.specs.declared.run.swaps.Accepted.{Accepted}
@@ -22,7 +23,23 @@ use Rattle.fab_commit.specs.Model.Stamps.{AreBefore, is_stamped, stamp}
 abbrev pub MovesCompose : Type 0
 MovesCompose = (r : Run) (x : Standing) (m n : ℕ) → from r (from r x m) n ≡ from r x (m + n)
 
--- on a legal placement each proposed swap goes to a site of its block's kind; words below 2^32 ensure this
+-- each word is below 2^32, as the words of any run are: `Words` gives words of 32 bits
+abbrev pub AreWords : (ℕ → List ℕ) → Type 0
+AreWords words = (k i : ℕ) → slice_index (words k) i < 2 ^ 32
+
+-- from a legal placement moves lead only to legal ones, with each fixed block at its site
+abbrev pub PlacementsStayLegal : Type 0
+PlacementsStayLegal =
+    (r : Run) (x : Standing) (n : ℕ)
+    → AreWords r.problem.words
+    → IsLegal r.problem.design r.problem.grid r.problem.fixed x.sites
+    → IsLegal r.problem.design r.problem.grid r.problem.fixed (from r x n).sites
+
+-- the words of a seed are below 2^32, so the placements of its runs stay legal
+abbrev pub SeedsGiveWords : Type 0
+SeedsGiveWords = (seed : ℕ) → AreWords (stream_moves seed)
+
+-- on a legal placement each proposed swap goes to a site of its block's kind, as it does by words below 2^32
 abbrev pub ProposesKinds : Problem → Type 0
 ProposesKinds p =
     (sites : List Site) (range k : ℕ) (s : Swap)
@@ -30,9 +47,9 @@ ProposesKinds p =
     → proposal p.design p.grid p.fixed sites range (p.words k) ≡ Move s
     → kind_at p.grid s.to ≡ kind_at p.grid s.from
 
--- from a legal placement moves lead only to legal ones, with each fixed block at its site
-abbrev pub PlacementsStayLegal : Type 0
-PlacementsStayLegal =
+-- the same by words of any size that propose sites of the block's kind
+abbrev pub PlacementsStayLegalByKinds : Type 0
+PlacementsStayLegalByKinds =
     (r : Run) (x : Standing) (n : ℕ)
     → ProposesKinds r.problem
     → IsLegal r.problem.design r.problem.grid r.problem.fixed x.sites

@@ -20,8 +20,9 @@ pub record IsTurned {W : Type 0} (moves : W → ℕ → List ℕ) (batch : ℕ) 
   pub ok : OnOk answer (b.standing.done ≡ a.standing.done + min batch (moves_left (run_of moves a) a.standing))
   pub within : (a.standing.done ≤ b.standing.done) × (b.standing.done ≤ a.standing.done + min batch (moves_left (run_of moves a) a.standing))
   pub told : IfOk answer (λ t. t ≡ turn_of b.standing.heat)
-  -- If no move is left, there is no error, nothing that a call tells changes, and nothing is judged ahead.
-  pub finished : a.standing.heat ≡ None → (answer ≡ Ok Finished) × (b.standing ≡ a.standing) × (b.accepted ≡ a.accepted) × (b.redone ≡ a.redone) × (b.ahead ≡ [])
+  -- If no move is left, there is no error, and nothing changes but that the last turn, which is now this one, accepted no swap. Nothing was
+  -- judged ahead.
+  pub finished : a.standing.heat ≡ None → (answer ≡ Ok Finished) × (a.ahead ≡ []) × (b ≡ record a { swaps = [] })
   -- It is a turn of a world; if memory ran out, a turn that judges nothing ahead.
   pub world : OnOk answer (world_of b ≡ turn (run_of moves a) batch (world_of a))
   pub cut : OnErr answer (world_of b ≡ turn_making (run_of moves a) (b.standing.done - a.standing.done) 0 (world_of a))

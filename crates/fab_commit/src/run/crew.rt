@@ -37,8 +37,8 @@ pub fn found_crew<E: Task<T>, T: Drop, J: Naming>(
     Ok((Crew { shared, workers }, lead))
 }
 
-/// Runs `make` on the owner while the crew works, and returns when all workers have ended. They end when the crew's `Lead` is dropped,
-/// so `make` must drop it: otherwise this call never returns.
+/// Runs `make` on the owner while the crew works, then sends the crew home, and returns when all workers have ended. So it returns if
+/// `make` does. If the crew's `Lead` is kept, its owner judges alone from then on.
 // The owner's type is a parameter, since the threads' closures do not support a type that both borrows and has parameters.
 pub fn beside<
     E: Task<T> + Send + Sync,
@@ -62,7 +62,11 @@ pub fn beside<
         &mut || -> X
             requires { (x : _) → x.now ≡ owner.now → F.pre make.now x }
             ensures { CalledAtMut F.FnMut make.entry.now owner.entry.now result make.exit.now owner.exit.now }
-        { called(make, owner) },
+        {
+            let made = called(make, owner);
+            shared.send_home();
+            made
+        },
     );
     made
 }

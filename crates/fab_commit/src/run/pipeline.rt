@@ -7,7 +7,7 @@ ghost use Rattle.fab_sched.specs.Annealing.{IsLawful};
 ghost use Rattle.fab_commit.specs.Serial.{Run, accepted_among, from, moves_left};
 ghost use Rattle.fab_commit.specs.Run.Commits.{IsSound, run_for, standing_of};
 ghost use Rattle.fab_commit.specs.Run.Owners.{AreAnswers, AreDue, HasCounted, HasMade, HasRoom, IsOwned, Leads, verdict_of};
-ghost use Rattle.fab_commit.specs.Run.Pipelines.{IsBehind, TurnsOn};
+ghost use Rattle.fab_commit.specs.Run.Pipelines.{HasTurned, IsBehind, TurnsOn};
 ghost use Rattle.fab_commit.specs.Model.TurnEvents.{LastTurn, next_turn, no_turn, turn, turn_events, turn_making, verdict_on};
 ghost use Rattle.fab_commit.specs.Model.World.{is_redone_way, ways};
 
@@ -276,4 +276,14 @@ pub(crate) fn make_turn<
         }
         Err(error) => Err(error),
     }
+}
+
+/// Ends a turn for which memory ran out before its first move. Nothing is judged ahead then.
+pub(crate) fn cut_turn<W: Words>(_given: &Given<'_, W>, pipeline: &mut Pipeline)
+    ensures cut { (t : LastTurn) → IsBehind (run_for W.moves _given.now) t pipeline.old → HasTurned (run_for W.moves _given.now) t pipeline.old 0 0 pipeline.new }
+    ensures done { pipeline.new.owner.state ≡ pipeline.old.owner.state }
+{
+    pipeline.base = pipeline.owner.state.done;
+    pipeline.owner.swaps.clear();
+    pipeline.ahead.clear();
 }

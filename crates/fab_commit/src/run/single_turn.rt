@@ -1,6 +1,6 @@
 //! Turns with a crew of their own, for a caller that makes single turns. A run of the program makes none of these: it keeps one crew.
 
-ghost use Rattle.std.specs.Prelude.{◌≡◌, ◌≤◌};
+ghost use Rattle.std.specs.Prelude.{◌≡◌, ◌≤◌, is_some, true};
 ghost use Rattle.std.specs.Arc.{arc_value};
 ghost use Rattle.std.specs.Thread.{IsSync};
 ghost use Rattle.fab_commit.specs.Run.Commits.{run_for};
@@ -12,7 +12,7 @@ ghost use Rattle.fab_commit.specs.Model.TurnEvents.{LastTurn};
 use crate::run::annealer::Anneal;
 use crate::run::crew::{Crew, beside, found_crew};
 use crate::run::job::Work;
-use crate::run::pipeline::{Pipeline, make_turn};
+use crate::run::pipeline::{Pipeline, cut_turn, make_turn};
 use crate::run::state::Given;
 use crate::run::turn::Turn;
 use crate::run::workers::Workers;
@@ -32,7 +32,7 @@ struct Hands<'r, 'a, 'g, W: Words + Drop, G: Gate, J: Naming> {
     workers: Workers<'a, 'g, W, G, J>,
 }
 
-/// Makes a turn while its crew judges ahead, and sends the crew home.
+/// Makes a turn while its crew judges ahead. The crew has ended when this returns.
 fn make_turn_beside<
     'a,
     'g,
@@ -62,16 +62,12 @@ fn make_turn_beside<
         &mut |h: &mut Hands<'_, '_, '_, W, G, J>| -> Result<(), AllocError>
             requires { IsSync R.row × (batch ≤ 4096) × ((t : LastTurn) × IsBehind (run_for W.moves (arc_value h.old.given.now)) t state.now) }
             ensures turned { TurnsOn (run_for W.moves (arc_value h.old.given.now)) batch state.entry.now state.exit.now result }
-        {
-            let made = make_turn(rt, h.given, state, batch, &mut h.workers);
-            h.workers.dismiss();
-            made
-        },
+        { make_turn(rt, h.given, state, batch, &mut h.workers) },
     )
 }
 
 impl<'a, W: Words + Sync + Drop> Anneal<'a, W> {
-    /// Makes a turn whose moves the owner judges itself.
+    /// Makes a turn of a run that is over, for which nobody is needed.
     fn turn_alone<G: Gate, R: Threads + Wait + Sync>(
         &mut self,
         rt: &R,
@@ -95,10 +91,10 @@ impl<'a, W: Words + Send + Sync + Drop> Anneal<'a, W> {
     /// placement at the turn's start, which does not change meanwhile. Verdicts beyond this batch are discarded, and moves of this batch
     /// that have no verdict are judged first. A move is judged again if a move accepted since has touched what its verdict rests on. The
     /// gate is called before and after each judgement that is made ahead, and before each commit. Once the calling thread has committed
-    /// its moves, it judges too; if there is no memory for a crew, it judges alone.
+    /// its moves, it judges too.
     ///
     /// An error means that memory ran out. Then the moves that were committed stay, as `done` tells, all workers have ended, nothing is
-    /// judged ahead, and another turn can go on.
+    /// judged ahead, and another turn can go on. If there was no memory for the workers, no move was made.
     pub fn turn<G: Gate, R: Threads + Wait + Sync>(
         &mut self,
         rt: &R,
@@ -117,7 +113,8 @@ impl<'a, W: Words + Send + Sync + Drop> Anneal<'a, W> {
         self.turn_named::<G, Brand, R>(rt, Opened::new(), batch, workers, gate)
     }
 
-    /// Makes a turn with a crew of this name. If there is no memory for a crew, the owner judges alone.
+    /// Makes a turn with a crew of this name. If there is no memory for a crew, this makes no move: alone, the owner would make all calls of
+    /// the gate, and one that waits in a call for another would wait for ever.
     fn turn_named<'g, G: Gate, J: Naming + Send + Sync, R: Threads + Wait + Sync>(
         &mut self,
         rt: &R,
@@ -127,17 +124,22 @@ impl<'a, W: Words + Send + Sync + Drop> Anneal<'a, W> {
         gate: &'g G,
     ) -> Result<Turn, AllocError>
         requires book { opened ≡ J.book }
+        requires going { is_some self.old.standing.heat ≡ true }
         requires batch { (1 ≤ batch) × (batch ≤ 4096) }
         ensures turned { IsTurned W.moves batch self.old self.new result }
     {
-        match found_crew::<Work<'a, 'g, W, G>, Verdict, J>(self.given.alloc, opened, workers) {
-            Ok((crew, lead)) => {
-                let workers = Workers::crew(lead, gate);
-                make_turn_beside(rt, crew, &self.given, workers, &mut self.pipeline, batch)?;
-                Ok(self.left())
-            }
-            Err(_) => self.turn_alone(rt, batch, gate),
-        }
+        let founded = found_crew::<Work<'a, 'g, W, G>, Verdict, J>(
+            self.given.alloc,
+            opened,
+            workers,
+        );
+        let Ok((crew, lead)) = founded else {
+            cut_turn(&self.given, &mut self.pipeline);
+            return Err(AllocError);
+        };
+        let workers = Workers::crew(lead, gate);
+        make_turn_beside(rt, crew, &self.given, workers, &mut self.pipeline, batch)?;
+        Ok(self.left())
     }
 
     /// Makes a turn as `turn` does, and then shows on the dial how far the run has come: how many moves were made, how many of them were
