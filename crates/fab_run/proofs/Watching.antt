@@ -227,7 +227,7 @@ all_after s (n ∷ moves) made =
     All-cons (IsAfter s) (reading_at s.run (from s.run s.start n)) (map (λ k. reading_at s.run (from s.run s.start k)) moves) (record { count = n; made = All-head (AreMadeAll s.run s.start) n moves made; reading = refl })
     (all_after s moves (All-tail (AreMadeAll s.run s.start) n moves made))
 
-all_then : (P Q : Reading → Type 0) (list : List Reading) → ((q : Reading) → P q → Q q) → All P list → All Q list
+pub all_then : (P Q : Reading → Type 0) (list : List Reading) → ((q : Reading) → P q → Q q) → All P list → All Q list
 all_then P Q [] then all = All-nil Q
 all_then P Q (q ∷ list) then all = All-cons Q q list (then q (All-head P q list all)) (all_then P Q list then (All-tail P q list all))
 

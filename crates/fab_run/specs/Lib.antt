@@ -22,3 +22,4 @@ pub mod PointExamples
 pub mod Chains
 pub mod Shown
 pub mod Watched
+pub mod Standings

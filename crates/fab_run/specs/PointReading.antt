@@ -1,5 +1,5 @@
 -- What the parts of a reader of checkpoint texts have read (our own).
-use Rattle.std.specs.Prelude.{ℕ, ◌≡◌, ◌==◌, Bool, true, false, ◌≤◌, List, [], ◌∷◌, length, map, take, drop, codes, Option, Some, None, slice_index_or}
+use Rattle.std.specs.Prelude.{ℕ, ◌≡◌, ◌⊎◌, ◌==◌, Bool, true, false, ◌≤◌, List, [], ◌∷◌, length, map, take, drop, codes, Option, Some, None, slice_index_or}
 use Rattle.std.specs.List.{AllByRecursion, list_any}
 use Rattle.fab_text.specs.Lines.{TextLine}
 use Rattle.fab_text.specs.FirstFault.{unless, fault_of_all}
@@ -11,12 +11,35 @@ use Rattle.fab_sched.specs.declared.schedules.Stage.{Stage}
 use Rattle.fab_sched.specs.Annealing.{IsLawful, MayStand, Plan}
 use Rattle.fab_file.specs.Place.{Places, names_block, word_at}
 use Rattle.fab_file.specs.PlaceFaults.{is_repeated}
-use Rattle.fab_run.specs.declared.point_fault.PointFault.TheVariants.{BadField}
+use Rattle.fab_run.specs.declared.point_fault.PointFault.{PointFault}
+use Rattle.fab_run.specs.declared.point_fault.PointFault.TheVariants.{BadField, OutOfRange}
+use Rattle.fab_run.specs.declared.point_fault.PointField.{PointField}
 use Rattle.fab_run.specs.declared.point_words.Version.{Version}
 use Rattle.fab_run.specs.declared.point_words.Version.TheVariants.{One, Two}
 use Rattle.fab_run.specs.PointFields.{number_in, array_in, schedule_in, stage_in, is_end}
 use Rattle.fab_run.specs.PointMeaning.{IsArrayFor}
 use Rattle.fab_run.specs.PointFaults.{IsRangeOn, IsStageOf, IsTotal, fixed_fault, grid_of, schedule_of, seat_fault}
+
+-- a line says this, which is in range
+pub record Says {A : Type 0} (read : TextLine → Option A) (IsIn : A → Type 0) (line : TextLine) (a : A) : Type 0 where
+  pub says : read line ≡ Some a
+  pub within : IsIn a
+
+-- a line does not say what is due, and this is its fault
+pub record IsFaultOfLine {A : Type 0} (e : PointFault) (read : TextLine → Option A) (line : TextLine) : Type 0 where
+  pub silent : read line ≡ None
+  pub fault : e ≡ BadField line.number
+
+-- what a line says is out of range, and this is its fault
+pub record IsOutOfRange {A : Type 0} (e : PointFault) (read : TextLine → Option A) (IsIn : A → Type 0) (field : PointField) (line : TextLine) : Type 0 where
+  pub value : A
+  pub says : read line ≡ Some value
+  pub beyond : ¬ IsIn value
+  pub fault : e ≡ OutOfRange field
+
+-- the fault of a line whose field has a range
+abbrev pub IsFaultOfField : {A : Type 0} → PointFault → (TextLine → Option A) → (A → Type 0) → PointField → TextLine → Type 0
+IsFaultOfField e read IsIn field line = IsFaultOfLine e read line ⊎ IsOutOfRange e read IsIn field line
 
 -- the next line says this, which is in range
 pub record IsRead {A : Type 0} (read : TextLine → Option A) (IsIn : A → Type 0) (ls : List TextLine) (a : A) (behind : List TextLine) : Type 0 where

@@ -2,6 +2,7 @@
 
 ghost use Rattle.fab_run.specs.Chains.{CallsAreRuns, ChainsAreRuns, ResumedCallsAreRuns};
 ghost use Rattle.fab_run.specs.SameAnswers.{AnswersAreTold, RedoneIsTold, ResumedAreTold, ResumedRedoneIsTold, ShownIsTold};
+ghost use Rattle.fab_run.specs.Standings.{MovesKeepStandings, ResumedBeginLawfully, RunsBeginLawfully, WatchersReadLawful};
 ghost use Rattle.fab_run.specs.Watched.{PiecesShowStandings, TurnsShowStandings, WatchersReadInOrder, WatchersReadStandings};
 
 use fab_site::Words;
@@ -44,4 +45,20 @@ pub fn watchers_read_standings<W: Words>()
     ensures pieces { PiecesShowStandings }
     ensures watched { WatchersReadStandings W.moves }
     ensures order { WatchersReadInOrder W.moves }
+{}
+
+/// The law that runs lead only through lawful standings: the placement is legal, with each fixed block at its site, the range and the
+/// temperature are ones that the running stage can have, and no more moves are accepted than made. Moves keep this if the schedule is
+/// within its limits and the words are below 2^32. A run and a resumed run, whose checks pass, begin lawfully.
+pub fn standings_are_lawful()
+    ensures moves { MovesKeepStandings }
+    ensures runs { RunsBeginLawfully }
+    ensures resumed { ResumedBeginLawfully }
+{}
+
+/// The law that each reading of a watcher belongs to a lawful standing, or is the dial's first one, if only lawful runs and turns of lawful
+/// annealers showed on the dial. The runs of `place_run_shown` are lawful, by `standings_are_lawful`; the standing of an annealer is, by
+/// the contract of `Anneal::done`.
+pub fn readings_are_of_lawful_standings<W: Words>()
+    ensures { WatchersReadLawful W.moves }
 {}

@@ -38,7 +38,10 @@ pub use check::check_run;
 pub use fab_commit::Point;
 pub use fault::{RunFault, fault_line};
 pub use inputs::{Ending, Inputs, Moves, Options, Outcome};
-pub use laws::{answers_are_told, calls_are_runs, chains_are_runs, watchers_read_standings};
+pub use laws::{
+    answers_are_told, calls_are_runs, chains_are_runs, readings_are_of_lawful_standings,
+    standings_are_lawful, watchers_read_standings,
+};
 pub use placing::{place_run, place_run_shown};
 pub use point_fault::{PointFault, PointField};
 pub use point_reading::{point_texts_mean_or_fault, read_point};

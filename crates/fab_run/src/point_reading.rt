@@ -1,6 +1,6 @@
 //! Reads a checkpoint text, line by line, in the order of its fields.
 
-ghost use Rattle.std.specs.Prelude.{◌≡◌, ◌≢◌, ◌⊎◌, ℕ, ◌*◌, ◌+◌, ◌<◌, ◌≤◌, ◌^◌, [], ◌∷◌, List, Some, None, IfOk, IfErr, OnOk, IfSome, IfNone, IsTrue, ◌↔◌, MatchResult, codes, length, max, slice_index_or, false, if◌then◌else◌, option_map};
+ghost use Rattle.std.specs.Prelude.{◌≡◌, ◌≢◌, ◌⊎◌, ℕ, ◌*◌, ◌+◌, ◌<◌, ◌≤◌, ◌^◌, [], ◌∷◌, List, Some, None, IfOk, IfErr, OnOk, IfSome, IfNone, IsTrue, ◌↔◌, MatchResult, codes, length, max, slice_index_or, true, false, if◌then◌else◌, option_map};
 ghost use Rattle.fab_text.specs.Shown.{shown};
 ghost use Rattle.fab_text.specs.Lines.{TextLine, lines};
 ghost use Rattle.fab_arch.specs.Grid.{GridShape};
@@ -10,12 +10,12 @@ ghost use Rattle.fab_sched.specs.declared.schedules.Cooling.TheVariants.{Factor}
 ghost use Rattle.fab_sched.specs.Annealing.{IsLawful, MayStand};
 ghost use Rattle.fab_file.specs.Place.{block_in};
 ghost use Rattle.fab_commit.specs.declared.run.point.Point.{Point as PointOf};
-ghost use Rattle.fab_run.specs.declared.point_fault.PointFault.TheVariants.{BadField, NoMemory, OutOfRange};
-ghost use Rattle.fab_run.specs.declared.point_fault.PointField.TheVariants.{Array, Schedule as ScheduleField, Stage as StageField, Temperature, Range, Total};
-ghost use Rattle.fab_run.specs.PointFields.{is_fixed_line, number_in, array_in, schedule_in, stage_in, version_in};
+ghost use Rattle.fab_run.specs.declared.point_fault.PointFault.TheVariants.{BadField, BadVersion, NoMemory, OutOfRange};
+ghost use Rattle.fab_run.specs.declared.point_fault.PointField.TheVariants.{Array, Fixed as FixedField, Places, Schedule as ScheduleField, Stage as StageField, Temperature, Range, Total};
+ghost use Rattle.fab_run.specs.PointFields.{is_end, is_fixed_line, number_in, array_in, schedule_in, stage_in, version_in};
 ghost use Rattle.fab_run.specs.PointMeaning.{IsArrayFor, IsSamePoint, MayBeFixed, StandsForPoint};
-ghost use Rattle.fab_run.specs.PointFaults.{DueFault, EndFault, FieldFault, HeadFault, HeatFault, IsFirstFault, IsPointFault, IsRangeOn, IsStageOf, IsTotal, ListFault, NamesFault, PointMeansOrFaults, SeatsFault, StageFault, fixed_fault, grid_of, name_fault, schedule_of, seat_fault};
-ghost use Rattle.fab_run.specs.PointReading.{AreNamed, AreSeated, EndRead, HeadRead, HeatRead, IsAny, IsRead, NamesRead, SeatsRead, StageRead};
+ghost use Rattle.fab_run.specs.PointFaults.{EndFault, HeadFault, HeatFault, IsFirstFault, IsPointFault, IsRangeOn, IsStageOf, IsTotal, ListFault, NamesFault, PointMeansOrFaults, SeatsFault, StageFault, fixed_fault, grid_of, name_fault, schedule_of, seat_fault};
+ghost use Rattle.fab_run.specs.PointReading.{AreNamed, AreSeated, EndRead, HeadRead, HeatRead, IsFaultOfField, IsFaultOfLine, IsRead, NamesRead, Says, SeatsRead, StageRead};
 
 use crate::point_fault::{PointFault, PointField};
 use crate::point_words::{
@@ -31,24 +31,56 @@ use fab_site::{Fixed, Placement};
 use fab_text::{Line, Lines};
 use std::alloc::{AllocError, Global};
 
-/// Takes the next line, which has to be there.
-fn due<'a>(left: &mut Lines<'a>) -> Result<Line<'a>, PointFault>
-    ensures ok { IfOk result (λ line. left.old ≡ shown line ∷ left.new) }
-    ensures missing { IfErr result (λ e. (e ≡ NoMemory) ⊎ ((e ≡ BadField 0) × (left.old ≡ []))) }
+/// A line that has to be there.
+fn present<'a>(line: Option<Line<'a>>) -> Result<Line<'a>, PointFault>
+    ensures there { IfOk result (λ l. line.entry ≡ Some l) }
+    ensures missing { IfErr result (λ e. (e ≡ BadField 0) × (line.entry ≡ None)) }
 {
-    match left.next()? {
+    match line {
         Some(line) => Ok(line),
         None => Err(PointFault::BadField(0)),
     }
 }
 
-/// The number of the next line, which is `NAME N`.
-fn number_field(left: &mut Lines, name: &[u8]) -> Result<u64, PointFault>
-    ensures read { IfOk result (λ n. IsRead (number_in name.now) IsAny left.old n left.new) }
-    ensures fault { IfErr result (λ e. (e ≡ NoMemory) ⊎ DueFault e (number_in name.now) (λ n ls. ⊥) left.old) }
+/// Takes the next line, which has to be there.
+fn due<'a>(left: &mut Lines<'a>) -> Result<Line<'a>, PointFault>
+    ensures ok { IfOk result (λ line. left.old ≡ shown line ∷ left.new) }
+    ensures missing { IfErr result (λ e. (e ≡ NoMemory) ⊎ ((e ≡ BadField 0) × (left.old ≡ []))) }
 {
-    let line = due(left)?;
-    match number_in(&line, name) {
+    let line = left.next()?;
+    present(line)
+}
+
+/// The version that the first line gives, if there is a line.
+fn version_field(first: &Option<Line>) -> Result<Version, PointFault>
+    ensures read { IfOk result (λ v. IfSome first.now (λ l. version_in (shown l) ≡ Some v)) }
+    ensures there { OnOk result (first.now ≢ None) }
+    ensures fault { IfErr result (λ e. (e ≡ BadVersion) × IfSome first.now (λ l. version_in (shown l) ≡ None)) }
+{
+    let Some(line) = first else {
+        return Err(PointFault::BadVersion);
+    };
+    match version_in(line) {
+        Some(version) => Ok(version),
+        None => Err(PointFault::BadVersion),
+    }
+}
+
+/// Takes the first line, which gives the version.
+fn read_version(left: &mut Lines) -> Result<Version, PointFault>
+    ensures read { IfOk result (λ v. IsRead version_in (λ v. Unit {0}) left.old v left.new) }
+    ensures fault { IfErr result (λ e. (e ≡ NoMemory) ⊎ ((io_rat : ℕ) (d : Netlist) → IsFirstFault io_rat d left.old e)) }
+{
+    let first = left.next()?;
+    version_field(&first)
+}
+
+/// The number that a line gives, which is `NAME N`.
+fn number_field(line: &Line, name: &[u8]) -> Result<u64, PointFault>
+    ensures read { IfOk result (λ n. number_in name.now (shown line.now) ≡ Some n) }
+    ensures fault { IfErr result (λ e. IsFaultOfLine e (number_in name.now) (shown line.now)) }
+{
+    match number_in(line, name) {
         Some(n) => Ok(n),
         None => Err(PointFault::BadField(line.number)),
     }
@@ -72,13 +104,12 @@ fn grid_from(numbers: (u64, u64, u64), io_rat: u16, design: &Design) -> Option<G
     }
 }
 
-/// The array of the next line.
-fn array_field(left: &mut Lines, io_rat: u16, design: &Design) -> Result<Grid, PointFault>
-    ensures read { IfOk result (λ g. IsRead array_in (λ a. IsArrayFor io_rat design.now (grid_of a)) left.old (g.nx, g.ny, g.io_rat) left.new) }
-    ensures fault { IfErr result (λ e. (e ≡ NoMemory) ⊎ FieldFault e array_in (λ a. IsArrayFor io_rat design.now (grid_of a)) Array (λ a ls. ⊥) left.old) }
+/// The array that a line gives.
+fn array_field(line: &Line, io_rat: u16, design: &Design) -> Result<Grid, PointFault>
+    ensures read { IfOk result (λ g. Says array_in (λ a. IsArrayFor io_rat design.now (grid_of a)) (shown line.now) (g.nx, g.ny, g.io_rat)) }
+    ensures fault { IfErr result (λ e. IsFaultOfField e array_in (λ a. IsArrayFor io_rat design.now (grid_of a)) Array (shown line.now)) }
 {
-    let line = due(left)?;
-    let Some(numbers) = array_in(&line) else {
+    let Some(numbers) = array_in(line) else {
         return Err(PointFault::BadField(line.number));
     };
     match grid_from(numbers, io_rat, design) {
@@ -104,33 +135,17 @@ fn schedule_from(numbers: (u64, u64, Cooling, u64)) -> Option<Schedule>
     }
 }
 
-/// The schedule of the next line.
-fn schedule_field(left: &mut Lines, version: Version) -> Result<Schedule, PointFault>
-    ensures read { IfOk result (λ p. IsRead (schedule_in version) (λ s. IsLawful (schedule_of s)) left.old (p.init, p.exit, p.cooling, p.moves) left.new) }
-    ensures fault { IfErr result (λ e. (e ≡ NoMemory) ⊎ FieldFault e (schedule_in version) (λ s. IsLawful (schedule_of s)) ScheduleField (λ s ls. ⊥) left.old) }
+/// The schedule that a line gives.
+fn schedule_field(line: &Line, version: Version) -> Result<Schedule, PointFault>
+    ensures read { IfOk result (λ p. Says (schedule_in version) (λ s. IsLawful (schedule_of s)) (shown line.now) (p.init, p.exit, p.cooling, p.moves)) }
+    ensures fault { IfErr result (λ e. IsFaultOfField e (schedule_in version) (λ s. IsLawful (schedule_of s)) ScheduleField (shown line.now)) }
 {
-    let line = due(left)?;
-    let Some(numbers) = schedule_in(version, &line) else {
+    let Some(numbers) = schedule_in(version, line) else {
         return Err(PointFault::BadField(line.number));
     };
     match schedule_from(numbers) {
         Some(schedule) => Ok(schedule),
         None => Err(PointFault::OutOfRange(PointField::Schedule)),
-    }
-}
-
-/// The version that the first line gives.
-fn read_version(left: &mut Lines) -> Result<Version, PointFault>
-    ensures read { IfOk result (λ v. IsRead version_in (λ v. Unit {0}) left.old v left.new) }
-    ensures fault { IfErr result (λ e. (e ≡ NoMemory) ⊎ ((io_rat : ℕ) (d : Netlist) → IsFirstFault io_rat d left.old e)) }
-{
-    let line = match left.next()? {
-        Some(line) => line,
-        None => return Err(PointFault::BadVersion),
-    };
-    match version_in(&line) {
-        Some(version) => Ok(version),
-        None => Err(PointFault::BadVersion),
     }
 }
 
@@ -152,9 +167,9 @@ fn read_head(
     ensures read { IfOk result (λ h. HeadRead version io_rat design.now left.old h.seed h.grid h.schedule left.new) }
     ensures fault { IfErr result (λ e. (e ≡ NoMemory) ⊎ HeadFault e io_rat design.now version (λ g p ls. ⊥) left.old) }
 {
-    let seed = number_field(left, b"seed")?;
-    let grid = array_field(left, io_rat, design)?;
-    let schedule = schedule_field(left, version)?;
+    let seed = number_field(&due(left)?, b"seed")?;
+    let grid = array_field(&due(left)?, io_rat, design)?;
+    let schedule = schedule_field(&due(left)?, version)?;
     Ok(Head {
         seed,
         grid,
@@ -164,13 +179,12 @@ fn read_head(
 
 #[tactic(auto, using(crate::proofs::PointStages::earlier))]
 /// The index of the running stage, how many of its moves are made, and how many of these were accepted.
-fn stage_field(left: &mut Lines, schedule: &Schedule) -> Result<(u64, u64, u64), PointFault>
-    ensures read { IfOk result (λ x. IsRead stage_in (IsStageOf schedule.now) left.old x left.new) }
+fn stage_field(line: &Line, schedule: &Schedule) -> Result<(u64, u64, u64), PointFault>
+    ensures read { IfOk result (λ x. Says stage_in (IsStageOf schedule.now) (shown line.now) x) }
     ensures small { IfOk result (λ x. (x.0 + 1) * schedule.now.moves < 2 ^ 61) }
-    ensures fault { IfErr result (λ e. (e ≡ NoMemory) ⊎ FieldFault e stage_in (IsStageOf schedule.now) StageField (λ x ls. ⊥) left.old) }
+    ensures fault { IfErr result (λ e. IsFaultOfField e stage_in (IsStageOf schedule.now) StageField (shown line.now)) }
 {
-    let line = due(left)?;
-    let Some(stage) = stage_in(&line) else {
+    let Some(stage) = stage_in(line) else {
         return Err(PointFault::BadField(line.number));
     };
     let last = schedule.last_index();
@@ -181,12 +195,12 @@ fn stage_field(left: &mut Lines, schedule: &Schedule) -> Result<(u64, u64, u64),
     }
 }
 
-/// The temperature of a stage that the next line gives.
-fn temperature_field(left: &mut Lines, schedule: &Schedule, index: u64) -> Result<u64, PointFault>
-    ensures read { IfOk result (λ t. IsRead (number_in (codes "temperature")) (MayStand schedule.now index) left.old t left.new) }
-    ensures fault { IfErr result (λ e. (e ≡ NoMemory) ⊎ FieldFault e (number_in (codes "temperature")) (MayStand schedule.now index) Temperature (λ t ls. ⊥) left.old) }
+/// The temperature of a stage that a line gives.
+fn temperature_field(line: &Line, schedule: &Schedule, index: u64) -> Result<u64, PointFault>
+    ensures read { IfOk result (λ t. Says (number_in (codes "temperature")) (MayStand schedule.now index) (shown line.now) t) }
+    ensures fault { IfErr result (λ e. IsFaultOfField e (number_in (codes "temperature")) (MayStand schedule.now index) Temperature (shown line.now)) }
 {
-    let t = number_field(left, b"temperature")?;
+    let t = number_field(line, b"temperature")?;
     if schedule.may_stand(index, t) {
         Ok(t)
     } else {
@@ -208,16 +222,19 @@ fn read_heat(
 {
     match version {
         Version::One => Ok(schedule.temperature(index).unwrap_or(0)),
-        Version::Two => temperature_field(left, schedule, index),
+        Version::Two => {
+            let line = due(left)?;
+            temperature_field(&line, schedule, index)
+        }
     }
 }
 
 /// The range of the running stage, on an array.
-fn range_field(left: &mut Lines, grid: &Grid) -> Result<u64, PointFault>
-    ensures read { IfOk result (λ r. IsRead (number_in (codes "range")) (IsRangeOn grid.now) left.old r left.new) }
-    ensures fault { IfErr result (λ e. (e ≡ NoMemory) ⊎ FieldFault e (number_in (codes "range")) (IsRangeOn grid.now) Range (λ r ls. ⊥) left.old) }
+fn range_field(line: &Line, grid: &Grid) -> Result<u64, PointFault>
+    ensures read { IfOk result (λ r. Says (number_in (codes "range")) (IsRangeOn grid.now) (shown line.now) r) }
+    ensures fault { IfErr result (λ e. IsFaultOfField e (number_in (codes "range")) (IsRangeOn grid.now) Range (shown line.now)) }
 {
-    let range = number_field(left, b"range")?;
+    let range = number_field(line, b"range")?;
     let side = u64::from(grid.nx().max(grid.ny()));
     if 1_000 <= range && range <= 1_000 * side {
         Ok(range)
@@ -227,17 +244,13 @@ fn range_field(left: &mut Lines, grid: &Grid) -> Result<u64, PointFault>
 }
 
 /// How many moves were accepted in all: at least those of the running stage, and at most all moves made.
-fn total_field(
-    left: &mut Lines,
-    schedule: &Schedule,
-    stage: (u64, u64, u64),
-) -> Result<u64, PointFault>
+fn total_field(line: &Line, schedule: &Schedule, stage: (u64, u64, u64)) -> Result<u64, PointFault>
     requires small { (stage.0 + 1) * schedule.now.moves < 2 ^ 61 }
     requires made { stage.1 < schedule.now.moves }
-    ensures read { IfOk result (λ n. IsRead (number_in (codes "total")) (IsTotal schedule.now stage) left.old n left.new) }
-    ensures fault { IfErr result (λ e. (e ≡ NoMemory) ⊎ FieldFault e (number_in (codes "total")) (IsTotal schedule.now stage) Total (λ n ls. ⊥) left.old) }
+    ensures read { IfOk result (λ n. Says (number_in (codes "total")) (IsTotal schedule.now stage) (shown line.now) n) }
+    ensures fault { IfErr result (λ e. IsFaultOfField e (number_in (codes "total")) (IsTotal schedule.now stage) Total (shown line.now)) }
 {
-    let total = number_field(left, b"total")?;
+    let total = number_field(line, b"total")?;
     let made = stage.0 * schedule.moves() + stage.1;
     if stage.2 <= total && total <= made {
         Ok(total)
@@ -257,10 +270,10 @@ fn read_stage(
     ensures read { IfOk result (λ r. StageRead version grid.now schedule.now left.old r.0 r.1 left.new) }
     ensures fault { IfErr result (λ e. (e ≡ NoMemory) ⊎ StageFault e version grid.now schedule.now (λ ls. ⊥) left.old) }
 {
-    let made = stage_field(left, schedule)?;
+    let made = stage_field(&due(left)?, schedule)?;
     let t = read_heat(left, version, schedule, made.0)?;
-    let range = range_field(left, grid)?;
-    let total = total_field(left, schedule, made)?;
+    let range = range_field(&due(left)?, grid)?;
+    let total = total_field(&due(left)?, schedule, made)?;
     let stage = Stage {
         index: made.0,
         t,
@@ -340,6 +353,18 @@ fn take_names(
     Ok(named)
 }
 
+/// How many fixed blocks a line says that there are.
+fn fixed_field(line: &Line, design: &Design) -> Result<u64, PointFault>
+    ensures read { IfOk result (λ n. Says (number_in (codes "fixed")) (λ n. n ≤ length design.now.kinds) (shown line.now) n) }
+    ensures fault { IfErr result (λ e. IsFaultOfField e (number_in (codes "fixed")) (λ n. n ≤ length design.now.kinds) FixedField (shown line.now)) }
+{
+    let count = number_field(line, b"fixed")?;
+    if count > design.blocks() as u64 {
+        return Err(PointFault::OutOfRange(PointField::Fixed));
+    }
+    Ok(count)
+}
+
 /// Takes the fixed blocks. Returns, for each block, whether it is fixed.
 fn read_names(
     alloc: Global,
@@ -350,10 +375,7 @@ fn read_names(
     ensures read { IfOk result (λ named. NamesRead version design.now left.old named.items left.new) }
     ensures fault { IfErr result (λ e. (e ≡ NoMemory) ⊎ NamesFault e version design.now (λ ls. ⊥) left.old) }
 {
-    let count = number_field(left, b"fixed")?;
-    if count > design.blocks() as u64 {
-        return Err(PointFault::OutOfRange(PointField::Fixed));
-    }
+    let count = fixed_field(&due(left)?, design)?;
     take_names(alloc, left, version, design, count)
 }
 
@@ -375,6 +397,18 @@ fn take_seats(
     Ok(placed.finish()?)
 }
 
+/// Whether a line says that there are as many places as blocks.
+fn places_field(line: &Line, design: &Design) -> Result<(), PointFault>
+    ensures read { OnOk result (Says (number_in (codes "places")) (λ m. m ≡ length design.now.kinds) (shown line.now) (length design.now.kinds)) }
+    ensures fault { IfErr result (λ e. IsFaultOfField e (number_in (codes "places")) (λ m. m ≡ length design.now.kinds) Places (shown line.now)) }
+{
+    let count = number_field(line, b"places")?;
+    if count != design.blocks() as u64 {
+        return Err(PointFault::OutOfRange(PointField::Places));
+    }
+    Ok(())
+}
+
 /// The placement.
 fn read_seats(
     alloc: Global,
@@ -385,11 +419,31 @@ fn read_seats(
     ensures read { IfOk result (λ p. SeatsRead design.now grid.now left.old p left.new) }
     ensures fault { IfErr result (λ e. (e ≡ NoMemory) ⊎ SeatsFault e design.now grid.now (λ ls. ⊥) left.old) }
 {
-    let count = number_field(left, b"places")?;
-    if count != design.blocks() as u64 {
-        return Err(PointFault::OutOfRange(PointField::Places));
-    }
+    places_field(&due(left)?, design)?;
     take_seats(alloc, left, design, grid)
+}
+
+/// Whether a line is `end`.
+fn end_field(line: &Line) -> Result<(), PointFault>
+    ensures end { OnOk result (is_end (shown line.now) ≡ true) }
+    ensures fault { IfErr result (λ e. (e ≡ BadField (shown line.now).number) × (is_end (shown line.now) ≡ false)) }
+{
+    if is_end(line) {
+        Ok(())
+    } else {
+        Err(PointFault::BadField(line.number))
+    }
+}
+
+/// Whether there is no line after the last one.
+fn no_more(more: &Option<Line>) -> Result<(), PointFault>
+    ensures end { OnOk result (more.now ≡ None) }
+    ensures fault { IfErr result (λ e. (l : Line) × (more.now ≡ Some l) × (e ≡ BadField (shown l).number)) }
+{
+    match more {
+        None => Ok(()),
+        Some(line) => Err(PointFault::BadField(line.number)),
+    }
 }
 
 /// Takes the last line, and checks that no line follows.
@@ -397,14 +451,9 @@ fn read_end(left: &mut Lines) -> Result<(), PointFault>
     ensures read { OnOk result (EndRead left.old) }
     ensures fault { IfErr result (λ e. (e ≡ NoMemory) ⊎ EndFault e left.old) }
 {
-    let line = due(left)?;
-    if !is_end(&line) {
-        return Err(PointFault::BadField(line.number));
-    }
-    match left.next()? {
-        None => Ok(()),
-        Some(more) => Err(PointFault::BadField(more.number)),
-    }
+    end_field(&due(left)?)?;
+    let more = left.next()?;
+    no_more(&more)
 }
 
 /// Fixes each named block at its site.

@@ -1,5 +1,4 @@
 use Rattle.std.proofs.Common.{sym, ◌∙◌, arith}
-use Rattle.fab_text.specs.Shown.{shown}
 use Rattle.fab_run.proofs.PointStages.{earlier}
 use Rattle.fab_run.proofs.point_reading.stage_field.Goals as goal
 
@@ -8,8 +7,6 @@ returns-then-stage-clause-read c =
     let at = c.in-Some.stage in
     let known = earlier c.args.schedule.now c.last_index-last.result at.0 c.last_index-last.ensures.reached c.if-stage-last.true in
     record {
-      line = shown c.in_ok-line.line;
-      text = c.in_ok-line.ensures.ok;
       says = sym c.stage_in.ensures ∙ c.in-Some.is;
       within = (known, omega (arith, c.if-stage-moves.true, c.moves.ensures.value), c.if-stage.true);
     }
