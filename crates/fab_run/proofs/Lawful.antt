@@ -5,8 +5,6 @@ use Rattle.std.specs.List.{All}
 use Rattle.std.proofs.lemmas.Bool.{cases_eq, eq-eqb, eqb-true, false≢true, ne_eqb}
 use Rattle.std.proofs.lemmas.Nat.{div-add-mod', div-mul-add, mod-mul-add, mod_below}
 use Rattle.std.proofs.lemmas.List.Elements.{All-head, All-tail}
-use Rattle.rand_chacha.specs.ChaCha.{word_at}
-use Rattle.rand_chacha.specs.Block.{block_word}
 use Rattle.fab_arch.specs.declared.array.Site.{Site}
 use Rattle.fab_arch.specs.Grid.{GridShape}
 use Rattle.fab_net.specs.Netlist.{Netlist}
@@ -21,14 +19,14 @@ use Rattle.fab_dial.specs.declared.readings.Reading.{Reading}
 use Rattle.fab_move.specs.Stream.{stream_moves, stream_starts, stream_word}
 use Rattle.fab_commit.specs.Serial.{HeatStands, IsStanding, Run, Standing, after_move, from, judged_here, one_if, side, step}
 use Rattle.fab_commit.specs.Laws.Moves.{ProposesKinds}
-use Rattle.fab_commit.proofs.ModelLemmas.Reasons.{placements_stay_legal}
+use Rattle.fab_commit.proofs.ModelLemmas.Proposing.{proposes_kinds, seeds_give_words}
+use Rattle.fab_commit.proofs.ModelLemmas.Reasons.{legal_by_kinds}
 use Rattle.fab_commit.proofs.RunLemmas.Standings.{points_are_told_again}
 use Rattle.fab_run.specs.Check.{FitsOn}
 use Rattle.fab_run.specs.Placed.{piece_from, run_by, start_by}
 use Rattle.fab_run.specs.Setting.{ArePinned, Setting}
-use Rattle.fab_run.specs.Standings.{AreWords, IsLawfulSource, IsOfOneStanding, MovesKeepStandings, ResumedBeginLawfully, RunsBeginLawfully, WatchersReadLawful, source_of}
+use Rattle.fab_run.specs.Standings.{IsLawfulSource, IsOfOneStanding, MovesKeepStandings, ResumedBeginLawfully, RunsBeginLawfully, WatchersReadLawful, source_of}
 use Rattle.fab_run.specs.Watched.{IsAfterOne, Source}
-use Rattle.fab_run.proofs.Proposing.{proposes_kinds}
 use Rattle.fab_run.proofs.Watching.{all_then, watchers_read_standings}
 
 -- the next move begins a stage
@@ -125,7 +123,7 @@ after_fits r x t plan kinds is warm = elim (next_place x.done r.plan.moves plan.
     legal : IsLegal r.problem.design r.problem.grid r.problem.fixed (after_move r x (judged_here r x x.done)).sites
     legal =
         subst (λ h. IsLegal r.problem.design r.problem.grid r.problem.fixed (cond (is_some h) (after_move r x (judged_here r x x.done)) x).sites) warm
-        (placements_stay_legal r x 1 kinds is.legal)
+        (legal_by_kinds r x 1 kinds is.legal)
 
     total : x.total + one_if took ≤ x.done + 1
     total = (let k = is.total in let one = one_at_most took in omega (arith, k, one))
@@ -152,21 +150,6 @@ from_fits r x (suc n) plan kinds is = from_fits r (step r x) n plan kinds (step_
 
 pub moves_keep_standings : MovesKeepStandings
 moves_keep_standings s n lawful = from_fits s.run s.start n lawful.plan (proposes_kinds s.run.problem lawful.words) lawful.standing
-
--- the words of a seed
-word_small : (key : List ℕ) (stream place : ℕ) → word_at 4 key stream place < 2 ^ 32
-unfolding block_word
-word_small key stream place = mod_below _ (2 ^ 32) (omega arith)
-
-stream_small : (seed stream place : ℕ) → stream_word seed stream place < 2 ^ 32
-stream_small seed stream place = word_small _ stream place
-
-pub stream_words : (seed : ℕ) → AreWords (stream_moves seed)
-stream_words seed k zero = stream_small seed 0 (16 * k)
-stream_words seed k (suc zero) = stream_small seed 0 (16 * k + 1)
-stream_words seed k (suc (suc zero)) = stream_small seed 0 (16 * k + 2)
-stream_words seed k (suc (suc (suc zero))) = stream_small seed 0 (16 * k + 3)
-stream_words seed k (suc (suc (suc (suc i)))) = omega arith
 
 -- the blocks that a location text fixes and begins
 no_pins : (d : Netlist) (g : GridShape) (fixed begun : List (Option Site)) → ((b : ℕ) → fixed_at fixed b ≡ None) → ((b : ℕ) → fixed_at begun b ≡ None) → ArePins d g fixed begun
@@ -203,7 +186,7 @@ start_fits s seed fits pins plan =
     }
 
 lawful_run : (s : Setting) (seed : ℕ) → FitsOn s.design s.grid → ArePins s.design s.grid s.fixed s.begun → IsLawful s.plan → IsLawfulSource (record { run = run_by s seed; start = start_by s seed })
-lawful_run s seed fits pins plan = record { plan = plan; words = stream_words seed; standing = start_fits s seed fits pins plan }
+lawful_run s seed fits pins plan = record { plan = plan; words = seeds_give_words seed; standing = start_fits s seed fits pins plan }
 
 pub runs_begin_lawfully : RunsBeginLawfully
 runs_begin_lawfully t o p (s, is, e) =
@@ -214,7 +197,7 @@ pub resumed_begin_lawfully : ResumedBeginLawfully
 resumed_begin_lawfully t point batch workers stop p (s, is, e) =
     let stands = is.text.stands in
     let told = points_are_told_again stream_moves s.design s.grid s.point s.seed stands.point in
-    let lawful : IsLawfulSource (source_of (piece_from s stop)) = record { plan = stands.schedule; words = stream_words s.seed; standing = told.1 } in
+    let lawful : IsLawfulSource (source_of (piece_from s stop)) = record { plan = stands.schedule; words = seeds_give_words s.seed; standing = told.1 } in
     subst (λ q. IsLawfulSource (source_of q)) (sym e) lawful
 
 -- what watchers read

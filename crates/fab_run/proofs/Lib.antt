@@ -27,5 +27,4 @@ pub mod Chaining
 pub mod Showing
 pub mod Watching
 pub mod Alone
-pub mod Proposing
 pub mod Lawful

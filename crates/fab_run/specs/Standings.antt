@@ -1,8 +1,9 @@
 -- The standings that runs lead through, and what watchers of a dial read of them (our own).
-use Rattle.std.specs.Prelude.{ℕ, ◌≡◌, ◌<◌, ◌^◌, ◌⊎◌, List, [], ◌∷◌, Option, All, slice_index}
+use Rattle.std.specs.Prelude.{ℕ, ◌≡◌, ◌⊎◌, List, [], ◌∷◌, Option, All}
 use Rattle.fab_dial.specs.declared.readings.Reading.{Reading}
 use Rattle.fab_dial.specs.Shown.{StartsWith}
 use Rattle.fab_sched.specs.Annealing.{IsLawful}
+use Rattle.fab_commit.specs.Laws.Moves.{AreWords}
 use Rattle.fab_commit.specs.Serial.{IsStanding, from}
 use Rattle.fab_commit.specs.Run.Readings.{reading_at}
 use Rattle.fab_run.specs.declared.inputs.Options.{Options}
@@ -11,10 +12,6 @@ use Rattle.fab_run.specs.Placed.{AskFor, AskToGoOn}
 use Rattle.fab_run.specs.Setting.{Texts}
 use Rattle.fab_run.specs.Shown.{AreMadeAll}
 use Rattle.fab_run.specs.Watched.{OnlyShowed, Source}
-
--- each word of a move is below 2^32
-abbrev pub AreWords : (ℕ → List ℕ) → Type 0
-AreWords words = (k i : ℕ) → slice_index (words k) i < 2 ^ 32
 
 -- the schedule of a run is within its limits, its words are words, and it begins at a standing that fits it
 pub record IsLawfulSource (s : Source) : Type 0 where
