@@ -1,7 +1,7 @@
 //! The output file of a run: its text stays in memory until the run has answered, and the names of the files that the run may leave are tried
 //! before the first move.
 
-ghost use Rattle.std.specs.Prelude.{◌≡◌, [], Some, OnOk, OnErr, IfErr};
+ghost use Rattle.std.specs.Prelude.{◌≡◌, [], true, Some, OnOk, OnErr, IfErr};
 ghost use Rattle.std.specs.Option.{ForSome};
 ghost use Rattle.vplace.specs.Leaving.{IsShutFor, OutPlan, no_plan, plan_of};
 ghost use Rattle.vplace.specs.declared.files.WriteFault.TheVariants.{Unwritable};
@@ -126,6 +126,8 @@ impl<F: NamedFiles, N: Planned> fab_text::Sink for OutFile<'_, F, N> {
     ghost contents = { λ file. Some file.text.items };
 
     ghost failed = { λ file. file.failures };
+
+    ghost may_be_unready = { true };
 
     fn write(&mut self, bytes: &[u8]) -> Result<usize, fab_text::WriteFault> {
         match self.text.write(bytes) {

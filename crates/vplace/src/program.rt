@@ -4,7 +4,7 @@ ghost use Rattle.std.specs.Prelude.{◌≡◌, ◌≢◌, ◌⊎◌, [], map};
 ghost use Rattle.clap.specs.Words.{kind_of};
 ghost use Rattle.vplace.specs.Asking.{AskForHelp, faults};
 ghost use Rattle.vplace.specs.Done.{IsAsAsked, IsChecked, IsExample, IsPlaced, IsResumed, IsTold};
-ghost use Rattle.vplace.specs.Said.{IsFaultSaid};
+ghost use Rattle.vplace.specs.Said.{IsFaultSaid, IsSaid, no_memory_line};
 ghost use Rattle.vplace.specs.Status.{IsRefused};
 
 use crate::checking::{check_files, check_texts};
@@ -36,6 +36,7 @@ fn tell<O: Sink, E: Sink>(alloc: Global, error: &Error, out: &mut O, err: &mut E
     ensures quiet { result ≡ Status.Done → E.contents err.new ≡ E.contents err.old }
     ensures said { result ≢ Status.Done → IsFaultSaid (E.contents err.old) (E.contents err.new) (E.failed err.old) (E.failed err.new) }
     ensures told { result ≡ Status.Done → IsTold (O.contents out.old) (O.contents out.new) }
+    ensures memory { result ≡ Status.NoMemory → IsSaid no_memory_line (E.contents err.old) (E.contents err.new) (E.failed err.old) (E.failed err.new) }
     ensures help { result ≡ Status.Done → (kind_of error.now ≡ ErrorKind.DisplayHelp) ⊎ (kind_of error.now ≡ ErrorKind.DisplayVersion) }
     ensures wrong { kind_of error.now ≢ ErrorKind.DisplayHelp → kind_of error.now ≢ ErrorKind.DisplayVersion → (result ≡ Status.CommandLine) ⊎ (result ≡ Status.NoMemory) }
 {
@@ -71,6 +72,7 @@ fn run<R: AllocGlobal + Threads + Wait + Sync, F: NamedFiles, O: Sink, E: Sink>(
     ensures written { result ≡ Status.Done → O.failed out.new ≡ O.failed out.old }
     ensures quiet { result ≡ Status.Done → E.contents err.new ≡ E.contents err.old }
     ensures said { result ≢ Status.Done → IsFaultSaid (E.contents err.old) (E.contents err.new) (E.failed err.old) (E.failed err.new) }
+    ensures memory { result ≡ Status.NoMemory → IsSaid no_memory_line (E.contents err.old) (E.contents err.new) (E.failed err.old) (E.failed err.new) }
     ensures example { words.now ≡ [] → result ≡ Status.Done → IsExample ARCH.now NET.now PLACE.now (O.contents out.old) (O.contents out.new) }
     ensures decided { result ≡ Status.Done → IsAsAsked ARCH.now NET.now PLACE.now (map (λ word. word.items) words.now) (F.held files.old) (F.held files.new) (O.contents out.old) (O.contents out.new) }
     ensures wrong { words.now ≢ [] → faults (map (λ word. word.items) words.now) ≢ [] → (result ≡ Status.CommandLine) ⊎ ((result ≡ Status.NoMemory) ⊎ AskForHelp (map (λ word. word.items) words.now)) }
@@ -102,8 +104,9 @@ pub fn program<R: AllocGlobal + Threads + Wait + Sync, F: NamedFiles, O: Sink, E
     ensures written { result ≡ 0 → O.failed out.new ≡ O.failed out.old }
     ensures quiet { result ≡ 0 → E.contents err.new ≡ E.contents err.old }
 
-    // If it is not 0, something was said there, unless standard error failed too.
+    // If it is not 0, something was said there, unless standard error failed too; with 3, that there was no memory.
     ensures said { result ≢ 0 → IsFaultSaid (E.contents err.old) (E.contents err.new) (E.failed err.old) (E.failed err.new) }
+    ensures memory { result ≡ 3 → IsSaid no_memory_line (E.contents err.old) (E.contents err.new) (E.failed err.old) (E.failed err.new) }
 
     // With no words it is 0 only if the report of the check of the built-in texts was written.
     ensures example { words.now ≡ [] → result ≡ 0 → IsExample ARCH.now NET.now PLACE.now (O.contents out.old) (O.contents out.new) }
