@@ -1,5 +1,5 @@
 -- What a piece answers and leaves, said of the piece that is asked for.
-use Rattle.std.proofs.Common.{◌≡◌, ℕ, ◌⊎◌, List, Option, sym, ap, subst, ◌∙◌, inl, inr}
+use Rattle.std.proofs.Common.{◌≡◌, ℕ, ◌⊎◌, Bool, List, Option, sym, ap, subst, ◌∙◌, inl, inr}
 use Rattle.std.specs.Prelude.{Result, Ok, Err, IfOk, IfErr, OnErr}
 use Rattle.fab_file.specs.declared.fault.PlaceFault.TheVariants.{Write}
 use Rattle.fab_run.specs.Check.{report_failed_with}
@@ -31,11 +31,11 @@ pub report_cut_asked : (Asked : Piece → Type 0) (p : Piece) (r : Answered) (ol
 report_cut_asked Asked p (Ok out) old new asked cut = tt
 report_cut_asked Asked p (Err e) old new asked cut = λ q. (p, asked, cut q)
 
-pub place_cut_asked : (Asked : Piece → Type 0) (t : Texts) (p : Piece) (r : Answered) (report_old report_new place_old place_new : Option (List ℕ)) → Asked p
-    → IfErr r (λ e. e ≡ Place Write → IsUnreadyFor p report_old report_new place_old place_new ⊎ IsTextCut t p report_old report_new place_old place_new)
-    → IfErr r (λ e. e ≡ Place Write → IsPlaceCut Asked t report_old report_new place_old place_new)
-place_cut_asked Asked t p (Ok out) report_old report_new place_old place_new asked cut = tt
-place_cut_asked Asked t p (Err e) report_old report_new place_old place_new asked cut = λ q. (p, asked, cut q)
+pub place_cut_asked : (may_be_unready : Bool) (Asked : Piece → Type 0) (t : Texts) (p : Piece) (r : Answered) (report_old report_new place_old place_new : Option (List ℕ)) → Asked p
+    → IfErr r (λ e. e ≡ Place Write → IsUnreadyFor may_be_unready p report_old report_new place_old place_new ⊎ IsTextCut t p report_old report_new place_old place_new)
+    → IfErr r (λ e. e ≡ Place Write → IsPlaceCut may_be_unready Asked t report_old report_new place_old place_new)
+place_cut_asked may_be_unready Asked t p (Ok out) report_old report_new place_old place_new asked cut = tt
+place_cut_asked may_be_unready Asked t p (Err e) report_old report_new place_old place_new asked cut = λ q. (p, asked, cut q)
 
 -- one of three faults
 by_device : (P : RunFault → Type 0) (a b c d : ℕ) (e : RunFault) → P NoMemory → P Report → P (Place Write) → IsDeviceFault a b c d e → P e

@@ -1,6 +1,6 @@
 -- What a run answers and writes (our own): a piece of annealing its design one move at a time. Snapshots do not occur here; batch and
 -- workers occur only where their limits are checked, and the batch where the moves that are judged again are counted.
-use Rattle.std.specs.Prelude.{ℕ, ◌≡◌, ◌⊎◌, List, [], Option}
+use Rattle.std.specs.Prelude.{ℕ, ◌≡◌, ◌⊎◌, Bool, true, List, [], Option}
 use Rattle.std.specs.Io.KnownBytes.{Appends}
 use Rattle.fab_text.specs.Lines.{lines}
 use Rattle.fab_text.specs.Failures.{grown}
@@ -107,12 +107,13 @@ pub record IsTextCut (t : Texts) (p : Piece) (report_old report_new place_old pl
   pub finished : answer.ending ≡ Finished
   pub place : IsCut (text_by t p.run.problem.design p.run.problem.grid answer.placement.sites) place_old place_new
 
--- the writer of the place text was not ready: only what the report shows before the first move was written
-pub record IsUnreadyFor (p : Piece) (report_old report_new place_old place_new : Option (List ℕ)) : Type 0 where
+-- the writer of the place text was not ready, as its type allows: only what the report shows before the first move was written
+pub record IsUnreadyFor (may_be_unready : Bool) (p : Piece) (report_old report_new place_old place_new : Option (List ℕ)) : Type 0 where
+  pub may : may_be_unready ≡ true
   pub told : Appends report_old report_new p.head
   pub place : place_new ≡ place_old
 
 -- the writer of the place text failed: it was not ready, or it took only a beginning
-abbrev pub IsPlaceCut : (Piece → Type 0) → Texts → Option (List ℕ) → Option (List ℕ) → Option (List ℕ) → Option (List ℕ) → Type 0
-IsPlaceCut Asked t report_old report_new place_old place_new =
-    (p : Piece) × Asked p × (IsUnreadyFor p report_old report_new place_old place_new ⊎ IsTextCut t p report_old report_new place_old place_new)
+abbrev pub IsPlaceCut : Bool → (Piece → Type 0) → Texts → Option (List ℕ) → Option (List ℕ) → Option (List ℕ) → Option (List ℕ) → Type 0
+IsPlaceCut may_be_unready Asked t report_old report_new place_old place_new =
+    (p : Piece) × Asked p × (IsUnreadyFor may_be_unready p report_old report_new place_old place_new ⊎ IsTextCut t p report_old report_new place_old place_new)

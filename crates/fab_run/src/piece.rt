@@ -109,7 +109,7 @@ fn tell_start<W: Sink, P: Sink>(
     ensures told { OnOk result (Appends (W.contents report.old) (W.contents report.new) head.now) }
     ensures cut { OnErr result (IsBegun (W.contents report.old) (W.contents report.new) head.now) }
     ensures short { IfErr result (λ e. e ≡ Report → IsCut head.now (W.contents report.old) (W.contents report.new)) }
-    ensures unready { IfErr result (λ e. e ≡ Place Write → Appends (W.contents report.old) (W.contents report.new) head.now) }
+    ensures unready { IfErr result (λ e. e ≡ Place Write → (P.may_be_unready ≡ true) × Appends (W.contents report.old) (W.contents report.new) head.now) }
     ensures place { P.contents place.new ≡ P.contents place.old }
     ensures sound { OnOk result ((W.failed report.new ≡ W.failed report.old) × (P.failed place.new ≡ P.failed place.old)) }
     ensures fault { IfErr result (IsDeviceFault (W.failed report.old) (W.failed report.new) (P.failed place.old) (P.failed place.new)) }
@@ -136,7 +136,7 @@ fn start_beside<E: Task<T>, T: Drop, J: Naming, W: Sink, P: Sink>(
     ensures told { OnOk result (Appends (W.contents report.old) (W.contents report.new) head.now) }
     ensures cut { OnErr result (IsBegun (W.contents report.old) (W.contents report.new) head.now) }
     ensures short { IfErr result (λ e. e ≡ Report → IsCut head.now (W.contents report.old) (W.contents report.new)) }
-    ensures unready { IfErr result (λ e. e ≡ Place Write → Appends (W.contents report.old) (W.contents report.new) head.now) }
+    ensures unready { IfErr result (λ e. e ≡ Place Write → (P.may_be_unready ≡ true) × Appends (W.contents report.old) (W.contents report.new) head.now) }
     ensures place { P.contents place.new ≡ P.contents place.old }
     ensures sound { OnOk result ((W.failed report.new ≡ W.failed report.old) × (P.failed place.new ≡ P.failed place.old)) }
     ensures fault { IfErr result (IsDeviceFault (W.failed report.old) (W.failed report.new) (P.failed place.old) (P.failed place.new)) }
@@ -222,7 +222,7 @@ fn anneal_told<
     ensures annealed { IfOk result (λ out. IsToldPiece (piece_of stream_moves anneal.entry piece.now.head.items piece.now.pace.stop) (answer_of out) (W.contents report.old) (W.contents report.new)) }
     ensures cut { OnErr result (IsReportOf (piece_of stream_moves anneal.entry piece.now.head.items piece.now.pace.stop) (W.contents report.old) (W.contents report.new)) }
     ensures short { IfErr result (λ e. e ≡ Report → IsReportCutOf (piece_of stream_moves anneal.entry piece.now.head.items piece.now.pace.stop) (W.contents report.old) (W.contents report.new)) }
-    ensures unready { IfErr result (λ e. e ≡ Place Write → Appends (W.contents report.old) (W.contents report.new) piece.now.head.items) }
+    ensures unready { IfErr result (λ e. e ≡ Place Write → (P.may_be_unready ≡ true) × Appends (W.contents report.old) (W.contents report.new) piece.now.head.items) }
     ensures place { P.contents place.new ≡ P.contents place.old }
     ensures sound { OnOk result ((W.failed report.new ≡ W.failed report.old) × (P.failed place.new ≡ P.failed place.old)) }
     ensures fault { IfErr result (IsDeviceFault (W.failed report.old) (W.failed report.new) (P.failed place.old) (P.failed place.new)) }
@@ -305,7 +305,7 @@ pub(crate) fn run_piece<G: Gate, R: AllocGlobal + Threads + Wait + Sync, W: Sink
     ensures cut { OnErr result (IsReportOf (piece_of stream_moves anneal.entry piece.now.head.items piece.now.pace.stop) (W.contents report.old) (W.contents report.new)) }
     ensures report_cut { IfErr result (λ e. e ≡ Report → IsReportCutOf (piece_of stream_moves anneal.entry piece.now.head.items piece.now.pace.stop) (W.contents report.old) (W.contents report.new)) }
     ensures unplaced { IfErr result (λ e. e ≢ Place Write → P.contents place.new ≡ P.contents place.old) }
-    ensures place_cut { IfErr result (λ e. e ≡ Place Write → IsUnreadyFor (piece_of stream_moves anneal.entry piece.now.head.items piece.now.pace.stop) (W.contents report.old) (W.contents report.new) (P.contents place.old) (P.contents place.new) ⊎ IsTextCut (texts_of inputs.now) (piece_of stream_moves anneal.entry piece.now.head.items piece.now.pace.stop) (W.contents report.old) (W.contents report.new) (P.contents place.old) (P.contents place.new)) }
+    ensures place_cut { IfErr result (λ e. e ≡ Place Write → IsUnreadyFor P.may_be_unready (piece_of stream_moves anneal.entry piece.now.head.items piece.now.pace.stop) (W.contents report.old) (W.contents report.new) (P.contents place.old) (P.contents place.new) ⊎ IsTextCut (texts_of inputs.now) (piece_of stream_moves anneal.entry piece.now.head.items piece.now.pace.stop) (W.contents report.old) (W.contents report.new) (P.contents place.old) (P.contents place.new)) }
     ensures sound { OnOk result ((W.failed report.new ≡ W.failed report.old) × (P.failed place.new ≡ P.failed place.old)) }
     ensures fault { IfErr result (IsDeviceFault (W.failed report.old) (W.failed report.new) (P.failed place.old) (P.failed place.new)) }
     ensures dial { shower.new.dial ≡ shower.old.dial }

@@ -102,7 +102,7 @@ pub(crate) fn resume_run_shown<G: Gate, R: AllocGlobal + Threads + Wait + Sync, 
     ensures cut { OnErr result ((W.contents report.new ≡ W.contents report.old) ⊎ IsReportBegun (AskToGoOn (texts_of inputs.now) point.now batch workers stop) (W.contents report.old) (W.contents report.new)) }
     ensures report_cut { IfErr result (λ e. e ≡ Report → IsReportCut (AskToGoOn (texts_of inputs.now) point.now batch workers stop) (W.contents report.old) (W.contents report.new)) }
     ensures unplaced { IfErr result (λ e. e ≢ Place Write → P.contents place.new ≡ P.contents place.old) }
-    ensures place_cut { IfErr result (λ e. e ≡ Place Write → IsPlaceCut (AskToGoOn (texts_of inputs.now) point.now batch workers stop) (texts_of inputs.now) (W.contents report.old) (W.contents report.new) (P.contents place.old) (P.contents place.new)) }
+    ensures place_cut { IfErr result (λ e. e ≡ Place Write → IsPlaceCut P.may_be_unready (AskToGoOn (texts_of inputs.now) point.now batch workers stop) (texts_of inputs.now) (W.contents report.old) (W.contents report.new) (P.contents place.old) (P.contents place.new)) }
     ensures sound { OnOk result ((W.failed report.new ≡ W.failed report.old) × (P.failed place.new ≡ P.failed place.old)) }
     ensures failed { IfErr result (λ e. (W.failed report.new ≡ report_failed_with e (W.failed report.old)) × (P.failed place.new ≡ place_failed_with e (P.failed place.old))) }
     ensures shown { OnOk result (HaveShown (AskToGoOn (texts_of inputs.now) point.now batch workers stop) batch shower.old.shown shower.new.shown) }
@@ -162,7 +162,7 @@ pub fn resume_run<R: AllocGlobal + Threads + Wait + Sync, W: Sink, P: Sink>(
     // The place text is written after the whole report, and only its own writer can cut it short. If that writer is not ready, no move is
     // made.
     ensures unplaced { IfErr result (λ e. e ≢ Place Write → P.contents place.new ≡ P.contents place.old) }
-    ensures place_cut { IfErr result (λ e. e ≡ Place Write → IsPlaceCut (AskToGoOn (texts_of inputs.now) point.now batch workers stop) (texts_of inputs.now) (W.contents report.old) (W.contents report.new) (P.contents place.old) (P.contents place.new)) }
+    ensures place_cut { IfErr result (λ e. e ≡ Place Write → IsPlaceCut P.may_be_unready (AskToGoOn (texts_of inputs.now) point.now batch workers stop) (texts_of inputs.now) (W.contents report.old) (W.contents report.new) (P.contents place.old) (P.contents place.new)) }
     // A writer failed only if the answer says so.
     ensures sound { OnOk result ((W.failed report.new ≡ W.failed report.old) × (P.failed place.new ≡ P.failed place.old)) }
     ensures failed { IfErr result (λ e. (W.failed report.new ≡ report_failed_with e (W.failed report.old)) × (P.failed place.new ≡ place_failed_with e (P.failed place.old))) }

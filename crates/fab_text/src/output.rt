@@ -1,6 +1,6 @@
 //! Whole writes: a sink for bytes, and a write that goes on until all bytes are written or one write fails.
 
-ghost use Rattle.std.specs.Prelude.{◌≡◌, ℕ, Option, Some, ◌≤◌, ◌<◌, List, length, take, IfOk, OnOk, OnErr};
+ghost use Rattle.std.specs.Prelude.{◌≡◌, ℕ, Bool, true, false, Option, Some, ◌≤◌, ◌<◌, List, length, take, IfOk, OnOk, OnErr};
 ghost use Rattle.std.specs.Io.KnownBytes.{Appends, WriteAppends};
 ghost use Rattle.fab_text.specs.Failures.{grown, failed_after, failed_unless};
 ghost use Rattle.fab_text.specs.FaultTexts.{write_fault_text};
@@ -30,6 +30,9 @@ pub trait Sink {
     /// How many writes have failed.
     ghost failed: { Self → ℕ };
 
+    /// Whether a sink of this type may answer that it is not ready.
+    ghost may_be_unready: { Bool };
+
     /// Takes the first `n` of the bytes and returns `n`. They are appended to its contents. A fault takes none.
     fn write(&mut self, bytes: &[u8]) -> Result<usize, WriteFault>
         ensures within { IfOk result (λ n. n ≤ length bytes.now) }
@@ -45,6 +48,7 @@ pub trait Sink {
     /// the work is not wasted. Takes nothing. A writer that is not ready counts one more failure; one that cannot tell is ready.
     fn is_ready(&mut self) -> bool
         ensures kept { contents self.new ≡ contents self.old }
+        ensures ready { result ≡ false → may_be_unready ≡ true }
         ensures failed { failed self.new ≡ failed_unless result (failed self.old) }
     {
         true
@@ -88,6 +92,8 @@ impl<W: Write> Sink for Counted<W> {
     ghost contents = { λ c. c.contents };
 
     ghost failed = { λ c. c.failures };
+
+    ghost may_be_unready = { false };
 
     fn write(&mut self, bytes: &[u8]) -> Result<usize, WriteFault> {
         match self.inner.write(bytes) {

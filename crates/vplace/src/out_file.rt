@@ -58,6 +58,8 @@ impl<F: NamedFiles, N: Named> fab_text::Sink for OutFile<'_, F, N> {
 
     ghost failed = { λ file. file.failures };
 
+    ghost may_be_unready = { true };
+
     fn write(&mut self, bytes: &[u8]) -> Result<usize, fab_text::WriteFault> {
         match self.text.write(bytes) {
             Ok(taken) => {

@@ -56,7 +56,7 @@ returns-clause-place_cut g c =
     let given : IsSetting t o s = c.in_ok-design.ensures.found in
     let p = piece_of stream_moves c.in_ok-anneal.anneal c.in_ok-anneal.head.items o.stop in
     let e : p ≡ piece_by s o.seed o.stop = λ i. piece_of stream_moves (c.in_ok-anneal.ensures.stands i) (c.in_ok-anneal.ensures.head i) o.stop in
-    place_cut_asked (AskFor t o) t p c.run_piece.result (g.W.Sink.contents c.args.report.now) (g.W.Sink.contents c.run_piece.new.report) (g.P.Sink.contents c.args.place.now) (g.P.Sink.contents c.run_piece.new.place) (s, given, e) c.run_piece.ensures.place_cut
+    place_cut_asked g.P.Sink.may_be_unready (AskFor t o) t p c.run_piece.result (g.W.Sink.contents c.args.report.now) (g.W.Sink.contents c.run_piece.new.report) (g.P.Sink.contents c.args.place.now) (g.P.Sink.contents c.run_piece.new.place) (s, given, e) c.run_piece.ensures.place_cut
 
 pub returns-clause-only : goal.returns-clause-only
 returns-clause-only g c other known = fault_of_device (λ f. ¬ (IsRefusal f)) _ _ _ _ c.run_piece.result (λ h. h) (λ h. h) (λ h. h) c.run_piece.ensures.fault

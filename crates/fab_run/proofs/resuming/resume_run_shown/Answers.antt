@@ -69,7 +69,7 @@ returns-clause-place_cut g c =
     let given : IsGoing t point batch workers s = c.in_ok-design.ensures.found in
     let p = piece_of stream_moves c.in_ok-anneal.anneal c.new-2.result.items c.args.stop in
     let e : p ≡ piece_from s c.args.stop = (λ i. piece_of stream_moves (c.in_ok-anneal.ensures i) (c.new-2.ensures.items i) c.args.stop) ∙ ap (λ w. piece_of stream_moves (going_on s.design s.grid s.point w) [] c.args.stop) c.new.ensures in
-    place_cut_asked (AskToGoOn t point batch workers c.args.stop) t p c.run_piece.result (g.W.Sink.contents c.args.report.now) (g.W.Sink.contents c.run_piece.new.report) (g.P.Sink.contents c.args.place.now) (g.P.Sink.contents c.run_piece.new.place) (s, given, e) c.run_piece.ensures.place_cut
+    place_cut_asked g.P.Sink.may_be_unready (AskToGoOn t point batch workers c.args.stop) t p c.run_piece.result (g.W.Sink.contents c.args.report.now) (g.W.Sink.contents c.run_piece.new.report) (g.P.Sink.contents c.args.place.now) (g.P.Sink.contents c.run_piece.new.place) (s, given, e) c.run_piece.ensures.place_cut
 
 pub returns-clause-only : goal.returns-clause-only
 returns-clause-only g c other known = fault_of_device (λ f. ¬ (IsRefusal f)) _ _ _ _ c.run_piece.result (λ h. h) (λ h. h) (λ h. h) c.run_piece.ensures.fault
