@@ -12,6 +12,8 @@ mod crews;
 mod designs;
 pub mod fault;
 pub mod inputs;
+#[cfg(test)]
+mod large_tests;
 pub mod laws;
 #[cfg(test)]
 mod narrow;
