@@ -16,7 +16,8 @@ use Rattle.fab_sched.specs.declared.schedules.Cooling.TheVariants.{Factor, Adapt
 use Rattle.fab_sched.specs.Annealing.{IsLawful, MayStand, MayStandBy, Plan, factor_after, hot, next_heat, next_range}
 use Rattle.fab_sched.proofs.Falling.{factor_small, stands_on}
 use Rattle.fab_dial.specs.declared.readings.Reading.{Reading}
-use Rattle.fab_move.specs.Stream.{stream_moves, stream_starts, stream_word}
+use Rattle.fab_move.specs.Stream.{stream_moves, stream_starts}
+use Rattle.fab_move.proofs.Streams.{stream_small}
 use Rattle.fab_commit.specs.Serial.{HeatStands, IsStanding, Run, Standing, after_move, from, judged_here, one_if, side, step}
 use Rattle.fab_commit.specs.Laws.Moves.{ProposesKinds}
 use Rattle.fab_commit.proofs.ModelLemmas.Proposing.{proposes_kinds, seeds_give_words}
