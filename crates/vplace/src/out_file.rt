@@ -1,6 +1,6 @@
 //! The output file of a run: its text stays in memory until the run has answered, and its name is tried before the first move.
 
-ghost use Rattle.std.specs.Prelude.{◌≡◌, ℕ, List, [], Some};
+ghost use Rattle.std.specs.Prelude.{◌≡◌, ℕ, List, [], Some, true};
 ghost use Rattle.std.specs.Option.{ForSome};
 
 use crate::files::{NamedFiles, WriteFault};
