@@ -1,21 +1,19 @@
 -- Words below 2^32 propose sites of the block's kind.
-use Rattle.std.proofs.Common.{◌≡◌, ℕ, zero, suc, ◌+◌, ◌-◌, ◌*◌, ◌/◌, ◌^◌, ◌<◌, ◌≤◌, min, max, Bool, true, false, cond, List, [], ◌∷◌, length, Option, Some, None, slice_get, refl, sym, ap, subst, ◌∙◌, arith}
+use Rattle.std.proofs.Common.{◌≡◌, ℕ, zero, suc, ◌+◌, ◌-◌, ◌/◌, ◌^◌, ◌<◌, ◌≤◌, min, max, Bool, true, false, cond, List, length, Option, Some, None, slice_get, refl, sym, ap, ◌∙◌, arith}
 use Rattle.std.specs.Prelude.{nat_lt, slice_index}
 use Rattle.std.specs.List.{list_any}
 use Rattle.std.proofs.lemmas.Bool.{and_parts, false≢true, ltb-true}
 use Rattle.fab_arch.specs.declared.array.Site.{Site}
-use Rattle.fab_arch.specs.declared.array.SiteKind.{SiteKind}
 use Rattle.fab_arch.specs.declared.array.SiteKind.TheVariants.{Logic, Pad}
 use Rattle.fab_arch.specs.Grid.{GridShape, perimeter, is_position, is_logic_site, is_pad_site, kind_at}
 use Rattle.fab_net.specs.Netlist.{Netlist, is_logic_at}
-use Rattle.fab_site.specs.declared.pieces.Swap.{Swap}
-use Rattle.fab_site.specs.Placement.{Fits, IsLegal, kind_wanted, same_site, site_of, at}
+use Rattle.fab_site.specs.Placement.{Fits, site_of}
 use Rattle.fab_site.specs.Words.{pick_of}
 use Rattle.fab_site.proofs.Sites.{logic_bounds}
 use Rattle.fab_site.proofs.Stock.{pick_below}
 use Rattle.fab_move.specs.declared.proposals.Proposal.{Proposal}
 use Rattle.fab_move.specs.declared.proposals.Proposal.TheVariants.{Nothing, Void, Move}
-use Rattle.fab_move.specs.Propose.{movable, near, near_positions, propose_to, propose_held, propose_for, proposal, target, logic_target, pad_target}
+use Rattle.fab_move.specs.Propose.{movable, near, near_positions, propose_for, proposal, target, logic_target, pad_target}
 use Rattle.fab_move.specs.Judge.{Problem}
 use Rattle.fab_move.proofs.Choices.{chosen_below}
 use Rattle.fab_move.proofs.Streams.{stream_small}
