@@ -165,13 +165,27 @@ no_device run_fault.WorkersOutOfRange h q = absurd cc
 no_device run_fault.Report h q = h
 no_device run_fault.NoMemory h q = absurd cc
 
--- in a check it is that of the report's writer, and its line is said
-pub device_of_check : (r : Status) (e : RunFault) (net : List ℕ) (Said : List ℕ → Type 0) (old new : ℕ) → IsTextFault e ⊎ (e ≡ run_fault.Report)
+-- in a check it is that of the report's writer, and its line is said; all checks had passed
+pub device_of_check : (P : RunFault → Type 0) (r : Status) (e : RunFault) (net : List ℕ) (Said : List ℕ → Type 0) (old new : ℕ) → P e → IsTextFault e ⊎ (e ≡ run_fault.Report)
     → ((status_of e ≡ status.NoMemory → ⊥) × (r ≡ status_of e) × Said (fault_line e net)) ⊎ ((r ≡ status.NoMemory) × Said no_memory_line)
-    → new ≡ report_failed_with e old → r ≡ status.Device → (new ≡ grown old) × Said report_line
-device_of_check r e net Said old new (inl text) (inl s) failed q = absurd (no_device e text (sym s.1 ∙ q))
-device_of_check r e net Said old new (inr is) (inl s) failed q = (failed ∙ ap (λ f. report_failed_with f old) is, subst (λ x. Said (fault_line x net)) is s.2)
-device_of_check r e net Said old new h (inr n) failed q = absurd (let no : status.NoMemory ≡ status.Device = sym n.0 ∙ q in cc)
+    → new ≡ report_failed_with e old → r ≡ status.Device → P run_fault.Report × (new ≡ grown old) × Said report_line
+device_of_check P r e net Said old new h (inl text) (inl s) failed q = absurd (no_device e text (sym s.1 ∙ q))
+device_of_check P r e net Said old new h (inr is) (inl s) failed q = (subst P is h, failed ∙ ap (λ f. report_failed_with f old) is, subst (λ x. Said (fault_line x net)) is s.2)
+device_of_check P r e net Said old new h k (inr n) failed q = absurd (let no : status.NoMemory ≡ status.Device = sym n.0 ∙ q in cc)
+
+-- what was written of a report, by whether its writer failed
+pub cut_of_check : (e : RunFault) (Same Cut : Type 0) → (¬ (e ≡ run_fault.Report) → Same) → (e ≡ run_fault.Report → Cut) → Same ⊎ Cut
+cut_of_check run_fault.Report Same Cut same cut = inr (cut refl)
+cut_of_check (run_fault.Arch e) Same Cut same cut = inl (same (λ q. absurd cc))
+cut_of_check (run_fault.Net e) Same Cut same cut = inl (same (λ q. absurd cc))
+cut_of_check (run_fault.Pads e) Same Cut same cut = inl (same (λ q. absurd cc))
+cut_of_check (run_fault.Place e) Same Cut same cut = inl (same (λ q. absurd cc))
+cut_of_check (run_fault.Point e) Same Cut same cut = inl (same (λ q. absurd cc))
+cut_of_check (run_fault.Size e) Same Cut same cut = inl (same (λ q. absurd cc))
+cut_of_check (run_fault.Schedule e) Same Cut same cut = inl (same (λ q. absurd cc))
+cut_of_check run_fault.BatchOutOfRange Same Cut same cut = inl (same (λ q. absurd cc))
+cut_of_check run_fault.WorkersOutOfRange Same Cut same cut = inl (same (λ q. absurd cc))
+cut_of_check run_fault.NoMemory Same Cut same cut = inl (same (λ q. absurd cc))
 
 -- what is said of a fault of the inputs
 pub memory_of : (r : Status) (e : RunFault) (net : List ℕ) (Said : List ℕ → Type 0)

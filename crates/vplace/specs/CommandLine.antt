@@ -1,4 +1,4 @@
--- The command line (our own): how its words are shown to the parser, which take only text, and the subcommands with their options.
+-- The command line (our own): how its words are shown to the parser, which takes only text, and the subcommands with their options.
 use Rattle.std.specs.Prelude.{ℕ, ◌+◌, ◌-◌, ◌&&◌, Bool, true, false, not, nat_le, nat_lt, if◌then◌else◌, List, [], ◌∷◌, map, codes, Some, None, pos, encode_utf8}
 use Rattle.std.specs.List.{flat_map, list_any}
 use Rattle.std.specs.Str.{chars, encode_utf8_all, is_utf8}
@@ -13,7 +13,7 @@ use Rattle.vplace.specs.declared.options.Takes.TheVariants.{NeededFile, File, Si
 abbrev pub letter_of : ℕ → ℕ
 letter_of byte = if nat_lt byte 128 then byte else 1113856 + byte
 
--- a letter from U+10FF80 on, which is the end of Unicode's private range, stands for a byte
+-- a letter from U+10FF80 on, one of the last of Unicode, stands for a byte
 abbrev pub is_stand_in : ℕ → Bool
 is_stand_in letter = nat_le 1113984 letter
 
@@ -52,7 +52,7 @@ side name = record (option name) { parser = Some (Signed (pos 0) (pos 65535)) }
 abbrev pub whole : Text → Rule
 whole name = record (option name) { parser = Some (Unsigned 0 18446744073709551615) }
 
--- the option with a value for where it is not given
+-- the option with a default
 abbrev pub with_default : Text → Rule → Rule
 with_default value rule = record rule { defaults = value ∷ [] }
 

@@ -12,7 +12,7 @@ use Rattle.vplace.specs.Files.{Held}
 use Rattle.vplace.specs.Placing.{AreGiven, DidPlace}
 use Rattle.vplace.specs.Resuming.{DidResume}
 
--- some text was written: help, or the version
+-- a text that is not empty was written
 abbrev pub IsTold : Option (List ℕ) → Option (List ℕ) → Type 0
 IsTold old new = (text : List ℕ) × (0 < length text) × Appends old new text
 

@@ -26,6 +26,7 @@ abbrev pub save_or_out : List ℕ → Option (List ℕ) → List ℕ
 save_or_out out (Some save) = save
 save_or_out out None = out
 
+-- the same for names that are lent
 abbrev pub point_name : OutNames → List ℕ
 point_name n = save_or_out n.out.now (option_copied n.save)
 
@@ -37,8 +38,8 @@ abbrev pub name_for : List ℕ → Option (List ℕ) → OutRole → List ℕ
 name_for out save Place = out
 name_for out save Point = save_or_out out save
 
--- what is known of the files of a run before its first move: the out name, the save name if there is one, how the run ends as far as that is
--- known, and which names no bytes can be put at
+-- what is known of the files of a run before its first move: the out name, the save name if there is one, how the run ends as far as
+-- that is known, and which names no bytes can be put at
 pub record OutPlan : Type 0 where
   pub out : List ℕ
   pub save : Option (List ℕ)
@@ -48,9 +49,11 @@ pub record OutPlan : Type 0 where
 abbrev pub plan_for : List ℕ → Option (List ℕ) → Forecast → Option Shut → OutPlan
 plan_for out save f shut = record { out = out; save = save; forecast = f; shut = shut }
 
+-- the same for names that are lent
 abbrev pub plan_of : OutNames → Forecast → Option Shut → OutPlan
 plan_of n f shut = plan_for n.out.now (option_copied n.save) f shut
 
+-- a plan for a type that no run uses
 abbrev pub no_plan : OutPlan
 no_plan = plan_for [] None Finishes None
 
@@ -73,8 +76,8 @@ abbrev pub IsPutInVain : (Answer → List ℕ → Type 0) → List ℕ → Optio
 IsPutInVain IsAnswer out save shut Said =
     (a : Answer) × (place : List ℕ) × IsAnswer a place × IsShut shut (name_for out save (role_by a.ending)) × Said (unwritable_line (role_by a.ending))
 
--- a device failed in a run, and that is what is said: the report's writer; or a name that was tried before the first move; or, after the
--- last one, the name of what the run left
+-- a device failed in a run, and that is what is said: the report's writer; or a name that the run may need by its forecast; or the name of
+-- what it left. When a name was tried no clause says
 abbrev pub IsDeviceTold : (Forecast → Type 0) → (Answer → List ℕ → Type 0) → List ℕ → Option (List ℕ) → Option Shut → ℕ → ℕ → (List ℕ → Type 0) → Type 0
 IsDeviceTold IsOf IsAnswer out save shut failed_old failed_new Said =
     ((failed_new ≡ grown failed_old) × Said report_line)

@@ -5,6 +5,7 @@ use Rattle.fab_text.specs.Failures.{grown}
 use Rattle.fab_text.specs.FaultTexts.{num_fault_text}
 use Rattle.fab_text.specs.declared.numbers.NumFault.TheVariants.{BadDigit}
 use Rattle.fab_file.specs.declared.fault.PlaceFault.TheVariants.{Write}
+use Rattle.fab_file.specs.Written.{IsCut}
 use Rattle.fab_run.specs.declared.fault.RunFault.{RunFault}
 use Rattle.fab_run.specs.declared.fault.RunFault.TheVariants.{Place as RunPlace}
 use Rattle.fab_run.specs.FaultLines.{fault_line}
@@ -23,9 +24,10 @@ use Rattle.vplace.specs.declared.asked.Number.TheVariants.{InitT, ExitT, AlphaT}
 use Rattle.vplace.specs.declared.asked.WordFault.{WordFault}
 use Rattle.vplace.specs.declared.asked.WordFault.TheVariants.{SizeInPart, StopInPart, BadNumber}
 
--- the line was written, with a line feed at its end, unless the writer failed
+-- the line was written, with a line feed at its end; or the writer failed, and took only a beginning of it
 abbrev pub IsSaid : List ℕ → Option (List ℕ) → Option (List ℕ) → ℕ → ℕ → Type 0
-IsSaid line old new failed_old failed_new = Appends old new (line ++ codes "\n") ⊎ (failed_new ≡ grown failed_old)
+IsSaid line old new failed_old failed_new =
+    Appends old new (line ++ codes "\n") ⊎ ((failed_new ≡ grown failed_old) × IsCut (line ++ codes "\n") old new)
 
 -- something was said: a text that is not empty was written, unless the writer failed
 abbrev pub IsFaultSaid : Option (List ℕ) → Option (List ℕ) → ℕ → ℕ → Type 0
@@ -53,8 +55,8 @@ abbrev pub IsUnread : Option Held → Role → List ℕ → Status → (List ℕ
 IsUnread held role name status Said =
     ((status ≡ Device) × Lacks held name × Said (unreadable_line role)) ⊎ ((status ≡ NoMemory) × Said no_memory_line)
 
--- what is said of a run that gave no answer: that memory ran out, for the run or for the line of its fault; for a place text whose writer
--- failed, which name was refused; for any other fault its line
+-- what is said of a run that gave no answer: that memory ran out (for the run, its place text, a place at a name, or the line of its fault);
+-- for a place text whose writer failed otherwise, which name was refused; for any other fault its line
 abbrev pub IsFaultTold : RunFault → Option Refusal → List ℕ → Status → (List ℕ → Type 0) → Type 0
 IsFaultTold fault refusal net status Said =
     ((status ≡ NoMemory) × Said no_memory_line)

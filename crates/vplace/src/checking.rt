@@ -5,7 +5,8 @@ ghost use Rattle.fab_arch.specs.declared.array.Site.{Site};
 ghost use Rattle.fab_arch.specs.Grid.{GridShape};
 ghost use Rattle.fab_net.specs.Netlist.{Netlist};
 ghost use Rattle.fab_text.specs.Failures.{grown};
-ghost use Rattle.fab_run.specs.Check.{AreChecked, FaultOf, IsReported};
+ghost use Rattle.fab_run.specs.Check.{AreChecked, FaultOf, IsCut, IsReported};
+ghost use Rattle.fab_run.specs.declared.fault.RunFault.TheVariants.{Report};
 ghost use Rattle.vplace.specs.Files.{Held};
 ghost use Rattle.vplace.specs.Said.{IsFaultSaid, IsSaid, IsToldRefusal, no_memory_line, report_line};
 ghost use Rattle.vplace.specs.Placing.{AreGiven, IsCheckUnread};
@@ -41,8 +42,10 @@ pub fn check_files<F: NamedFiles, O: Sink, E: Sink>(
     ensures refused { result ≡ Status.Refused → (arch net place : List ℕ) × AreGiven (F.held files.now) names.now arch net place × IsToldRefusal (FaultOf arch net place) net result (λ line. IsSaid line (E.contents err.old) (E.contents err.new) (E.failed err.old) (E.failed err.new)) }
     // Files in memory that mean a legal placement are never refused.
     ensures only { (h : Held) (arch net place : List ℕ) (d : Netlist) (g : GridShape) (sites : List Site) → F.held files.now ≡ Some h → AreGiven (Some h) names.now arch net place → AreChecked arch net place d g sites → (result ≡ Status.Done) ⊎ ((result ≡ Status.NoMemory) ⊎ (result ≡ Status.Device)) }
-    // A device failed only if a file is not there, or if the report's writer failed.
-    ensures device { result ≡ Status.Device → IsCheckUnread (F.held files.now) names.now result (λ line. IsSaid line (E.contents err.old) (E.contents err.new) (E.failed err.old) (E.failed err.new)) ⊎ ((O.failed out.new ≡ grown (O.failed out.old)) × IsSaid report_line (E.contents err.old) (E.contents err.new) (E.failed err.old) (E.failed err.new)) }
+    // The status is that of a device only if a file is not there; or if all checks passed, and the report's writer failed.
+    ensures device { result ≡ Status.Device → IsCheckUnread (F.held files.now) names.now result (λ line. IsSaid line (E.contents err.old) (E.contents err.new) (E.failed err.old) (E.failed err.new)) ⊎ ((arch net place : List ℕ) × AreGiven (F.held files.now) names.now arch net place × FaultOf arch net place Report × (O.failed out.new ≡ grown (O.failed out.old)) × IsSaid report_line (E.contents err.old) (E.contents err.new) (E.failed err.old) (E.failed err.new)) }
+    // If it is not done, nothing of the report was written, or a beginning that is not all of it.
+    ensures cut { result ≢ Status.Done → (O.contents out.new ≡ O.contents out.old) ⊎ ((arch net place : List ℕ) × AreGiven (F.held files.now) names.now arch net place × IsCut arch net place (O.contents out.old) (O.contents out.new)) }
     ensures memory { result ≡ Status.NoMemory → IsSaid no_memory_line (E.contents err.old) (E.contents err.new) (E.failed err.old) (E.failed err.new) }
     ensures silent { result ≡ Status.Refused → O.contents out.new ≡ O.contents out.old }
     ensures written { result ≡ Status.Done → O.failed out.new ≡ O.failed out.old }
@@ -92,8 +95,10 @@ pub fn check_texts<O: Sink, E: Sink>(
     // Texts that mean all this are never refused.
     ensures only { (d : Netlist) (g : GridShape) (sites : List Site) → AreChecked arch.now net.now place.now d g sites → (result ≡ Status.Done) ⊎ ((result ≡ Status.NoMemory) ⊎ (result ≡ Status.Device)) }
     ensures silent { result ≡ Status.Refused → O.contents out.new ≡ O.contents out.old }
-    // A device failed only if the report's writer did.
-    ensures device { result ≡ Status.Device → (O.failed out.new ≡ grown (O.failed out.old)) × IsSaid report_line (E.contents err.old) (E.contents err.new) (E.failed err.old) (E.failed err.new) }
+    // The status is that of a device only if all checks passed, and the report's writer failed.
+    ensures device { result ≡ Status.Device → FaultOf arch.now net.now place.now Report × (O.failed out.new ≡ grown (O.failed out.old)) × IsSaid report_line (E.contents err.old) (E.contents err.new) (E.failed err.old) (E.failed err.new) }
+    // If it is not done, nothing of the report was written, or a beginning that is not all of it.
+    ensures cut { result ≢ Status.Done → (O.contents out.new ≡ O.contents out.old) ⊎ IsCut arch.now net.now place.now (O.contents out.old) (O.contents out.new) }
     ensures memory { result ≡ Status.NoMemory → IsSaid no_memory_line (E.contents err.old) (E.contents err.new) (E.failed err.old) (E.failed err.new) }
     ensures written { result ≡ Status.Done → O.failed out.new ≡ O.failed out.old }
     ensures quiet { result ≡ Status.Done → E.contents err.new ≡ E.contents err.old }

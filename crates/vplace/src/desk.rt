@@ -18,7 +18,7 @@ const ARCH: &[u8] = b"io_rat 1\ninpin class: 0 left\noutpin class: 1 right\n";
 const NET: &[u8] =
     b".input a\npinlist: n1\n.output z\npinlist: n2\n.clb b\npinlist: n1 n2\nsubblock: b 0 1\n";
 
-// A netlist of which nobody drives the second net.
+// A netlist whose second net has no driver.
 const UNDRIVEN: &[u8] = b".input a\npinlist: n1\n.output z\npinlist: n2\n";
 
 const PADS: &[u8] = b"a 0 1 0\nz 2 1 0\n";
@@ -88,7 +88,7 @@ pub const WORDS: [&[u8]; 17] = [
     b"3",
 ];
 
-/// The files of the design, and the netlist `u.net` that nobody drives. Bytes that are put at `t.place` and at `t.point` are kept. Two more names can be reserved: for `late` the disk
+/// The files of the design, and `u.net`, a netlist whose second net has no driver. Bytes that are put at `t.place` and at `t.point` are kept. Two more names can be reserved: for `late` the disk
 /// is full when the bytes come, and for `huge` memory has run out by then. No other name can; `none` runs out of memory.
 #[derive(Drop)]
 pub struct Desk {

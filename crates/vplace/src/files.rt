@@ -19,12 +19,12 @@ pub enum ReadFault {
     NoMemory,
 }
 
-/// Why a file was not written.
+/// Why a file was not written, or no place was reserved for it.
 #[derive(Clone, Copy, Debug, PartialEq, Eq)]
 pub enum WriteFault {
     /// The system makes no such file, or does not take its bytes.
     Unwritable,
-    /// Memory ran out while it was written.
+    /// Memory ran out for it.
     NoMemory,
 }
 

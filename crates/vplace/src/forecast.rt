@@ -1,4 +1,4 @@
-//! How a run that is asked for a stop ends, as far as its schedule tells before the first move.
+//! How a run with a stop ends, as far as its schedule tells before the first move.
 
 ghost use Rattle.std.specs.Prelude.{◌≡◌, ◌≤◌, ◌<◌, ℕ, MatchResult};
 ghost use Rattle.fab_commit.specs.Run.Points.{done_at};
@@ -13,7 +13,7 @@ use fab_sched::{Cooling, SchedFault, Schedule, moves_of};
 /// How a piece of a run ends, as far as its schedule tells before the first move.
 #[derive(Clone, Copy, Debug, PartialEq, Eq)]
 pub enum Forecast {
-    /// It makes the last move: there is no stop before it.
+    /// It makes the last move: it meets no stop before that.
     Finishes,
     /// It stops while moves are left.
     Stops,
@@ -52,7 +52,7 @@ pub fn forecast_for(schedule: &Schedule, done: u64, stop: Option<u64>) -> Foreca
     }
 }
 
-/// The schedule that the options ask for, of a design with this many blocks; else its first fault.
+/// The schedule that the options ask for, of a design with this many blocks. An error if a number is out of its limits.
 pub fn schedule_by(options: &Options, blocks: usize) -> Result<Schedule, SchedFault>
     requires { blocks ≤ 65535 }
     ensures only { (p : Plan) → IsAskedPlan options.now blocks p → IsLawful p → MatchResult result (λ s. s ≡ p) (λ e. ⊥) }

@@ -6,7 +6,7 @@ ghost use Rattle.fab_file.specs.declared.fault.PlaceFault.TheVariants.{Write};
 ghost use Rattle.fab_run.specs.declared.fault.RunFault.TheVariants.{Place, Point, Report};
 ghost use Rattle.fab_run.specs.declared.point_fault.PointFault.TheVariants.{Write as PointWrite};
 ghost use Rattle.fab_run.specs.FaultLines.{fault_line as line_of_fault};
-ghost use Rattle.vplace.specs.Said.{IsFaultSaid, IsSaid, no_memory_line, option_name as name_of_option, unreadable_line, unwritable_line, word_fault_line};
+ghost use Rattle.vplace.specs.Said.{IsFaultSaid, IsSaid, no_memory_line, option_name as name_of_option, report_line, unreadable_line, unwritable_line, word_fault_line};
 ghost use Rattle.vplace.specs.Status.{status_of};
 
 use crate::asked::{Number, WordFault};
@@ -60,7 +60,7 @@ pub fn unreadable<E: Sink>(err: &mut E, role: Role) -> Status
 /// Says that the report cannot be written.
 pub fn unwritable_report<E: Sink>(err: &mut E) -> Status
     ensures status { result ≡ Status.Device }
-    ensures said { IsSaid (codes "vplace: cannot write report") (E.contents err.old) (E.contents err.new) (E.failed err.old) (E.failed err.new) }
+    ensures said { IsSaid report_line (E.contents err.old) (E.contents err.new) (E.failed err.old) (E.failed err.new) }
     ensures heard { IsFaultSaid (E.contents err.old) (E.contents err.new) (E.failed err.old) (E.failed err.new) }
 {
     let _ = write_whole(err, b"vplace: cannot write report\n");

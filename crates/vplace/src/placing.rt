@@ -207,7 +207,7 @@ pub fn place_texts<R: AllocGlobal + Threads + Wait + Sync, F: NamedFiles, O: Sin
     ensures silent { IfErr result (λ status. IsRefused status → O.contents out.new ≡ O.contents out.old) }
     // Otherwise a beginning of the report may have been written.
     ensures cut { OnErr result ((O.contents out.new ≡ O.contents out.old) ⊎ IsReportBegun (AskFor (texts_of inputs.now) options.now) (O.contents out.old) (O.contents out.new)) }
-    // A device failed only if all checks passed, and the report's writer failed, or no bytes can be put at a name that the run may need by its
+    // The status is that of a device only if all checks passed, and the report's writer failed, or no bytes can be put at a name that the run may need by its
     // forecast.
     ensures device { IfErr result (λ status. status ≡ Status.Device → (s : Setting) × IsSetting (texts_of inputs.now) options.now s × (((O.failed out.new ≡ grown (O.failed out.old)) × IsSaid report_line (E.contents err.old) (E.contents err.new) (E.failed err.old) (E.failed err.new)) ⊎ IsTriedInVain (IsForecast s.plan 0 options.now.stop) names.now.out.now (option_copied names.now.save) (F.shut files.now) (λ line. IsSaid line (E.contents err.old) (E.contents err.new) (E.failed err.old) (E.failed err.new)))) }
     ensures memory { IfErr result (λ status. status ≡ Status.NoMemory → IsSaid no_memory_line (E.contents err.old) (E.contents err.new) (E.failed err.old) (E.failed err.new)) }
@@ -244,11 +244,13 @@ pub fn place_files<R: AllocGlobal + Threads + Wait + Sync, F: NamedFiles, O: Sin
     ensures refused { IsRefused result → ((fault : WordFaultOf) × IsWordFault words.now fault × IsSaid (word_fault_line fault) (E.contents err.old) (E.contents err.new) (E.failed err.old) (E.failed err.new)) ⊎ ((t : Texts) × (o : OptionsOf) × AreNamed (F.held files.old) words.now t × AreAsked words.now o × IsToldRefusal (IsRunFault t o) t.net result (λ line. IsSaid line (E.contents err.old) (E.contents err.new) (E.failed err.old) (E.failed err.new))) }
     // Files in memory whose texts mean a run by the requested numbers are never refused.
     ensures only { (h : Held) (t : Texts) (o : OptionsOf) (s : Setting) → F.held files.old ≡ Some h → AreNamed (Some h) words.now t → AreAsked words.now o → IsSetting t o s → (result ≡ Status.Done) ⊎ ((result ≡ Status.NoMemory) ⊎ (result ≡ Status.Device)) }
-    // A device failed only if a file is not there; or if all checks passed, and the report's writer failed, or no bytes can be put at a name
+    // The status is that of a device only if a file is not there; or if all checks passed, and the report's writer failed, or no bytes can be put at a name
     // that the run may need by its forecast, or at that of what it left.
     ensures device { result ≡ Status.Device → AreUnread (F.held files.old) words.now result (λ line. IsSaid line (E.contents err.old) (E.contents err.new) (E.failed err.old) (E.failed err.new)) ⊎ ((t : Texts) × (o : OptionsOf) × (s : Setting) × AreNamed (F.held files.old) words.now t × AreAsked words.now o × IsSetting t o s × IsDeviceTold (IsForecast s.plan 0 o.stop) (λ a place. IsPlaced (AskFor t o) t a (O.contents out.old) (O.contents out.new) (Some []) (Some place)) words.now.out.items (save_name words.now) (F.shut files.old) (O.failed out.old) (O.failed out.new) (λ line. IsSaid line (E.contents err.old) (E.contents err.new) (E.failed err.old) (E.failed err.new))) }
     ensures memory { result ≡ Status.NoMemory → IsSaid no_memory_line (E.contents err.old) (E.contents err.new) (E.failed err.old) (E.failed err.new) }
     ensures silent { IsRefused result → O.contents out.new ≡ O.contents out.old }
+    // Otherwise a beginning of the report may have been written.
+    ensures cut { result ≢ Status.Done → (O.contents out.new ≡ O.contents out.old) ⊎ ((t : Texts) × (o : OptionsOf) × AreNamed (F.held files.old) words.now t × AreAsked words.now o × IsReportBegun (AskFor t o) (O.contents out.old) (O.contents out.new)) }
     ensures written { result ≡ Status.Done → O.failed out.new ≡ O.failed out.old }
     ensures quiet { result ≡ Status.Done → E.contents err.new ≡ E.contents err.old }
     // Otherwise something was said about the fault.

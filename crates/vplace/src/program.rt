@@ -111,7 +111,7 @@ pub fn program<R: AllocGlobal + Threads + Wait + Sync, F: NamedFiles, O: Sink, E
     // With no words it is 0 only if the report of the check of the built-in texts was written.
     ensures example { words.now ≡ [] → result ≡ 0 → IsExample ARCH.now NET.now PLACE.now (O.contents out.old) (O.contents out.new) }
 
-    // In all, 0 means that what the words ask for was written: help or the version; the report of the built-in check, or of a check of
+    // In all, 0 means that something that can be asked for was written: help or the version; the report of the built-in check, or of a check of
     // named files; or the report of a run of named files, or of one that goes on from a named checkpoint, whose placement is then at the
     // out name, or, if it stopped, its checkpoint at the save name.
     ensures done { result ≡ 0 → IsTold (O.contents out.old) (O.contents out.new) ⊎ (IsExample ARCH.now NET.now PLACE.now (O.contents out.old) (O.contents out.new) ⊎ (IsChecked (F.held files.old) (O.contents out.old) (O.contents out.new) ⊎ (IsPlaced (F.held files.old) (F.held files.new) (O.contents out.old) (O.contents out.new) ⊎ IsResumed (F.held files.old) (F.held files.new) (O.contents out.old) (O.contents out.new)))) }
@@ -120,7 +120,7 @@ pub fn program<R: AllocGlobal + Threads + Wait + Sync, F: NamedFiles, O: Sink, E
     // with no words, and the names and numbers of a check or a run are those that its own subcommand's options give.
     ensures decided { result ≡ 0 → IsAsAsked ARCH.now NET.now PLACE.now (map (λ word. word.items) words.now) (F.held files.old) (F.held files.new) (O.contents out.old) (O.contents out.new) }
 
-    // Wrong words end with 2, unless memory runs out or they ask for help.
+    // Wrong words end with 2, unless memory runs out, or they ask for help or the version.
     ensures wrong { words.now ≢ [] → faults (map (λ word. word.items) words.now) ≢ [] → (result ≡ 2) ⊎ ((result ≡ 3) ⊎ AskForHelp (map (λ word. word.items) words.now)) }
 
     // If it is not 0, the files are as before.

@@ -38,7 +38,7 @@ pub fn found_crew<E: Task<T>, T: Drop, J: Naming>(
 }
 
 /// Runs `make` on the owner while the crew works, then sends the crew home, and returns when all workers have ended. So it returns if
-/// `make` does. If the crew's `Lead` is kept, its owner judges alone from then on.
+/// `make` and the judgements of the workers do. If the crew's `Lead` is kept, its owner judges alone from then on.
 // The owner's type is a parameter, since the threads' closures do not support a type that both borrows and has parameters.
 pub fn beside<
     E: Task<T> + Send + Sync,

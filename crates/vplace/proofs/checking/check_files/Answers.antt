@@ -1,8 +1,8 @@
-use Rattle.std.proofs.Common.{◌∙◌, rules, subst}
+use Rattle.std.proofs.Common.{◌∙◌, inl, inr, rules, subst}
 use Rattle.fab_run.specs.Check.{AreChecked, FaultOf}
 use Rattle.fab_run.specs.FaultLines.{fault_line}
 use Rattle.vplace.specs.Placing.{AreGiven}
-use Rattle.vplace.specs.Said.{IsSaid, IsToldRefusal}
+use Rattle.vplace.specs.Said.{IsSaid, IsToldRefusal, report_line}
 use Rattle.vplace.proofs.Heard.{line_since}
 use Rattle.vplace.proofs.Once.{texts_once_to_check}
 use Rattle.vplace.proofs.checking.check_files.Goals as goal
@@ -22,3 +22,16 @@ returns-clause-only g c h arch net place d grid sites is given checked =
     let same = texts_once_to_check h c.args.names.now arch net place c.in-Ok.texts.0.items c.in-Ok.texts.1.items c.in-Ok-read_role.text.items given (subst (λ x. AreGiven x c.args.names.now c.in-Ok.texts.0.items c.in-Ok.texts.1.items c.in-Ok-read_role.text.items) is found) in
     let here : AreChecked c.in-Ok.texts.0.items c.in-Ok.texts.1.items c.in-Ok-read_role.text.items d grid sites = rw (← same.0, ← same.1, ← same.2) checked in
     c.check_texts.ensures.only d grid sites (search (rules, here))
+
+pub returns-clause-device : goal.returns-clause-device
+returns-clause-device g c q =
+    let quiet = c.in-Ok-read_role.ensures.read ∙ c.in-Ok.ensures.read in
+    let still = c.in-Ok-read_role.ensures.still ∙ c.in-Ok.ensures.still in
+    let d = c.check_texts.ensures.device q in
+    inr (_, _, _, search (rules, c.in-Ok.ensures.arch, c.in-Ok.ensures.net, c.in-Ok-read_role.ensures.gives), d.0, d.1, line_since _ _ _ _ _ _ report_line quiet still d.2)
+
+pub returns-clause-cut : goal.returns-clause-cut
+returns-clause-cut g c q = elim (c.check_texts.ensures.cut q) [
+    | inl same ↦ inl same
+    | inr cut ↦ inr (_, _, _, search (rules, c.in-Ok.ensures.arch, c.in-Ok.ensures.net, c.in-Ok-read_role.ensures.gives), cut)
+  ]

@@ -2,6 +2,7 @@ use Rattle.std.proofs.Common.{[], Some, ◌∙◌, inl, inr, List, ℕ, ◌≡�
 use Rattle.fab_run.specs.Placed.{AskFor, IsPlaced}
 use Rattle.fab_run.specs.Setting.{IsSetting, Texts}
 use Rattle.vplace.specs.Forecasts.{IsForecast}
+use Rattle.fab_run.proofs.Whole.{begun_whole}
 use Rattle.vplace.specs.Leaving.{save_or_out}
 use Rattle.vplace.specs.Placing.{AreNamed, save_name}
 use Rattle.std.specs.Prelude.{option_copied}
@@ -64,6 +65,21 @@ returns-in-Ok-place_texts-clause-device g c q =
     → IsSaid line (g.E.Sink.contents c.args.err.now) (g.E.Sink.contents c.leave.new.err) (g.E.Sink.failed c.args.err.now) (g.E.Sink.failed c.leave.new.err) = λ line. line_since _ _ _ _ _ _ line quiet still in
     let h = c.in-Ok-place_texts.ensures.placed in
     inr (_, _, h.1.1.0, search (rules, named), c.in-Ok.ensures.value, h.1.1.1, inr (inr (put_in_vain (λ a place. IsPlaced (AskFor t c.in-Ok.options) t a (g.O.Sink.contents c.args.out.now) (g.O.Sink.contents c.place_texts.new.out) (Some []) (Some place)) t c.in-Ok.options.seed w.out.items c.as_slice.result.now (save_or_out c.as_slice.result.now (option_copied c.as_deref.result)) (save_name w) (g.F.NamedFiles.shut c.args.files.now) (λ line. IsSaid line (g.E.Sink.contents c.place_texts.new.err) (g.E.Sink.contents c.leave.new.err) (g.E.Sink.failed c.place_texts.new.err) (g.E.Sink.failed c.leave.new.err)) (λ line. IsSaid line (g.E.Sink.contents c.args.err.now) (g.E.Sink.contents c.leave.new.err) (g.E.Sink.failed c.args.err.now) (g.E.Sink.failed c.leave.new.err)) h.0 c.in-Ok-place_texts.left.place.items c.in-Ok-place_texts.left.point (search rules) (search rules) since h.1 h.2 (c.leave.ensures.device q))))
+
+pub returns-clause-cut : goal.returns-clause-cut
+returns-clause-cut g c q =
+    let named = c.in-Ok-read_texts.ensures.gives in
+    elim c.in-Err-place_texts.ensures.cut [
+      | inl same ↦ inl same
+      | inr begun ↦ inr (_, _, search (rules, named), c.in-Ok.ensures.value, begun)
+    ]
+
+-- the whole report had gone out
+pub returns-in-Ok-place_texts-clause-cut : goal.returns-in-Ok-place_texts-clause-cut
+returns-in-Ok-place_texts-clause-cut g c q =
+    let named = c.in-Ok-read_texts.ensures.gives in
+    let h = c.in-Ok-place_texts.ensures.placed in
+    inr (_, _, search (rules, named), c.in-Ok.ensures.value, (h.1.0, h.1.1, begun_whole h.1.0 _ _ _ h.1.2.told))
 
 -- nothing was said while the texts were read and the design was placed
 pub returns-in-Ok-place_texts-clause-said : goal.returns-in-Ok-place_texts-clause-said

@@ -4,6 +4,7 @@ use Rattle.fab_commit.specs.Run.Points.{done_at}
 use Rattle.fab_run.specs.Placed.{AskToGoOn, IsPlaced}
 use Rattle.fab_run.specs.Setting.{Texts}
 use Rattle.vplace.specs.Forecasts.{IsForecast}
+use Rattle.fab_run.proofs.Whole.{begun_whole}
 use Rattle.vplace.specs.Leaving.{save_or_out}
 use Rattle.vplace.specs.Resuming.{AreNamedToResume, save_name}
 use Rattle.std.specs.Prelude.{option_copied}
@@ -38,7 +39,7 @@ returns-clause-refused g c h =
     let since : (line : List ℕ) → IsSaid line (g.E.Sink.contents c.read_texts.new.err) (g.E.Sink.contents c.resume_texts.new.err) (g.E.Sink.failed c.read_texts.new.err) (g.E.Sink.failed c.resume_texts.new.err)
     → IsSaid line (g.E.Sink.contents c.args.err.now) (g.E.Sink.contents c.resume_texts.new.err) (g.E.Sink.failed c.args.err.now) (g.E.Sink.failed c.resume_texts.new.err) = λ line. line_since _ _ _ _ _ _ line c.in-Ok-read_texts.ensures.quiet c.in-Ok-read_texts.ensures.still in
     let r = c.in-Err-resume_texts.ensures.refused h in
-    inr (_, _, search (rules, named), (r.0, r.1, r.2, since (fault_line r.0 c.as_slice-5.result.now) r.3))
+    inr (_, _, c.in-Ok.stop, search (rules, named), c.in-Ok.ensures, (r.0, r.1, r.2, since (fault_line r.0 c.as_slice-5.result.now) r.3))
 
 pub returns-clause-only : goal.returns-clause-only
 returns-clause-only g c h t point s stop is named asked going =
@@ -83,3 +84,18 @@ returns-in-Ok-resume_texts-clause-device g c q =
     → IsSaid line (g.E.Sink.contents c.args.err.now) (g.E.Sink.contents c.leave.new.err) (g.E.Sink.failed c.args.err.now) (g.E.Sink.failed c.leave.new.err) = λ line. line_since _ _ _ _ _ _ line quiet still in
     let h = c.in-Ok-resume_texts.ensures.placed in
     inr (_, _, c.in-Ok.stop, h.2.1.1.0, search (rules, named), c.in-Ok.ensures, h.2.1.1.1, inr (inr (put_in_vain (λ a place. IsPlaced (AskToGoOn t c.as_slice-6.result.now w.batch w.workers c.in-Ok.stop) t a (g.O.Sink.contents c.args.out.now) (g.O.Sink.contents c.resume_texts.new.out) (Some []) (Some place)) t h.0.seed w.out.items c.as_slice.result.now (save_or_out c.as_slice.result.now (option_copied c.as_deref.result)) (save_name w) (g.F.NamedFiles.shut c.args.files.now) (λ line. IsSaid line (g.E.Sink.contents c.resume_texts.new.err) (g.E.Sink.contents c.leave.new.err) (g.E.Sink.failed c.resume_texts.new.err) (g.E.Sink.failed c.leave.new.err)) (λ line. IsSaid line (g.E.Sink.contents c.args.err.now) (g.E.Sink.contents c.leave.new.err) (g.E.Sink.failed c.args.err.now) (g.E.Sink.failed c.leave.new.err)) h.2.0 c.in-Ok-resume_texts.left.place.items c.in-Ok-resume_texts.left.point (search rules) (search rules) since h.2.1 h.2.2 (c.leave.ensures.device q))))
+
+pub returns-clause-cut : goal.returns-clause-cut
+returns-clause-cut g c q =
+    let named = c.in-Ok-read_texts.ensures.gives in
+    elim c.in-Err-resume_texts.ensures.cut [
+      | inl same ↦ inl same
+      | inr begun ↦ inr (_, _, c.in-Ok.stop, search (rules, named), c.in-Ok.ensures, begun)
+    ]
+
+-- the whole report had gone out
+pub returns-in-Ok-resume_texts-clause-cut : goal.returns-in-Ok-resume_texts-clause-cut
+returns-in-Ok-resume_texts-clause-cut g c q =
+    let named = c.in-Ok-read_texts.ensures.gives in
+    let h = c.in-Ok-resume_texts.ensures.placed in
+    inr (_, _, c.in-Ok.stop, search (rules, named), c.in-Ok.ensures, (h.2.1.0, h.2.1.1, begun_whole h.2.1.0 _ _ _ h.2.1.2.told))
