@@ -3,6 +3,7 @@ pub mod Asked
 pub mod Files
 pub mod Forecasts
 pub mod Leaving
+pub mod Foreseen
 pub mod Placing
 pub mod Resuming
 pub mod Said
