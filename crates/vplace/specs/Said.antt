@@ -5,7 +5,6 @@ use Rattle.fab_text.specs.Failures.{grown}
 use Rattle.fab_text.specs.FaultTexts.{num_fault_text}
 use Rattle.fab_text.specs.declared.numbers.NumFault.TheVariants.{BadDigit}
 use Rattle.fab_file.specs.declared.fault.PlaceFault.TheVariants.{Write}
-use Rattle.fab_file.specs.Written.{IsCut}
 use Rattle.fab_run.specs.declared.fault.RunFault.{RunFault}
 use Rattle.fab_run.specs.declared.fault.RunFault.TheVariants.{Place as RunPlace}
 use Rattle.fab_run.specs.FaultLines.{fault_line}
@@ -24,10 +23,9 @@ use Rattle.vplace.specs.declared.asked.Number.TheVariants.{InitT, ExitT, AlphaT}
 use Rattle.vplace.specs.declared.asked.WordFault.{WordFault}
 use Rattle.vplace.specs.declared.asked.WordFault.TheVariants.{SizeInPart, StopInPart, BadNumber}
 
--- the line was written, with a line feed at its end; or the writer failed, and took only a beginning of it
+-- the line was written, with a line feed at its end, unless the writer failed
 abbrev pub IsSaid : List ℕ → Option (List ℕ) → Option (List ℕ) → ℕ → ℕ → Type 0
-IsSaid line old new failed_old failed_new =
-    Appends old new (line ++ codes "\n") ⊎ ((failed_new ≡ grown failed_old) × IsCut (line ++ codes "\n") old new)
+IsSaid line old new failed_old failed_new = Appends old new (line ++ codes "\n") ⊎ (failed_new ≡ grown failed_old)
 
 -- something was said: a text that is not empty was written, unless the writer failed
 abbrev pub IsFaultSaid : Option (List ℕ) → Option (List ℕ) → ℕ → ℕ → Type 0
