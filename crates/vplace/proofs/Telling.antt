@@ -12,9 +12,10 @@ use Rattle.vplace.specs.declared.messages.OutRole.{OutRole}
 use Rattle.vplace.specs.declared.messages.OutRole.TheVariants.{Place, Point}
 use Rattle.vplace.specs.declared.status.Status.{Status}
 use Rattle.vplace.specs.declared.status.Status.TheVariants.{NoMemory, Device}
-use Rattle.vplace.specs.Files.{IsShut, Shut}
+use Rattle.vplace.specs.declared.messages.Role.{Role}
+use Rattle.vplace.specs.Files.{Held, IsShut, Shut}
 use Rattle.vplace.specs.Leaving.{IsCheckpoint, IsPutInVain, IsShutFor, IsTriedInVain, name_for, plan_for, role_by, save_or_out}
-use Rattle.vplace.specs.Said.{IsToldRefusal, unwritable_line}
+use Rattle.vplace.specs.Said.{IsToldRefusal, IsUnread, unwritable_line}
 use Rattle.vplace.specs.Status.{status_of}
 
 pub tried_since : (IsOf : Forecast → Type 0) (out also : List ℕ) (save other : Option (List ℕ)) (shut : Option Shut) (Said Also : List ℕ → Type 0) → out ≡ also → save ≡ other → ((line : List ℕ) → Said line → Also line)
@@ -34,6 +35,10 @@ tried_told IsOne IsOf Reported f out save shut Said (Err s) of h =
 
 pub refusal_since : (P : RunFault → Type 0) (net : List ℕ) (ended : Status) (Said Also : List ℕ → Type 0) → ((line : List ℕ) → Said line → Also line) → IsToldRefusal P net ended Said → IsToldRefusal P net ended Also
 refusal_since P net ended Said Also since h = (h.0, h.1, h.2, since _ h.3)
+
+pub unread_since : (held : Option Held) (role : Role) (name : List ℕ) (ended : Status) (Said Also : List ℕ → Type 0) → ((line : List ℕ) → Said line → Also line) → IsUnread held role name ended Said → IsUnread held role name ended Also
+unread_since held role name ended Said Also since (inl h) = inl (h.0, h.1, since _ h.2)
+unread_since held role name ended Said Also since (inr h) = inr (h.0, since _ h.1)
 
 ending_put : (t : Texts) (seed : ℕ) (out : List ℕ) (save : Option (List ℕ)) (shut : Option Shut) (Said : List ℕ → Type 0) (ending : Ending) (point : Option (Vec ℕ Global)) → IsCheckpoint t seed ending (option_map (λ v. v.items) point)
     → MatchOption point (IsShut shut out × Said (unwritable_line Place)) (λ _. IsShut shut (save_or_out out save) × Said (unwritable_line Point))

@@ -1,10 +1,11 @@
-use Rattle.std.proofs.Common.{◌∙◌, inl, inr, rules, subst}
+use Rattle.std.proofs.Common.{◌∙◌, List, ℕ, inl, inr, rules, subst}
 use Rattle.fab_run.specs.Check.{AreChecked, FaultOf}
 use Rattle.fab_run.specs.FaultLines.{fault_line}
 use Rattle.vplace.specs.Placing.{AreGiven}
 use Rattle.vplace.specs.Said.{IsSaid, IsToldRefusal, report_line}
 use Rattle.vplace.proofs.Heard.{line_since}
 use Rattle.vplace.proofs.Once.{texts_once_to_check}
+use Rattle.vplace.proofs.Telling.{unread_since}
 use Rattle.vplace.proofs.checking.check_files.Goals as goal
 
 pub returns-clause-refused : goal.returns-clause-refused
@@ -35,3 +36,14 @@ returns-clause-cut g c q = elim (c.check_texts.ensures.cut q) [
     | inl same ↦ inl same
     | inr cut ↦ inr (_, _, _, search (rules, c.in-Ok.ensures.arch, c.in-Ok.ensures.net, c.in-Ok-read_role.ensures.gives), cut)
   ]
+
+pub returns-in-Err-clause-device : goal.returns-in-Err-clause-device
+returns-in-Err-clause-device g c q = inl (inl (search (rules, c.in-Err.ensures.unread)))
+
+pub returns-in-Err-read_role-clause-device : goal.returns-in-Err-read_role-clause-device
+returns-in-Err-read_role-clause-device g c q =
+    let role = c.in-Err-read_role.ensures.unread in
+    let since : (line : List ℕ) → IsSaid line (g.E.Sink.contents c.read_arch_and_net-texts.new.err) (g.E.Sink.contents c.read_role.new.err) (g.E.Sink.failed c.read_arch_and_net-texts.new.err) (g.E.Sink.failed c.read_role.new.err)
+        → IsSaid line (g.E.Sink.contents c.args.err.now) (g.E.Sink.contents c.read_role.new.err) (g.E.Sink.failed c.args.err.now) (g.E.Sink.failed c.read_role.new.err) = λ line. line_since _ _ _ _ _ _ line c.in-Ok.ensures.read c.in-Ok.ensures.still in
+    let told = unread_since _ _ _ _ _ _ since role in
+    inl (inr (search (rules, c.in-Ok.ensures.arch, c.in-Ok.ensures.net), search (rules, told)))
