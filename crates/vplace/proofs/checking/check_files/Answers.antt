@@ -2,7 +2,8 @@ use Rattle.std.proofs.Common.{◌∙◌, List, ℕ, inl, inr, rules, subst}
 use Rattle.fab_run.specs.Check.{AreChecked, FaultOf}
 use Rattle.fab_run.specs.FaultLines.{fault_line}
 use Rattle.vplace.specs.Placing.{AreGiven}
-use Rattle.vplace.specs.Said.{IsSaid, IsToldRefusal, report_line}
+use Rattle.vplace.specs.declared.messages.Role.TheVariants.{Place}
+use Rattle.vplace.specs.Said.{IsSaid, IsToldRefusal, IsUnread, report_line}
 use Rattle.vplace.proofs.Heard.{line_since}
 use Rattle.vplace.proofs.Once.{texts_once_to_check}
 use Rattle.vplace.proofs.Telling.{unread_since}
@@ -46,4 +47,5 @@ returns-in-Err-read_role-clause-device g c q =
     let since : (line : List ℕ) → IsSaid line (g.E.Sink.contents c.read_arch_and_net-texts.new.err) (g.E.Sink.contents c.read_role.new.err) (g.E.Sink.failed c.read_arch_and_net-texts.new.err) (g.E.Sink.failed c.read_role.new.err)
         → IsSaid line (g.E.Sink.contents c.args.err.now) (g.E.Sink.contents c.read_role.new.err) (g.E.Sink.failed c.args.err.now) (g.E.Sink.failed c.read_role.new.err) = λ line. line_since _ _ _ _ _ _ line c.in-Ok.ensures.read c.in-Ok.ensures.still in
     let told = unread_since _ _ _ _ _ _ since role in
-    inl (inr (search (rules, c.in-Ok.ensures.arch, c.in-Ok.ensures.net), search (rules, told)))
+    let named = subst (λ name. IsUnread (g.F.NamedFiles.held c.args.files.now) Place name c.in-Err-read_role.status (λ line. IsSaid line (g.E.Sink.contents c.args.err.now) (g.E.Sink.contents c.read_role.new.err) (g.E.Sink.failed c.args.err.now) (g.E.Sink.failed c.read_role.new.err))) c.as_slice-3.ensures.value told in
+    inl (inr (search (rules, c.in-Ok.ensures.arch, c.in-Ok.ensures.net), named))
