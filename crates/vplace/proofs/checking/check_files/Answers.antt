@@ -46,6 +46,8 @@ returns-in-Err-read_role-clause-device g c q =
     let role = c.in-Err-read_role.ensures.unread in
     let since : (line : List ℕ) → IsSaid line (g.E.Sink.contents c.read_arch_and_net-texts.new.err) (g.E.Sink.contents c.read_role.new.err) (g.E.Sink.failed c.read_arch_and_net-texts.new.err) (g.E.Sink.failed c.read_role.new.err)
         → IsSaid line (g.E.Sink.contents c.args.err.now) (g.E.Sink.contents c.read_role.new.err) (g.E.Sink.failed c.args.err.now) (g.E.Sink.failed c.read_role.new.err) = λ line. line_since _ _ _ _ _ _ line c.in-Ok.ensures.read c.in-Ok.ensures.still in
-    let told = unread_since _ _ _ _ _ _ since role in
+    let told = unread_since (g.F.NamedFiles.held c.args.files.now) Place c.as_slice-3.result.now c.in-Err-read_role.status
+    (λ line. IsSaid line (g.E.Sink.contents c.read_arch_and_net-texts.new.err) (g.E.Sink.contents c.read_role.new.err) (g.E.Sink.failed c.read_arch_and_net-texts.new.err) (g.E.Sink.failed c.read_role.new.err))
+    (λ line. IsSaid line (g.E.Sink.contents c.args.err.now) (g.E.Sink.contents c.read_role.new.err) (g.E.Sink.failed c.args.err.now) (g.E.Sink.failed c.read_role.new.err)) since role in
     let named = subst (λ name. IsUnread (g.F.NamedFiles.held c.args.files.now) Place name c.in-Err-read_role.status (λ line. IsSaid line (g.E.Sink.contents c.args.err.now) (g.E.Sink.contents c.read_role.new.err) (g.E.Sink.failed c.args.err.now) (g.E.Sink.failed c.read_role.new.err))) c.as_slice-3.ensures.value told in
     inl (inr (search (rules, c.in-Ok.ensures.arch, c.in-Ok.ensures.net), named))
