@@ -34,9 +34,9 @@ returns-clause-device g c q =
 
 pub returns-clause-cut : goal.returns-clause-cut
 returns-clause-cut g c q = elim (c.check_texts.ensures.cut q) [
-    | inl same ↦ inl same
-    | inr cut ↦ inr (_, _, _, search (rules, c.in-Ok.ensures.arch, c.in-Ok.ensures.net, c.in-Ok-read_role.ensures.gives), cut)
-  ]
+  | inl same ↦ inl same
+  | inr cut ↦ inr (_, _, _, search (rules, c.in-Ok.ensures.arch, c.in-Ok.ensures.net, c.in-Ok-read_role.ensures.gives), cut)
+]
 
 pub returns-in-Err-clause-device : goal.returns-in-Err-clause-device
 returns-in-Err-clause-device g c q = inl (inl (search (rules, c.in-Err.ensures.unread)))
@@ -45,7 +45,7 @@ pub returns-in-Err-read_role-clause-device : goal.returns-in-Err-read_role-claus
 returns-in-Err-read_role-clause-device g c q =
     let role = c.in-Err-read_role.ensures.unread in
     let since : (line : List ℕ) → IsSaid line (g.E.Sink.contents c.read_arch_and_net-texts.new.err) (g.E.Sink.contents c.read_role.new.err) (g.E.Sink.failed c.read_arch_and_net-texts.new.err) (g.E.Sink.failed c.read_role.new.err)
-        → IsSaid line (g.E.Sink.contents c.args.err.now) (g.E.Sink.contents c.read_role.new.err) (g.E.Sink.failed c.args.err.now) (g.E.Sink.failed c.read_role.new.err) = λ line. line_since _ _ _ _ _ _ line c.in-Ok.ensures.read c.in-Ok.ensures.still in
+    → IsSaid line (g.E.Sink.contents c.args.err.now) (g.E.Sink.contents c.read_role.new.err) (g.E.Sink.failed c.args.err.now) (g.E.Sink.failed c.read_role.new.err) = λ line. line_since _ _ _ _ _ _ line c.in-Ok.ensures.read c.in-Ok.ensures.still in
     let told = unread_since (g.F.NamedFiles.held c.args.files.now) Place c.as_slice-3.result.now c.in-Err-read_role.status
     (λ line. IsSaid line (g.E.Sink.contents c.read_arch_and_net-texts.new.err) (g.E.Sink.contents c.read_role.new.err) (g.E.Sink.failed c.read_arch_and_net-texts.new.err) (g.E.Sink.failed c.read_role.new.err))
     (λ line. IsSaid line (g.E.Sink.contents c.args.err.now) (g.E.Sink.contents c.read_role.new.err) (g.E.Sink.failed c.args.err.now) (g.E.Sink.failed c.read_role.new.err)) since role in
