@@ -1,5 +1,6 @@
 -- What the words of the command line ask for (our own).
-use Rattle.std.specs.Prelude.{ℕ, ◌≡◌, ◌⊎◌, List, [], Option, Some, codes}
+use Rattle.std.specs.Prelude.{ℕ, ◌≡◌, ◌⊎◌, List, [], ◌∷◌, Option, Some, codes}
+use Rattle.fab_text.specs.Failures.{grown}
 use Rattle.clap.specs.Walk.{Row, Text}
 use Rattle.clap.specs.Simple.{subcommand_of}
 use Rattle.clap.specs.Faults.{fault_of}
@@ -7,6 +8,8 @@ use Rattle.clap.specs.Kinds.{IsAmong, Kinds}
 use Rattle.clap.specs.declared.error.kind.ErrorKind.TheVariants.{DisplayHelp, DisplayVersion}
 use Rattle.vplace.specs.declared.flags.Asked.{Asked}
 use Rattle.vplace.specs.declared.flags.Asked.TheVariants.{Example, Check, Place, Resume}
+use Rattle.vplace.specs.declared.status.Status.{Status}
+use Rattle.vplace.specs.declared.status.Status.TheVariants.{Done, NoMemory, Device}
 use Rattle.vplace.specs.CommandLine.{shown_after_name, vplace}
 use Rattle.vplace.specs.Given.{AreGivenBy, AreGivenToCheck, AreGivenToResume}
 
@@ -21,6 +24,14 @@ faults words = fault_of vplace (shown_after_name words)
 -- help or the version is what the words ask for
 abbrev pub AskForHelp : List (List ℕ) → Type 0
 AskForHelp words = IsAmong DisplayHelp (faults words) ⊎ IsAmong DisplayVersion (faults words)
+
+-- help or the version is all that the words ask for, and nothing in them is wrong
+abbrev pub AskForHelpAlone : List (List ℕ) → Type 0
+AskForHelpAlone words = (words ≡ [] → ⊥) × ((faults words ≡ DisplayHelp ∷ []) ⊎ (faults words ≡ DisplayVersion ∷ []))
+
+-- a text that was asked for was told, unless memory ran out or the output failed
+abbrev pub IsServed : Status → ℕ → ℕ → Type 0
+IsServed status failed_old failed_new = (status ≡ Done) ⊎ ((status ≡ NoMemory) ⊎ ((status ≡ Device) × (failed_new ≡ grown failed_old)))
 
 -- it is one of the three subcommands
 abbrev pub IsOneOfThree : Option (Text × List Row) → Type 0

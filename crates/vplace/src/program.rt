@@ -2,7 +2,8 @@
 
 ghost use Rattle.std.specs.Prelude.{◌≡◌, ◌≢◌, ◌⊎◌, [], map};
 ghost use Rattle.clap.specs.Words.{kind_of};
-ghost use Rattle.vplace.specs.Asking.{AskForHelp, faults};
+ghost use Rattle.fab_text.specs.Failures.{grown};
+ghost use Rattle.vplace.specs.Asking.{AskForHelp, AskForHelpAlone, IsServed, faults};
 ghost use Rattle.vplace.specs.Done.{IsAsAsked, IsChecked, IsExample, IsPlaced, IsResumed, IsTold};
 ghost use Rattle.vplace.specs.Said.{IsFaultSaid, IsSaid, no_memory_line};
 ghost use Rattle.vplace.specs.Status.{IsRefused};
@@ -39,6 +40,8 @@ fn tell<O: Sink, E: Sink>(alloc: Global, error: &Error, out: &mut O, err: &mut E
     ensures memory { result ≡ Status.NoMemory → IsSaid no_memory_line (E.contents err.old) (E.contents err.new) (E.failed err.old) (E.failed err.new) }
     ensures help { result ≡ Status.Done → (kind_of error.now ≡ ErrorKind.DisplayHelp) ⊎ (kind_of error.now ≡ ErrorKind.DisplayVersion) }
     ensures wrong { kind_of error.now ≢ ErrorKind.DisplayHelp → kind_of error.now ≢ ErrorKind.DisplayVersion → (result ≡ Status.CommandLine) ⊎ (result ≡ Status.NoMemory) }
+    ensures served { (kind_of error.now ≡ ErrorKind.DisplayHelp) ⊎ (kind_of error.now ≡ ErrorKind.DisplayVersion) → IsServed result (O.failed out.old) (O.failed out.new) }
+    ensures starved { kind_of error.now ≡ ErrorKind.OutOfMemory → result ≡ Status.NoMemory }
 {
     if error.kind() == ErrorKind::OutOfMemory {
         return messages::no_memory(err);
@@ -77,6 +80,7 @@ fn run<R: AllocGlobal + Threads + Wait + Sync, F: NamedFiles, O: Sink, E: Sink>(
     ensures decided { result ≡ Status.Done → IsAsAsked ARCH.now NET.now PLACE.now (map (λ word. word.items) words.now) (F.held files.old) (F.held files.new) (O.contents out.old) (O.contents out.new) }
     ensures wrong { words.now ≢ [] → faults (map (λ word. word.items) words.now) ≢ [] → (result ≡ Status.CommandLine) ⊎ ((result ≡ Status.NoMemory) ⊎ AskForHelp (map (λ word. word.items) words.now)) }
     ensures kept { result ≢ Status.Done → F.held files.new ≡ F.held files.old }
+    ensures served { AskForHelpAlone (map (λ word. word.items) words.now) → IsServed result (O.failed out.old) (O.failed out.new) }
 {
     let alloc = rt.alloc();
     match parse_words(alloc, words) {
@@ -122,6 +126,9 @@ pub fn program<R: AllocGlobal + Threads + Wait + Sync, F: NamedFiles, O: Sink, E
 
     // Wrong words end with 2, unless memory runs out, or they ask for help or the version.
     ensures wrong { words.now ≢ [] → faults (map (λ word. word.items) words.now) ≢ [] → (result ≡ 2) ⊎ ((result ≡ 3) ⊎ AskForHelp (map (λ word. word.items) words.now)) }
+
+    // Words that ask for help or the version, with nothing wrong in them, end with 0, unless memory runs out or the output fails.
+    ensures served { AskForHelpAlone (map (λ word. word.items) words.now) → (result ≡ 0) ⊎ ((result ≡ 3) ⊎ ((result ≡ 4) × (O.failed out.new ≡ grown (O.failed out.old)))) }
 
     // If it is not 0, the files are as before.
     ensures kept { result ≢ 0 → F.held files.new ≡ F.held files.old }

@@ -95,6 +95,8 @@ fn without_255(name: &[u8]) -> &[u8] {
 impl NamedFiles for OddNames {
     ghost held = { λ files. None };
 
+    ghost shut = { λ files. None };
+
     // The name.
     type Outlet = Vec<u8>;
 
