@@ -88,8 +88,10 @@ pub const WORDS: [&[u8]; 17] = [
     b"3",
 ];
 
-/// The files of the design, and `u.net`, a netlist whose second net has no driver. Bytes that are put at `t.place` and at `t.point` are kept. Two more names can be reserved: for `late` the disk
-/// is full when the bytes come, and for `huge` memory has run out by then. No other name can; `none` runs out of memory.
+/// The files of the design, and `u.net`, a netlist whose second net has no driver. Bytes that are put at `t.place` and at `t.point` are
+/// kept. Two more names can be reserved: for `late` the disk is full when the bytes come, and for `huge` memory has run out by then. No
+/// other name can; `none` runs out of memory. A name stands on the right of each comparison, as in the definitions, so that the proof
+/// search needs no lemma.
 #[derive(Drop)]
 pub struct Desk {
     arch: &'static [u8],
@@ -130,20 +132,20 @@ impl NamedFiles for Desk {
     ghost name_of = { λ name. name.items };
 
     fn read(&self, alloc: Global, name: &[u8]) -> Result<Vec<u8>, ReadFault> {
-        let text = if name == b"t.arch".as_slice() {
+        let text = if b"t.arch".as_slice() == name {
             self.arch
-        } else if name == b"t.net".as_slice() {
+        } else if b"t.net".as_slice() == name {
             self.net
-        } else if name == b"u.net".as_slice() {
+        } else if b"u.net".as_slice() == name {
             self.undriven
-        } else if name == b"t.pads".as_slice() {
+        } else if b"t.pads".as_slice() == name {
             self.pads
-        } else if name == b"t.place".as_slice() {
+        } else if b"t.place".as_slice() == name {
             match &self.placed {
                 Some(place) => place.as_slice(),
                 None => return Err(ReadFault::Unreadable),
             }
-        } else if name == b"t.point".as_slice() {
+        } else if b"t.point".as_slice() == name {
             match &self.point {
                 Some(point) => point.as_slice(),
                 None => return Err(ReadFault::Unreadable),
@@ -158,13 +160,13 @@ impl NamedFiles for Desk {
     }
 
     fn reserve(&self, alloc: Global, name: &[u8]) -> Result<Vec<u8>, WriteFault> {
-        if name == b"none".as_slice() {
+        if b"none".as_slice() == name {
             return Err(WriteFault::NoMemory);
         }
-        let is_known = name == b"t.place".as_slice()
-            || name == b"t.point".as_slice()
-            || name == b"huge".as_slice()
-            || name == b"late".as_slice();
+        let is_known = b"t.place".as_slice() == name
+            || b"t.point".as_slice() == name
+            || b"huge".as_slice() == name
+            || b"late".as_slice() == name;
         if !is_known {
             return Err(WriteFault::Unwritable);
         }
@@ -179,17 +181,17 @@ impl NamedFiles for Desk {
 
     fn put(&mut self, name: Vec<u8>, bytes: &[u8]) -> Result<(), WriteFault> {
         self.taken.set(self.taken.get().saturating_sub(1));
-        if name.as_slice() == b"huge".as_slice() {
+        if b"huge".as_slice() == name.as_slice() || b"none".as_slice() == name.as_slice() {
             return Err(WriteFault::NoMemory);
         }
         let Ok(bytes) = Vec::from_slice(self.alloc, bytes) else {
             return Err(WriteFault::NoMemory);
         };
-        if name.as_slice() == b"t.place".as_slice() {
+        if b"t.place".as_slice() == name.as_slice() {
             self.placed = Some(bytes);
             return Ok(());
         }
-        if name.as_slice() == b"t.point".as_slice() {
+        if b"t.point".as_slice() == name.as_slice() {
             self.point = Some(bytes);
             return Ok(());
         }
