@@ -8,9 +8,11 @@ pub mod ByChains
 pub mod CatchingUp
 pub mod Committing
 pub mod Folding
+pub mod Noting
 pub mod Owning
 pub mod Pipelining
 pub mod Showing
+pub mod Since
 pub mod Stamping
 pub mod Standings
 pub mod Kept

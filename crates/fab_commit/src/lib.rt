@@ -36,6 +36,7 @@ pub use model::world::World;
 pub use run::annealer::Anneal;
 pub use run::crew::{Crew, beside, found_crew};
 pub use run::job::Work;
+pub use run::keeping::{Keeping, KeepsCount, KeepsNumbers};
 pub use run::point::Point;
 pub use run::turn::Turn;
 pub use run::workers::Workers;

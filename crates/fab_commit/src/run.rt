@@ -5,6 +5,8 @@ pub mod alone;
 pub mod annealer;
 pub mod crew;
 pub mod job;
+pub mod keeping;
+pub(crate) mod numbers;
 mod owner;
 mod pipeline;
 pub mod point;

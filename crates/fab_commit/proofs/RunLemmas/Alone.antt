@@ -6,12 +6,14 @@ use Rattle.fab_dial.specs.declared.readings.Reading.{Reading}
 use Rattle.std.proofs.lemmas.List.Elements.{filter-append}
 use Rattle.fab_commit.specs.declared.run.alone.Ahead.{Ahead}
 use Rattle.fab_commit.specs.declared.run.owner.Owner.{Owner}
+use Rattle.fab_commit.specs.declared.run.state.State.{State}
 use Rattle.fab_commit.specs.Serial.{Run, Standing, accepted_among, from, judged_here, moves_left, one_if}
 use Rattle.fab_commit.specs.Run.Alone.{AreMadeAlone, AreOpen, HasGone, HaveGone, HaveStopped, IsAlone, IsFollowed, is_touched_here}
 use Rattle.fab_commit.specs.Run.Pipelines.{HasTurn, IsBehind}
 use Rattle.fab_commit.specs.declared.run.pipeline.Pipeline.{Pipeline}
 use Rattle.std.specs.Arc.{arc_value}
 use Rattle.fab_commit.specs.Run.Commits.{IsSound, standing_of}
+use Rattle.fab_commit.specs.Run.Noted.{noted, noted_more}
 use Rattle.fab_commit.specs.Run.Owners.{HasMade, IsOwned, Leads, since}
 use Rattle.fab_commit.specs.Run.StampTables.{AreStamps, IsTable, kept_stamp}
 use Rattle.fab_commit.specs.Model.TurnEvents.{LastTurn, is_redone_behind, next_turn, stands}
@@ -20,6 +22,7 @@ use Rattle.fab_commit.specs.Model.History.{accepted_from, is_redone}
 use Rattle.fab_commit.specs.Model.Stamps.{AreBefore}
 use Rattle.fab_commit.specs.Model.World.{clash}
 use Rattle.fab_commit.proofs.RunLemmas.Folding.{from_add, goes_on, not_ended}
+use Rattle.fab_commit.proofs.RunLemmas.Noting.{noted_more-more, noted_more-nil}
 use Rattle.fab_commit.proofs.RunLemmas.Owning.{accepted_add, before_on, count_more, none_made, recent_after, touched_is}
 use Rattle.fab_commit.proofs.RunLemmas.ByChains.{chain_push}
 use Rattle.fab_commit.proofs.RunLemmas.Pipelining.{behind_counts, no_answers}
@@ -114,7 +117,7 @@ open_later r o now base n i m due made low =
 -- the owner as it was before a turn, with its swaps forgotten
 pub record IsReadied (s o : Owner) : Type 0 where
   pub stands : standing_of o.state ≡ standing_of s.state
-  pub accepted : o.state.accepted.items ≡ s.state.accepted.items
+  pub accepted : noted o.state.accepted ≡ noted s.state.accepted
   pub swaps : o.swaps.items ≡ []
   pub stamps : o.stamps ≡ s.stamps
   pub redone : o.redone ≡ s.redone
@@ -123,7 +126,7 @@ pub readied : (r : Run) (s cleared o : Owner) → cleared.state ≡ s.state → 
     → HasMade r cleared 0 o → o.stamps ≡ cleared.stamps → o.redone ≡ cleared.redone → IsReadied s o
 readied r s cleared o state swaps stamps redone made same_stamps same_redone = record {
   stands = made.stands ∙ ap standing_of state;
-  accepted = made.accepted ∙ append-nil cleared.state.accepted.items ∙ (λ i. (state i).accepted.items);
+  accepted = made.accepted ∙ noted_more-nil (noted cleared.state.accepted) ∙ ap (λ (v : State). noted v.accepted) state;
   swaps = made.swaps ∙ append-nil cleared.swaps.items ∙ swaps;
   stamps = same_stamps ∙ stamps;
   redone = same_redone ∙ redone;
@@ -246,7 +249,7 @@ gone r t s o now ahead due n next alone ready made left base many counted =
       };
       done = omega (arith, done, same);
       there = made.stands ∙ ap (λ v. from r v n) ready.stands;
-      accepted = made.accepted ∙ (λ i. ready.accepted i ++ accepted_among r (ready.stands i) n);
+      accepted = made.accepted ∙ (λ i. noted_more (ready.accepted i) (accepted_among r (ready.stands i) n));
       redone = omega (arith, redone, counted);
     }
 
@@ -262,7 +265,7 @@ none_gone r batch t o ahead alone = record {
   alone = alone;
   done = omega arith;
   there = refl;
-  accepted = sym (append-nil o.state.accepted.items);
+  accepted = sym (noted_more-nil (noted o.state.accepted));
   redone = omega arith;
 }
 
@@ -285,9 +288,9 @@ have_more r batch t o mid now ahead due n made all first second sum =
       there = second.there ∙ ap (λ y. from r y k) first.there ∙ sym (from_add r x made k) ∙ ap (from r x) sum;
       accepted =
           second.accepted
-          ∙ (λ i. first.accepted i ++ accepted_among r (first.there i) k)
-          ∙ append_assoc o.state.accepted.items (accepted_among r x made) (accepted_among r (from r x made) k)
-          ∙ ap (λ l. o.state.accepted.items ++ l) (accepted_add r x made k ∙ ap (accepted_among r x) sum);
+          ∙ (λ i. noted_more (first.accepted i) (accepted_among r (first.there i) k))
+          ∙ noted_more-more (noted o.state.accepted) (accepted_among r x made) (accepted_among r (from r x made) k)
+          ∙ ap (noted_more (noted o.state.accepted)) (accepted_add r x made k ∙ ap (accepted_among r x) sum);
       redone = omega (arith, was, more, again);
     }
 
@@ -301,7 +304,7 @@ have_stopped r batch t o mid now ahead due n made first second =
       alone = second.alone;
       done = omega (arith, done_mid, done_now);
       there = second.there ∙ first.there;
-      accepted = second.accepted ∙ append-nil mid.state.accepted.items ∙ first.accepted;
+      accepted = second.accepted ∙ noted_more-nil (noted mid.state.accepted) ∙ first.accepted;
       redone = omega (arith, was, more);
     }
 

@@ -1,5 +1,5 @@
 -- What a turn leaves, without a word of the turn before it.
-use Rattle.std.proofs.Common.{◌≡◌, ℕ, ◌+◌, ◌-◌, ◌<◌, ◌≤◌, min, List, [], ◌∷◌, ◌++◌, Option, Some, None, is_some, Bool, true, false, length, map, take, refl, sym, ap, ◌∙◌, inl, inr, arith, append-nil}
+use Rattle.std.proofs.Common.{◌≡◌, ℕ, ◌+◌, ◌-◌, ◌<◌, ◌≤◌, min, List, [], ◌∷◌, Option, Some, None, is_some, Bool, true, false, length, map, take, refl, sym, ap, ◌∙◌, inl, inr, arith}
 use Rattle.std.specs.List.{count_by, range_with_len}
 use Rattle.std.proofs.lemmas.Bool.{cases_lt, false≢true}
 use Rattle.std.proofs.lemmas.Option.{none-some}
@@ -10,6 +10,7 @@ use Rattle.fab_commit.specs.declared.run.pipeline.Pipeline.{Pipeline}
 use Rattle.fab_commit.specs.declared.model.events.Way.{Way}
 use Rattle.fab_commit.specs.Serial.{Run, Standing, accepted_among, from, left_at, moves_left}
 use Rattle.fab_commit.specs.Run.Commits.{heat_of, standing_of}
+use Rattle.fab_commit.specs.Run.Noted.{noted, noted_more}
 use Rattle.fab_commit.specs.Run.Owners.{verdict_of}
 use Rattle.fab_commit.specs.Run.Pipelines.{HasTurned, IsBehind, world_in}
 use Rattle.fab_commit.specs.Model.History.{accepted_from}
@@ -48,12 +49,12 @@ stands_on r t s now n ahead b h =
     let e : n ≡ now.owner.state.done - s.owner.state.done = omega (arith, made) in
     h.behind.here ∙ (λ i. from r (sym b.here i) (e i))
 
-pub accepted_on : (r : Run) (t : LastTurn) (s now : Pipeline) (n ahead : ℕ) → IsBehind r t s → HasTurned r t s n ahead now
-    → now.owner.state.accepted.items ≡ s.owner.state.accepted.items ++ accepted_among r (standing_of s.owner.state) (now.owner.state.done - s.owner.state.done)
-accepted_on r t s now n ahead b h =
+pub noted_on : (r : Run) (t : LastTurn) (s now : Pipeline) (n ahead : ℕ) → IsBehind r t s → HasTurned r t s n ahead now
+    → noted now.owner.state.accepted ≡ noted_more (noted s.owner.state.accepted) (accepted_among r (standing_of s.owner.state) (now.owner.state.done - s.owner.state.done))
+noted_on r t s now n ahead b h =
     let made = moves_made r t s now n ahead b h in
     let e : n ≡ now.owner.state.done - s.owner.state.done = omega (arith, made) in
-    h.accepted ∙ (λ i. s.owner.state.accepted.items ++ accepted_among r (sym b.here i) (e i))
+    h.accepted ∙ (λ i. noted_more (noted s.owner.state.accepted) (accepted_among r (sym b.here i) (e i)))
 
 pub redone_on : (r : Run) (t : LastTurn) (s now : Pipeline) (batch n ahead : ℕ) → IsBehind r t s → HasTurned r t s n ahead now → n ≤ (next_turn r batch t).made
     → now.owner.redone ≡ s.owner.redone + count_by is_redone_way (take (now.owner.state.done - s.owner.state.done) (ways r (world_in s) (turn_events r batch (world_in s))))
@@ -103,7 +104,6 @@ says_told base (a ∷ answers) = ap (λ l. says a ∷ l) (says_told base answers
 -- what stays where a turn finds no move left
 pub record Stays (s now : Pipeline) : Type 0 where
   pub stands : standing_of now.owner.state ≡ standing_of s.owner.state
-  pub accepted : now.owner.state.accepted.items ≡ s.owner.state.accepted.items
   pub redone : now.owner.redone ≡ s.owner.redone
   pub ahead : map (verdict_of now.base) now.ahead.items ≡ []
 
@@ -113,11 +113,10 @@ none_left r x over = ap (left_at r.plan.moves x.done) over
 pub stays : (r : Run) (s now : Pipeline) (batch : ℕ) (told : List Way) → (standing_of s.owner.state).heat ≡ None
     → standing_of now.owner.state ≡ from r (standing_of s.owner.state) (now.owner.state.done - s.owner.state.done)
     → now.owner.state.done ≡ s.owner.state.done + min batch (moves_left r (standing_of s.owner.state))
-    → now.owner.state.accepted.items ≡ s.owner.state.accepted.items ++ accepted_among r (standing_of s.owner.state) (now.owner.state.done - s.owner.state.done)
     → now.owner.redone ≡ s.owner.redone + count_by is_redone_way (take (now.owner.state.done - s.owner.state.done) told)
     → map (verdict_of now.base) now.ahead.items ≡ map (verdict_on r (standing_of s.owner.state)) (range_with_len now.owner.state.done (min batch (moves_left r (standing_of s.owner.state) - min batch (moves_left r (standing_of s.owner.state)))))
     → Stays s now
-stays r s now batch told over stands done accepted redone ahead =
+stays r s now batch told over stands done redone ahead =
     let x = standing_of s.owner.state in
     let left = none_left r x over in
     let none : now.owner.state.done - s.owner.state.done ≡ 0 = omega (arith, done, left) in
@@ -125,7 +124,6 @@ stays r s now batch told over stands done accepted redone ahead =
     let counted : count_by is_redone_way (take (now.owner.state.done - s.owner.state.done) told) ≡ 0 = ap (λ n. count_by is_redone_way (take n told)) none in
     record {
       stands = stands ∙ ap (from r x) none;
-      accepted = accepted ∙ ap (λ n. s.owner.state.accepted.items ++ accepted_among r x n) none ∙ append-nil s.owner.state.accepted.items;
       redone = omega (arith, redone, counted);
       ahead = ahead ∙ ap (λ n. map (verdict_on r x) (range_with_len now.owner.state.done n)) least;
     }

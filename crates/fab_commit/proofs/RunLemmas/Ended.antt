@@ -1,5 +1,5 @@
 -- What an annealer is after moves that its owner made alone.
-use Rattle.std.proofs.Common.{◌≡◌, ℕ, ◌+◌, ◌-◌, ◌<◌, ◌++◌, List, [], ◌∷◌, map, min, replicate, Result, Ok, Err, refl, sym, ap, subst, ◌∙◌, arith}
+use Rattle.std.proofs.Common.{◌≡◌, ℕ, ◌+◌, ◌-◌, ◌<◌, ◌≤◌, ◌++◌, List, [], ◌∷◌, map, min, replicate, Result, Ok, Err, refl, sym, ap, subst, ◌∙◌, arith}
 use Rattle.std.specs.List.{count_by}
 use Rattle.std.specs.declared.alloc.AllocError.{AllocError}
 use Rattle.fab_dial.specs.declared.readings.Reading.{Reading}
@@ -23,6 +23,7 @@ use Rattle.fab_commit.proofs.RunLemmas.Annealing.{some_moves, world_is}
 use Rattle.fab_commit.proofs.RunLemmas.ByChains.{by_chain, last_add, redone_add, same_turns}
 use Rattle.fab_commit.proofs.RunLemmas.ByTurns.{last_of_a_stage}
 use Rattle.fab_commit.proofs.RunLemmas.Parts.{none_redone, redone_more}
+use Rattle.fab_commit.proofs.RunLemmas.Since.{accepted_later}
 use Rattle.fab_commit.proofs.RunLemmas.Turned.{seen}
 
 -- what turns judge again depends only on the world before them
@@ -76,10 +77,11 @@ counted_part r batch t o now due count a x pos stage here again h by =
     let sum : now.redone ≡ redone r (no_turn x) (replicate (m + n) batch) + redone_next r k w = omega (arith, was, more, chain, one, all, again) in
     sum ∙ end ∙ ap (redone_in_run r x batch) there
 
-pub made_alone : {W A : Type 0} (moves : W → ℕ → List ℕ) (given : Given W) (batch count : ℕ) (s now : Pipeline) (t : LastTurn) (ahead due : Ahead) (answer : Result A AllocError) (old new : List Reading) → IsBehind (run_for moves given) t s
+pub made_alone : {W A : Type 0} (moves : W → ℕ → List ℕ) (given : Given W) (z : Standing) (batch count : ℕ) (s now : Pipeline) (t : LastTurn) (ahead due : Ahead) (answer : Result A AllocError) (old new : List Reading) → IsBehind (run_for moves given) t s
+    → z.done ≤ s.owner.state.done → standing_of s.owner.state ≡ from (run_for moves given) z (s.owner.state.done - z.done)
     → IsAlone (run_for moves given) t s.owner ahead → AreMadeAlone (run_for moves given) batch count s.owner ahead now.owner due answer old new → IsFollowed (run_for moves given) now due
-    → IsMadeAlone moves batch count (seen given s) (seen given now) answer old new
-made_alone moves given batch count s now t ahead due (Ok v) old new b alone made f =
+    → IsMadeAlone moves batch count (seen moves given z s) (seen moves given z now) answer old new
+made_alone moves given z batch count s now t ahead due (Ok v) old new b after here alone made f =
     let r = run_for moves given in
     let x = standing_of s.owner.state in
     let h = made.ended t alone in
@@ -91,7 +93,7 @@ made_alone moves given batch count s now t ahead due (Ok v) old new b alone made
     record {
       same = record { design = refl; grid = refl; fixed = refl; plan = refl; words = refl };
       stands = h.there ∙ ap (from r x) some;
-      accepted = h.accepted ∙ ap (λ k. s.owner.state.accepted.items ++ accepted_among r x k) some;
+      accepted = accepted_later r z x now.owner.state.done after (omega (arith, done)) here;
       ok = done;
       within = (omega (arith, done), omega (arith, done));
       turns_made = n;
@@ -107,13 +109,13 @@ made_alone moves given batch count s now t ahead due (Ok v) old new b alone made
           let same : unjudged (last_turn r t (replicate n batch)) ≡ last_turn r t (replicate n batch) = (let v = last_turn r t (replicate n batch) in ap (λ k. record { start = v.start; made = v.made; ahead = k }) (sym end.1)) in
           let zero = ap (λ k. redone_next r k (last_turn r t (replicate n batch))) end.0 ∙ none_redone r (last_turn r t (replicate n batch)) in
           let again = h.redone in
-          by_chain r batch n t (seen given s) (seen given now) (some_moves r t s b) b.stage (world_is r t s b) (world_is r (unjudged u) now behind ∙ ap (λ v. world_behind r (unjudged v)) plain ∙ ap (world_behind r) same) (omega (arith, again, zero));
-      counted = λ x by. counted_part r batch t s.owner now.owner due count (seen given s) x (some_moves r t s b) b.stage (world_is r t s b) refl h by;
+          by_chain r batch n t (seen moves given z s) (seen moves given z now) (some_moves r t s b) b.stage (world_is r t s b) (world_is r (unjudged u) now behind ∙ ap (λ v. world_behind r (unjudged v)) plain ∙ ap (world_behind r) same) (omega (arith, again, zero));
+      counted = λ x by. counted_part r batch t s.owner now.owner due count (seen moves given z s) x (some_moves r t s b) b.stage (world_is r t s b) refl h by;
       shown = made.shown;
       ends = made.ends;
       shown_cut = tt;
     }
-made_alone moves given batch count s now t ahead due (Err e) old new b alone made f =
+made_alone moves given z batch count s now t ahead due (Err e) old new b after here alone made f =
     let r = run_for moves given in
     let x = standing_of s.owner.state in
     let h = made.stopped t alone in
@@ -129,7 +131,7 @@ made_alone moves given batch count s now t ahead due (Err e) old new b alone mad
     record {
       same = record { design = refl; grid = refl; fixed = refl; plan = refl; words = refl };
       stands = h.there ∙ ap (from r x) some;
-      accepted = h.accepted ∙ ap (λ k. s.owner.state.accepted.items ++ accepted_among r x k) some;
+      accepted = accepted_later r z x now.owner.state.done after (omega (arith, done)) here;
       ok = tt;
       within = (omega (arith, done), omega (arith, done, few));
       turns_made = n;

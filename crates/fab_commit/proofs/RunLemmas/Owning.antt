@@ -22,11 +22,13 @@ use Rattle.fab_commit.specs.declared.model.judged.JudgedMove.{JudgedMove}
 use Rattle.fab_commit.specs.Serial.{Run, Standing, accepted_among, accepted_here, after_move, from, judged_here, moves_left, numbers_if, one_if, step}
 use Rattle.fab_commit.specs.Run.Commits.{standing_of}
 use Rattle.fab_commit.specs.Model.History.{accepted_at, accepted_from, is_redone}
+use Rattle.fab_commit.specs.Run.Noted.{noted, noted_more}
 use Rattle.fab_commit.specs.Run.Owners.{AreAnswers, AreDue, HasMade, IsOwned, Leads, is_touched, since, verdict_of}
 use Rattle.fab_commit.specs.Run.StampTables.{AreStamps, IsWithin, kept_stamp}
 use Rattle.fab_commit.specs.Model.Stamps.{AreBefore, stamp}
 use Rattle.fab_commit.specs.Model.TurnEvents.{LastTurn, IsOfAStage, stands, verdict_on, world_behind}
 use Rattle.fab_commit.specs.Model.World.{accepted_as, accepted_now, clash, usable, verdict_here}
+use Rattle.fab_commit.proofs.RunLemmas.Noting.{noted_more-more, noted_more-nil}
 use Rattle.fab_commit.proofs.RunLemmas.Folding.{from_add, goes_on, hot_at, not_ended, step_is}
 use Rattle.fab_commit.proofs.ModelLemmas.Happening.{blocks_of_swap}
 use Rattle.fab_commit.proofs.ModelLemmas.History.{accepted_from-add}
@@ -111,7 +113,7 @@ none_made r o owned = record {
   owned = owned;
   done = omega arith;
   stands = refl;
-  accepted = sym (append-nil o.state.accepted.items);
+  accepted = sym (noted_more-nil (noted o.state.accepted));
   swaps = sym (append-nil o.swaps.items);
   stamps = λ log before are. subst (AreStamps r.problem.design r.problem.grid o.stamps) (sym (append-nil log)) are;
   leads = λ sites h. h;
@@ -129,9 +131,9 @@ made_more r o a b n m first second =
       stands = second.stands ∙ ap (λ y. from r y m) there ∙ sym (from_add r x n m);
       accepted =
           second.accepted
-          ∙ (λ i. first.accepted i ++ accepted_among r (there i) m)
-          ∙ append_assoc o.state.accepted.items (accepted_among r x n) (accepted_among r (from r x n) m)
-          ∙ ap (λ l. o.state.accepted.items ++ l) (accepted_add r x n m);
+          ∙ (λ i. noted_more (first.accepted i) (accepted_among r (there i) m))
+          ∙ noted_more-more (noted o.state.accepted) (accepted_among r x n) (accepted_among r (from r x n) m)
+          ∙ ap (noted_more (noted o.state.accepted)) (accepted_add r x n m);
       swaps =
           second.swaps
           ∙ (λ i. first.swaps i ++ accepted_from r (there i) m)
@@ -180,7 +182,7 @@ leads_now g sites there xs n j true (Some s) eb eo lawful h =
 pub record IsNext (r : Run) (o : Owner) (j : Judged) (now : Owner) : Type 0 where
   pub owned : IsOwned r now
   pub stands : standing_of now.state ≡ after_move r (standing_of o.state) j
-  pub accepted : now.state.accepted.items ≡ o.state.accepted.items ++ numbers_if o.state.done j.accepted
+  pub accepted : noted now.state.accepted ≡ noted_more (noted o.state.accepted) (numbers_if o.state.done j.accepted)
   pub swaps : now.swaps.items ≡ o.swaps.items ++ accepted_now o.state.done j
   pub stamps : (log : List Accepted) → AreBefore o.state.done log → AreStamps r.problem.design r.problem.grid o.stamps log → AreStamps r.problem.design r.problem.grid now.stamps (log ++ accepted_now o.state.done j)
 
@@ -199,7 +201,7 @@ one_made r o now j owned going says lawful next =
       owned = next.owned;
       done = ap (λ (y : Standing). y.done) next.stands;
       stands = stands;
-      accepted = next.accepted ∙ ap (λ l. o.state.accepted.items ++ l) (sym (append-nil (numbers_if o.state.done j.accepted)) ∙ number_is);
+      accepted = next.accepted ∙ ap (noted_more (noted o.state.accepted)) (sym (append-nil (numbers_if o.state.done j.accepted)) ∙ number_is);
       swaps = next.swaps ∙ ap (λ l. o.swaps.items ++ l) (sym (append-nil (accepted_now o.state.done j)) ∙ swap_is);
       stamps = λ log before are. subst (AreStamps r.problem.design r.problem.grid now.stamps) (ap (λ l. log ++ l) (sym (append-nil (accepted_now o.state.done j)) ∙ swap_is)) (next.stamps log before are);
       leads = λ sites h.

@@ -7,10 +7,12 @@ use Rattle.fab_commit.specs.declared.run.owner.Owner.{Owner}
 use Rattle.fab_commit.specs.Serial.{Run, Standing, accepted_among, from, moves_left}
 use Rattle.fab_commit.specs.Run.Alone.{EndsAt, HasGone, HaveEnded, HaveGone, IsAlone, LeadsTo, unjudged, with_shorter}
 use Rattle.fab_commit.specs.Run.Commits.{standing_of}
+use Rattle.fab_commit.specs.Run.Noted.{noted, noted_more}
 use Rattle.fab_commit.specs.Run.Readings.{readings}
 use Rattle.fab_commit.specs.Model.TurnEvents.{LastTurn, is_redone_behind, next_turn, stands}
 use Rattle.fab_commit.specs.Model.Turns.{last_turn, redone, redone_next}
 use Rattle.fab_commit.proofs.RunLemmas.Folding.{from_add}
+use Rattle.fab_commit.proofs.RunLemmas.Noting.{noted_more-more}
 use Rattle.fab_commit.proofs.RunLemmas.Owning.{accepted_add}
 
 -- nothing counts as judged ahead any more
@@ -96,9 +98,9 @@ ended_short r batch t o mid now n made short count due then first second some fe
       there = second.there ∙ ap (λ (v : Standing). from r v k) first.there ∙ sym (from_add r x made k) ∙ ap (from r x) sum;
       accepted =
           second.accepted
-          ∙ (λ i. first.accepted i ++ accepted_among r (first.there i) k)
-          ∙ append_assoc o.state.accepted.items (accepted_among r x made) (accepted_among r (from r x made) k)
-          ∙ ap (λ l. o.state.accepted.items ++ l) (accepted_add r x made k ∙ ap (accepted_among r x) sum);
+          ∙ (λ i. noted_more (first.accepted i) (accepted_among r (first.there i) k))
+          ∙ noted_more-more (noted o.state.accepted) (accepted_among r x made) (accepted_among r (from r x made) k)
+          ∙ ap (noted_more (noted o.state.accepted)) (accepted_add r x made k ∙ ap (accepted_among r x) sum);
       last = omega (arith, here, is);
       redone = omega (arith, again, more);
     }

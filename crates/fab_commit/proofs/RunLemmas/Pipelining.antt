@@ -13,6 +13,7 @@ use Rattle.fab_commit.specs.declared.run.state.State.{State}
 use Rattle.fab_commit.specs.Serial.{Run, Standing, accepted_among, from, moves_left, one_if}
 use Rattle.fab_commit.specs.Run.Commits.{IsSound, standing_of}
 use Rattle.fab_commit.specs.Model.History.{accepted_from, is_redone}
+use Rattle.fab_commit.specs.Run.Noted.{noted, noted_more}
 use Rattle.fab_commit.specs.Run.Owners.{AreAnswers, AreDue, HasCounted, HasMade, IsOwned, KeepsKind, redone_of_both, since, verdict_of}
 use Rattle.fab_commit.specs.Run.Pipelines.{HasTurned, IsAnswer, IsBehind}
 use Rattle.fab_commit.specs.Run.StampTables.{AreStamps}
@@ -288,7 +289,7 @@ turned r t s now o moves n ahead kept b m low list counted =
         before = subst (λ k. AreBefore k (b.log ++ accepted_from r (standing_of o.state) n)) (sym done) (before_on r (standing_of o.state) b.log n before_o);
         recent = ap (λ k. filter (since k) (b.log ++ accepted_from r (standing_of o.state) n)) (sym from_o) ∙ recent_after r (standing_of o.state) b.log n before_o ∙ ap (λ v. accepted_from r v n) here;
       };
-      accepted = m.made.accepted ∙ (λ i. (m.state i).accepted.items ++ accepted_among r (here i) n);
+      accepted = m.made.accepted ∙ (λ i. noted_more (noted (m.state i).accepted) (accepted_among r (here i) n));
       redone = (let same = m.redone in counting s.owner.redone o.redone now.owner.redone _ _ same count again);
     }
   where

@@ -11,6 +11,7 @@ use Rattle.fab_commit.specs.declared.run.swaps.Accepted.{Accepted}
 use Rattle.fab_commit.specs.Serial.{Run, Standing, accepted_among, from, judged_here, moves_left}
 use Rattle.fab_commit.specs.Run.ByTurns.{IsByTurns, LeadsByTurns}
 use Rattle.fab_commit.specs.Run.Commits.{AnnealOf, IsSameRun, IsSound, run_of, standing_of, world_of}
+use Rattle.fab_commit.specs.Run.Noted.{noted, noted_more}
 use Rattle.fab_commit.specs.Run.Owners.{IsOwned, since}
 use Rattle.fab_commit.specs.declared.run.pipeline.Pipeline.{Pipeline}
 use Rattle.fab_commit.specs.Run.Readings.{HasShown, readings}
@@ -63,7 +64,7 @@ pub record HasGone (r : Run) (t : LastTurn) (o : Owner) (made ahead : ℕ) (now 
   pub alone : IsAlone r (record { start = stands r t; made = made; ahead = ahead }) now due
   pub done : now.state.done ≡ o.state.done + made
   pub there : standing_of now.state ≡ from r (standing_of o.state) made
-  pub accepted : now.state.accepted.items ≡ o.state.accepted.items ++ accepted_among r (standing_of o.state) made
+  pub accepted : noted now.state.accepted ≡ noted_more (noted o.state.accepted) (accepted_among r (standing_of o.state) made)
   pub redone : now.redone ≡ o.redone + count_by (is_redone_behind r t) (range_with_len (stands r t).done made)
 
 -- after turn t came `turns` turns of this batch, which made `made` moves
@@ -71,7 +72,7 @@ pub record HaveGone (r : Run) (batch : ℕ) (t : LastTurn) (o : Owner) (turns ma
   pub alone : IsAlone r (last_turn r t (replicate turns batch)) now due
   pub done : now.state.done ≡ o.state.done + made
   pub there : standing_of now.state ≡ from r (standing_of o.state) made
-  pub accepted : now.state.accepted.items ≡ o.state.accepted.items ++ accepted_among r (standing_of o.state) made
+  pub accepted : noted now.state.accepted ≡ noted_more (noted o.state.accepted) (accepted_among r (standing_of o.state) made)
   pub redone : now.redone ≡ o.redone + redone r t (replicate turns batch)
 
 -- after turn t came `turns` turns of this batch, which made `made` moves, and then one that made none, because memory ran out
@@ -79,7 +80,7 @@ pub record HaveStopped (r : Run) (batch : ℕ) (t : LastTurn) (o : Owner) (turns
   pub alone : IsAlone r (cut_turn r 0 (last_turn r t (replicate turns batch))) now due
   pub done : now.state.done ≡ o.state.done + made
   pub there : standing_of now.state ≡ from r (standing_of o.state) made
-  pub accepted : now.state.accepted.items ≡ o.state.accepted.items ++ accepted_among r (standing_of o.state) made
+  pub accepted : noted now.state.accepted ≡ noted_more (noted o.state.accepted) (accepted_among r (standing_of o.state) made)
   pub redone : now.redone ≡ o.redone + redone r t (replicate turns batch)
 
 -- turns of this batch, and then a shorter one, if it has any moves
@@ -100,7 +101,7 @@ pub record HaveEnded (r : Run) (batch : ℕ) (t : LastTurn) (o : Owner) (made : 
   pub whole : made ≡ moves_left r (standing_of o.state) → (short ≡ 0) × ((last_turn r t (replicate turns batch)).ahead ≡ 0)
   pub done : now.state.done ≡ o.state.done + made
   pub there : standing_of now.state ≡ from r (standing_of o.state) made
-  pub accepted : now.state.accepted.items ≡ o.state.accepted.items ++ accepted_among r (standing_of o.state) made
+  pub accepted : noted now.state.accepted ≡ noted_more (noted o.state.accepted) (accepted_among r (standing_of o.state) made)
   pub last : now.state.done ≡ (stands r (last_turn r t (replicate turns batch))).done + (next_turn r short (last_turn r t (replicate turns batch))).made
   pub redone : now.redone ≡ o.redone + (redone r t (replicate turns batch) + redone_next r short (last_turn r t (replicate turns batch)))
 

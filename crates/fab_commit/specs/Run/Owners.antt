@@ -12,6 +12,7 @@ use Rattle.fab_commit.specs.declared.run.swaps.Accepted.{Accepted}
 use Rattle.fab_commit.specs.declared.model.judged.JudgedMove.{JudgedMove}
 use Rattle.fab_commit.specs.Serial.{Run, Standing, accepted_among, from, moves_left}
 use Rattle.fab_commit.specs.Run.Commits.{IsSound, standing_of}
+use Rattle.fab_commit.specs.Run.Noted.{HasRoomFor, noted, noted_more}
 use Rattle.fab_commit.specs.Model.History.{accepted_from, is_redone}
 use Rattle.fab_commit.specs.Run.StampTables.{AreStamps, IsTable, kept_stamp}
 use Rattle.fab_commit.specs.Model.Stamps.{AreBefore}
@@ -30,14 +31,14 @@ pub record IsOwned (r : Run) (o : Owner) : Type 0 where
 
 -- there is room for n more accepted moves
 abbrev pub HasRoom : Owner → ℕ → Type 0
-HasRoom o n = (vec_len o.state.accepted + n ≤ vec_capacity o.state.accepted) × (vec_len o.swaps + n ≤ vec_capacity o.swaps)
+HasRoom o n = HasRoomFor o.state.accepted n × (vec_len o.swaps + n ≤ vec_capacity o.swaps)
 
 -- the owner made n more moves of its run
 pub record HasMade (r : Run) (o : Owner) (n : ℕ) (now : Owner) : Type 0 where
   pub owned : IsOwned r now
   pub done : now.state.done ≡ o.state.done + n
   pub stands : standing_of now.state ≡ from r (standing_of o.state) n
-  pub accepted : now.state.accepted.items ≡ o.state.accepted.items ++ accepted_among r (standing_of o.state) n
+  pub accepted : noted now.state.accepted ≡ noted_more (noted o.state.accepted) (accepted_among r (standing_of o.state) n)
   pub swaps : now.swaps.items ≡ o.swaps.items ++ accepted_from r (standing_of o.state) n
   pub stamps : (log : List Accepted) → AreBefore o.state.done log → AreStamps r.problem.design r.problem.grid o.stamps log → AreStamps r.problem.design r.problem.grid now.stamps (log ++ accepted_from r (standing_of o.state) n)
   pub leads : (sites : List Site) → Leads r.problem.grid sites o.swaps.items o.state.placement.sites → Leads r.problem.grid sites now.swaps.items now.state.placement.sites

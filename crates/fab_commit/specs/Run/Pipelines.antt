@@ -10,6 +10,7 @@ use Rattle.fab_commit.specs.declared.run.swaps.Accepted.{Accepted}
 use Rattle.fab_commit.specs.Serial.{Run, Standing, accepted_among, moves_left}
 use Rattle.fab_commit.specs.Run.Commits.{IsSound, standing_of}
 use Rattle.fab_commit.specs.Model.History.{accepted_from}
+use Rattle.fab_commit.specs.Run.Noted.{noted, noted_more}
 use Rattle.fab_commit.specs.Run.Owners.{AreAnswers, IsOwned, KeepsKind, since, verdict_of}
 use Rattle.fab_commit.specs.Run.StampTables.{AreStamps}
 use Rattle.fab_commit.specs.Model.Stamps.{AreBefore}
@@ -43,7 +44,7 @@ pub record IsBehind (r : Run) (t : LastTurn) (s : Pipeline) : Type 0 where
 -- after turn t came a turn that made `made` moves and judged `ahead` moves ahead
 pub record HasTurned (r : Run) (t : LastTurn) (s : Pipeline) (made ahead : ℕ) (now : Pipeline) : Type 0 where
   pub behind : IsBehind r (record { start = stands r t; made = made; ahead = ahead }) now
-  pub accepted : now.owner.state.accepted.items ≡ s.owner.state.accepted.items ++ accepted_among r (stands r t) made
+  pub accepted : noted now.owner.state.accepted ≡ noted_more (noted s.owner.state.accepted) (accepted_among r (stands r t) made)
   pub redone : now.owner.redone ≡ s.owner.redone + count_by (is_redone_behind r t) (range_with_len (stands r t).done made)
 
 -- a turn of at most `batch` moves, whatever turn led to it: it made its moves and judged the next batch; or it was cut short, because memory

@@ -8,6 +8,7 @@ ghost use Rattle.fab_move.specs.Judge.{IsDecision, Judged};
 ghost use Rattle.fab_commit.specs.declared.model.events.Event.TheVariants.{Claim, Judge, Lose, Commit, Refresh};
 ghost use Rattle.fab_commit.specs.Serial.{Run, after_move, judged_here};
 ghost use Rattle.fab_commit.specs.Run.Commits.{IsSound, run_for, standing_of};
+ghost use Rattle.fab_commit.specs.Run.Noted.{HasRoomFor};
 ghost use Rattle.fab_commit.specs.Model.World.{accepted_now, commit as commit_of, end, happens, stage_end, usable, verdict_here, way_of, ways_now, without_number, world};
 ghost use Rattle.fab_commit.specs.Model.Worlds.{HasBlocks, IsReached, IsWhole, world_of};
 
@@ -17,6 +18,7 @@ use crate::model::claims::{
 use crate::model::clashes::clash;
 use crate::model::events::{Event, Way};
 use crate::model::judged::{Claimed, JudgedMove, Judgement};
+use crate::run::numbers::reserve_numbers;
 use crate::run::state::{Given, State, commit, copy_of, decision_of, judge_on, moves_left};
 use crate::run::swaps::{Accepted, enter};
 use fab_move::Decision;
@@ -139,7 +141,7 @@ fn refresh<W: Words>(
     ensures ok { OnOk result (world_of state.new ≡ happens (run_for W.moves given.now) (world_of state.old) Refresh) }
     ensures err { OnErr result (world_of state.new ≡ world_of state.old) }
 {
-    state.older = copy_of(alloc, &state.live)?;
+    state.older = copy_of(&state.live)?;
     Ok(())
 }
 
@@ -153,7 +155,7 @@ fn make<W: Words>(
     requires sound { IsSound (run_for W.moves given.now) live.old }
     requires going { live.old.ended ≡ false }
     requires blocks { All (HasBlocks given.now.design.now) accepted.old.items }
-    requires room { vec_len live.old.accepted < vec_capacity live.old.accepted }
+    requires room { HasRoomFor live.old.accepted 1 }
     requires swap_room { vec_len accepted.old < vec_capacity accepted.old }
     requires lawful { (s : Swap) → decision.now.swap ≡ Some s → IsSwapOf given.now.grid.now live.old.placement.sites s }
     requires decides { IsDecision decision.now (judged_here (run_for W.moves given.now) (standing_of live.old) live.old.done) }
@@ -176,7 +178,7 @@ fn judge_and_make<W: Words>(
     requires sound { IsSound (run_for W.moves given.now) live.old }
     requires going { live.old.ended ≡ false }
     requires blocks { All (HasBlocks given.now.design.now) accepted.old.items }
-    requires room { vec_len live.old.accepted < vec_capacity live.old.accepted }
+    requires room { HasRoomFor live.old.accepted 1 }
     requires swap_room { vec_len accepted.old < vec_capacity accepted.old }
     ensures sound { IsSound (run_for W.moves given.now) live.new }
     ensures blocks { All (HasBlocks given.now.design.now) accepted.new.items }
@@ -212,7 +214,7 @@ fn commit_next<W: Words>(
     requires whole { IsWhole (run_for W.moves given.now) state.old }
     requires reached { IsReached (run_for W.moves given.now) (world_of state.old) state.old.ways.items }
     requires before { state.old.live.done < end (run_for W.moves given.now) (world_of state.old) }
-    requires room { vec_len state.old.live.accepted < vec_capacity state.old.live.accepted }
+    requires room { HasRoomFor state.old.live.accepted 1 }
     requires swap_room { vec_len state.old.accepted < vec_capacity state.old.accepted }
     requires way_room { vec_len state.old.ways < vec_capacity state.old.ways }
     ensures whole { IsWhole (run_for W.moves given.now) state.new }
@@ -261,7 +263,7 @@ fn commit_one<W: Words>(
     if state.live.done >= end_of(given, &state.older) {
         return Ok(());
     }
-    state.live.accepted.reserve(1)?;
+    reserve_numbers(&mut state.live.accepted, 1)?;
     state.accepted.reserve(1)?;
     state.ways.reserve(1)?;
     commit_next(alloc, given, state)
@@ -317,7 +319,7 @@ pub(crate) fn first_world(alloc: Global, live: State) -> Result<WorldState, Allo
     ensures stands { IfOk result (λ s. world_of s ≡ world (standing_of live)) }
     ensures ways { IfOk result (λ s. s.ways.items ≡ []) }
 {
-    let older = copy_of(alloc, &live)?;
+    let older = copy_of(&live)?;
     Ok(WorldState {
         live,
         older,

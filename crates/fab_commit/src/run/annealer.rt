@@ -1,6 +1,6 @@
 //! An annealer: moves are judged ahead by workers, and committed in order of number.
 
-ghost use Rattle.std.specs.Prelude.{◌≡◌, ◌↔◌, ◌+◌, ◌-◌, ◌<◌, ◌≤◌, [], ◌∷◌, ◌++◌, map, min, None, Ok, IfOk, IfSome};
+ghost use Rattle.std.specs.Prelude.{◌≡◌, ◌↔◌, ◌+◌, ◌-◌, ◌<◌, ◌≤◌, if◌then◌else◌, [], ◌∷◌, ◌++◌, length, map, min, Some, None, Ok, IfOk, IfSome};
 ghost use Rattle.std.specs.Arc.{arc_value};
 ghost use Rattle.fab_cost.specs.Cost.{cost_of};
 ghost use Rattle.fab_sched.specs.Annealing.{IsLawful};
@@ -10,11 +10,13 @@ ghost use Rattle.fab_commit.specs.declared.model.judged.JudgedMove.{JudgedMove};
 ghost use Rattle.fab_commit.specs.Serial.{IsStanding, at_start, from, moves_left, stage_of};
 ghost use Rattle.fab_commit.specs.Run.Alone.{IsMadeAlone};
 ghost use Rattle.fab_commit.specs.Run.Commits.{IsSound, run, run_for, run_of, standing_of, turn_of};
+ghost use Rattle.fab_commit.specs.Run.Noted.{noted};
 ghost use Rattle.fab_commit.specs.Run.Points.{IsPoint, TellsPoint, going_on, standing_at};
 ghost use Rattle.fab_commit.specs.Run.Readings.{IsShown, reading_at};
 ghost use Rattle.fab_commit.specs.Run.Turned.{IsTurned};
 
 use crate::run::alone::{AlonePlan, finish_alone, is_short};
+use crate::run::keeping::{Keeping, KeepsNumbers};
 use crate::run::pipeline::{Pipeline, first_pipeline, make_turn};
 use crate::run::point::{Point, point_of};
 use crate::run::state::{Given, State, first_state, moves_left, running, state_at};
@@ -29,22 +31,29 @@ use fab_net::Design;
 use fab_sched::{Schedule, Stage};
 use fab_site::{Fixed, Placement, Words};
 use std::alloc::{AllocError, Global};
-use std::marker::Model;
+use std::marker::{Model, PhantomData};
+use std::snapshot::Snapshot;
 use std::sync::{Arc, Wait};
 use std::thread::Threads;
 
-/// Anneals a placement of a design on an array.
-pub struct Anneal<'a, W: Words + Drop> {
+/// Anneals a placement of a design on an array. `K` says what it keeps of the moves that it accepts: their numbers, or how many there are.
+pub struct Anneal<'a, W: Words + Drop, K: Keeping = KeepsNumbers> {
     pub(crate) given: Arc<Given<'a, W>>,
     pub(crate) pipeline: Pipeline,
+    /// How many moves of the run were accepted before this value began.
+    pub(crate) before: u64,
+    /// The state in which it began, for contracts alone.
+    pub(crate) began: Snapshot<State>,
+    pub(crate) keeping: PhantomData<K>,
 }
 
-impl<'a, W: Words + Drop> Model for Anneal<'a, W> {
+impl<'a, W: Words + Drop, K: Keeping> Model for Anneal<'a, W, K> {
     ghost use Rattle.std.specs.Prelude.{map};
     ghost use Rattle.std.specs.Arc.{arc_value};
-    ghost use Rattle.fab_commit.specs.Run.Commits.{AnnealOf, run, run_for, standing_of};
+    ghost use Rattle.fab_commit.specs.Run.Commits.{AnnealOf, run_for, standing_of};
     ghost use Rattle.fab_commit.specs.Run.Owners.{verdict_of};
     ghost use Rattle.fab_commit.specs.Run.Pipelines.{HasTurn};
+    ghost use Rattle.fab_commit.specs.Run.Since.{IsSince, accepted_since};
 
     ghost Value = { AnnealOf W };
 
@@ -57,19 +66,22 @@ impl<'a, W: Words + Drop> Model for Anneal<'a, W> {
       standing = standing_of a.pipeline.owner.state;
       ahead = map (verdict_of a.pipeline.base) a.pipeline.ahead.items;
       swaps = a.pipeline.owner.swaps.items;
-      accepted = a.pipeline.owner.state.accepted.items;
+      accepted = accepted_since (run_for W.moves (arc_value a.given)) (standing_of a.began.value) a.pipeline.owner.state.done;
       redone = a.pipeline.owner.redone;
     } };
 
-    ghost invariant = { λ a. HasTurn (run_for W.moves (arc_value a.given)) a.pipeline };
+    ghost invariant = { λ a. HasTurn (run_for W.moves (arc_value a.given)) a.pipeline × IsSince (run_for W.moves (arc_value a.given)) K.numbers a.before (standing_of a.began.value) a.pipeline.owner.state };
 }
 
-impl<'a, W: Words + Drop> Drop for Anneal<'a, W> {
+impl<'a, W: Words + Drop, K: Keeping> Drop for Anneal<'a, W, K> {
     // This is one call wherever an annealer goes out of scope. A derived `drop` would be proved again at each place.
     fn drop(self) {
         let Anneal {
             given: _,
             pipeline: _,
+            before: _,
+            began: _,
+            keeping: _,
         } = self;
     }
 }
@@ -134,20 +146,65 @@ impl<'a, W: Words + Drop> Anneal<'a, W> {
         Anneal::at(given, live)
     }
 
-    /// Creates an annealer in this state, with nothing judged.
+    /// Creates an annealer in this state, with nothing judged, which keeps the numbers of the moves that it accepts.
     fn at(given: Given<'a, W>, live: State) -> Result<Anneal<'a, W>, AllocError>
         requires plan { IsLawful given.schedule }
         requires sound { IsSound (run_for W.moves given) live }
-        requires none { live.accepted.items ≡ [] }
+        requires none { noted live.accepted ≡ Some [] }
         ensures { IfOk result (λ a. a ≡ record { design = given.entry.design.now; grid = given.entry.grid.now; fixed = given.entry.fixed; plan = given.entry.schedule; words = given.entry.words; standing = standing_of live; ahead = []; swaps = []; accepted = []; redone = 0 }) }
     {
         let alloc = given.alloc;
+        let before = live.total;
+        let began = Snapshot::of(&live);
         let pipeline = first_pipeline(&given, live)?;
         match Arc::new(alloc, given) {
-            Ok(given) => Ok(Anneal { given, pipeline }),
+            Ok(given) => Ok(Anneal {
+                given,
+                pipeline,
+                before,
+                began,
+                keeping: PhantomData,
+            }),
             Err(_) => Err(AllocError),
         }
     }
+
+    /// The same annealer, which keeps what `K` says of the moves that it accepts. If numbers are kept no longer, their memory is given back.
+    pub fn keeping<K: Keeping>(self) -> Anneal<'a, W, K>
+        ensures { result ≡ self.entry }
+    {
+        let Anneal {
+            given,
+            mut pipeline,
+            before,
+            began,
+            keeping: _,
+        } = self;
+        if !K::keeps() {
+            pipeline.owner.state.accepted = None;
+        }
+        Anneal {
+            given,
+            pipeline,
+            before,
+            began,
+            keeping: PhantomData,
+        }
+    }
+
+    /// The numbers of the moves that this value accepted, in order.
+    pub fn accepted(&self) -> &[u64]
+        ensures { result.now ≡ self.now.accepted }
+    {
+        match &self.pipeline.owner.state.accepted {
+            Some(numbers) => numbers,
+            // By contract they are kept.
+            None => unreachable!(),
+        }
+    }
+}
+
+impl<'a, W: Words + Drop, K: Keeping> Anneal<'a, W, K> {
 
     /// A snapshot of the run, for a later run to go on from; `None` after the last move. An error means that memory ran out.
     pub fn point(&self) -> Result<Option<Point>, AllocError>
@@ -203,11 +260,28 @@ impl<'a, W: Words + Drop> Anneal<'a, W> {
         running(&self.given, &self.pipeline.owner.state)
     }
 
-    /// The numbers of the moves that this value accepted, in order.
-    pub fn accepted(&self) -> &[u64]
-        ensures { result.now ≡ self.now.accepted }
+    /// How many moves this value accepted.
+    pub fn accepted_count(&self) -> u64
+        ensures { result ≡ length self.now.accepted }
     {
-        &self.pipeline.owner.state.accepted
+        self.total() - self.before
+    }
+
+    /// The placement and, if they are kept, the numbers of the moves that this value accepted, in order. Nothing is copied.
+    pub fn into_parts(self) -> (Placement, Option<Vec<u64>>)
+        ensures grid { result.0.grid ≡ self.entry.grid }
+        ensures sites { result.0.sites ≡ self.entry.standing.sites }
+        ensures legal { IsLegal self.entry.design self.entry.grid self.entry.fixed self.entry.standing.sites }
+        ensures numbers { noted result.1 ≡ (if K.numbers then Some self.entry.accepted else None) }
+    {
+        let Anneal {
+            given: _,
+            pipeline,
+            before: _,
+            began: _,
+            keeping: _,
+        } = self;
+        pipeline.into_owner().into_state().into_parts()
     }
 
     /// The verdicts that were judged ahead, in order of number: for the next moves of the stage, on the placement at the start of the
@@ -262,7 +336,7 @@ impl<'a, W: Words + Drop> Anneal<'a, W> {
     }
 }
 
-impl<'a, W: Words + Drop> Anneal<'a, W> {
+impl<'a, W: Words + Drop, K: Keeping> Anneal<'a, W, K> {
     /// Makes the moves that are left in the running stage, of which there are some, as [`Anneal::make_alone`] does.
     pub fn finish_stage_alone<G: Gate, R: Wait>(
         &mut self,
@@ -321,7 +395,7 @@ impl<'a, W: Words + Drop> Anneal<'a, W> {
     }
 }
 
-impl<'a, W: Words + Sync + Drop> Anneal<'a, W> {
+impl<'a, W: Words + Sync + Drop, K: Keeping> Anneal<'a, W, K> {
     /// Makes a turn as [`Anneal::turn_shown`] does, with workers that stay for the next turn.
     pub fn turn_shown_by<'g, G: Gate, J: Naming, R: Threads + Wait + Sync>(
         &mut self,

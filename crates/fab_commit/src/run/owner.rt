@@ -42,6 +42,21 @@ impl Drop for Owner {
     }
 }
 
+impl Owner {
+    /// The state that is owned.
+    pub(crate) fn into_state(self) -> State
+        ensures { result ≡ self.state }
+    {
+        let Owner {
+            state,
+            swaps: _,
+            stamps: _,
+            redone: _,
+        } = self;
+        state
+    }
+}
+
 /// Stamps what a move touches, if it is accepted.
 pub(crate) fn stamp<W: Words>(
     given: &Given<'_, W>,

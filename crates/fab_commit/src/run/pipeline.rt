@@ -11,6 +11,7 @@ ghost use Rattle.fab_commit.specs.Run.Pipelines.{HasTurned, IsBehind, TurnsOn};
 ghost use Rattle.fab_commit.specs.Model.TurnEvents.{LastTurn, next_turn, no_turn, turn, turn_events, turn_making, verdict_on};
 ghost use Rattle.fab_commit.specs.Model.World.{is_redone_way, ways};
 
+use crate::run::numbers::reserve_numbers;
 use crate::run::owner::{Owner, commit_each};
 use crate::run::stamps::Stamps;
 use crate::run::state::{Given, State, copy_of, moves_left};
@@ -46,12 +47,27 @@ impl Drop for Pipeline {
     }
 }
 
+impl Pipeline {
+    /// The owner of the live placement.
+    pub(crate) fn into_owner(self) -> Owner
+        ensures { result ≡ self.owner }
+    {
+        let Pipeline {
+            owner,
+            older: _,
+            ahead: _,
+            base: _,
+        } = self;
+        owner
+    }
+}
+
 /// A copy that workers may share.
 fn shared_copy(alloc: Global, live: &State) -> Result<Arc<State>, AllocError>
     ensures sound { IfOk result (λ c. (r : Run) → IsSound r live.now → IsSound r (arc_value c)) }
     ensures stands { IfOk result (λ c. standing_of (arc_value c) ≡ standing_of live.now) }
 {
-    let copy = copy_of(alloc, live)?;
+    let copy = copy_of(live)?;
     match Arc::new(alloc, copy) {
         Ok(shared) => Ok(shared),
         Err(_) => Err(AllocError),
@@ -65,9 +81,8 @@ pub(crate) fn first_pipeline<W: Words>(
 ) -> Result<Pipeline, AllocError>
     requires plan { IsLawful given.now.schedule }
     requires sound { IsSound (run_for W.moves given.now) live }
-    requires none { live.accepted.items ≡ [] }
     ensures behind { IfOk result (λ s. IsBehind (run_for W.moves given.now) (no_turn (standing_of live)) s) }
-    ensures told { IfOk result (λ s. (s.ahead.items ≡ []) × (s.owner.swaps.items ≡ []) × (s.owner.state.accepted.items ≡ []) × (s.owner.redone ≡ 0)) }
+    ensures told { IfOk result (λ s. (s.ahead.items ≡ []) × (s.owner.swaps.items ≡ []) × (s.owner.state ≡ live) × (s.owner.redone ≡ 0)) }
 {
     let alloc = given.alloc;
     let base = live.done;
@@ -97,7 +112,7 @@ pub(crate) fn reserve(owner: &mut Owner, moves: u64) -> Result<(), AllocError>
     ensures stamps { owner.new.stamps ≡ owner.old.stamps }
     ensures room { OnOk result (HasRoom owner.new moves) }
 {
-    owner.state.accepted.reserve(moves as usize)?;
+    reserve_numbers(&mut owner.state.accepted, moves as usize)?;
     owner.swaps.reserve(moves as usize)?;
     Ok(())
 }

@@ -12,6 +12,7 @@ ghost use Rattle.fab_commit.specs.Model.TurnEvents.{LastTurn};
 use crate::run::annealer::Anneal;
 use crate::run::crew::{Crew, beside, found_crew};
 use crate::run::job::Work;
+use crate::run::keeping::Keeping;
 use crate::run::pipeline::{Pipeline, cut_turn, make_turn};
 use crate::run::state::Given;
 use crate::run::turn::Turn;
@@ -66,7 +67,7 @@ fn make_turn_beside<
     )
 }
 
-impl<'a, W: Words + Sync + Drop> Anneal<'a, W> {
+impl<'a, W: Words + Sync + Drop, K: Keeping> Anneal<'a, W, K> {
     /// Makes a turn of a run that is over, for which nobody is needed.
     fn turn_alone<G: Gate, R: Threads + Wait + Sync>(
         &mut self,
@@ -83,7 +84,7 @@ impl<'a, W: Words + Sync + Drop> Anneal<'a, W> {
     }
 }
 
-impl<'a, W: Words + Send + Sync + Drop> Anneal<'a, W> {
+impl<'a, W: Words + Send + Sync + Drop, K: Keeping> Anneal<'a, W, K> {
     /// Makes the next moves of the running stage, at most `batch` of them, from 1 to 4,096. Returns `Finished` if no move is left after
     /// them.
     ///

@@ -1,13 +1,15 @@
 //! The state of a run, and how one move changes it.
 
-ghost use Rattle.std.specs.Prelude.{◌≡◌, ℕ, ◌+◌, ◌-◌, ◌*◌, ◌^◌, ◌<◌, ◌≤◌, List, [], ◌++◌, max, true, false, length, vec_len, vec_capacity, Some, IfOk};
+ghost use Rattle.std.specs.Prelude.{◌≡◌, ℕ, ◌+◌, ◌-◌, ◌*◌, ◌^◌, ◌<◌, ◌≤◌, List, [], ◌∷◌, max, true, false, Option, Some, IfOk};
 ghost use Rattle.fab_sched.specs.Annealing.{IsStage, next_range};
 ghost use Rattle.fab_site.specs.Placement.{IsLegal, IsSwapOf};
 ghost use Rattle.fab_cost.specs.Swapping.{CountedStandsFor};
 ghost use Rattle.fab_move.specs.Judge.{IsDecision, Judged, moved, says};
 ghost use Rattle.fab_commit.specs.Serial.{Run, after_move, at_start, judged_here, left_at, numbers_if, one_if, side, stage_of};
+ghost use Rattle.fab_commit.specs.Run.Noted.{HasRoomFor, noted, noted_more};
 ghost use Rattle.fab_commit.specs.Run.Commits.{IsAdvanced, IsSound, heat_of, run, run_for, standing_in, standing_of};
 
+use crate::run::numbers::note;
 use fab_arch::Grid;
 use fab_cost::{EdgeBoxes, WireCost};
 use fab_move::{Decision, Verdict, View, decide, judge};
@@ -49,8 +51,8 @@ pub(crate) struct State {
     pub(crate) ended: bool,
     pub(crate) done: u64,
     pub(crate) total: u64,
-    /// The numbers of the moves that were accepted.
-    pub(crate) accepted: Vec<u64>,
+    /// The numbers of the moves that were accepted; `None` where no number is kept.
+    pub(crate) accepted: Option<Vec<u64>>,
 }
 
 impl Drop for State {
@@ -65,6 +67,24 @@ impl Drop for State {
             total: _,
             accepted: _,
         } = self;
+    }
+}
+
+impl State {
+    /// The placement, and the numbers of accepted moves that are kept.
+    pub(crate) fn into_parts(self) -> (Placement, Option<Vec<u64>>)
+        ensures { (result.0 ≡ self.placement) × (result.1 ≡ self.accepted) }
+    {
+        let State {
+            placement,
+            cost: _,
+            stage: _,
+            ended: _,
+            done: _,
+            total: _,
+            accepted,
+        } = self;
+        (placement, accepted)
     }
 }
 
@@ -116,15 +136,15 @@ fn behind_the_last(schedule: &Schedule, side: u16, frozen: &Stage) -> Stage
 }
 
 /// Counts a move, if it is accepted.
-fn count(accepted: &mut Vec<u64>, total: &mut u64, number: u64, took: bool)
-    requires room { vec_len accepted.old < vec_capacity accepted.old }
+fn count(accepted: &mut Option<Vec<u64>>, total: &mut u64, number: u64, took: bool)
+    requires room { HasRoomFor accepted.old 1 }
     requires few { total.old < 2 ^ 61 }
-    ensures accepted { accepted.new.items ≡ accepted.old.items ++ numbers_if number took }
+    ensures accepted { noted accepted.new ≡ noted_more (noted accepted.old) (numbers_if number took) }
     ensures total { total.new ≡ total.old + one_if took }
-    ensures room { (vec_len accepted.new ≤ vec_len accepted.old + 1) × (vec_capacity accepted.new ≡ vec_capacity accepted.old) }
+    ensures room { (n : ℕ) → HasRoomFor accepted.old (n + 1) → HasRoomFor accepted.new n }
 {
     if took {
-        accepted.push_reserved(number);
+        note(accepted, number);
         *total += 1;
     }
 }
@@ -133,12 +153,12 @@ fn count(accepted: &mut Vec<u64>, total: &mut u64, number: u64, took: bool)
 pub(crate) fn commit<W: Words>(given: &Given<'_, W>, state: &mut State, decision: &Decision)
     requires sound { IsSound (run_for W.moves given.now) state.old }
     requires going { state.old.ended ≡ false }
-    requires room { vec_len state.old.accepted < vec_capacity state.old.accepted }
+    requires room { HasRoomFor state.old.accepted 1 }
     requires lawful { (s : Swap) → decision.now.swap ≡ Some s → IsSwapOf given.now.grid.now state.old.placement.sites s }
     requires decides { IsDecision decision.now (judged_here (run_for W.moves given.now) (standing_of state.old) state.old.done) }
     ensures stands { standing_of state.new ≡ after_move (run_for W.moves given.now) (standing_of state.old) (judged_here (run_for W.moves given.now) (standing_of state.old) state.old.done) }
-    ensures accepted { state.new.accepted.items ≡ state.old.accepted.items ++ numbers_if state.old.done (judged_here (run_for W.moves given.now) (standing_of state.old) state.old.done).accepted }
-    ensures room { (vec_len state.new.accepted ≤ vec_len state.old.accepted + 1) × (vec_capacity state.new.accepted ≡ vec_capacity state.old.accepted) }
+    ensures accepted { noted state.new.accepted ≡ noted_more (noted state.old.accepted) (numbers_if state.old.done (judged_here (run_for W.moves given.now) (standing_of state.old) state.old.done).accepted) }
+    ensures room { (n : ℕ) → HasRoomFor state.old.accepted (n + 1) → HasRoomFor state.new.accepted n }
     ensures sound { IsSound (run_for W.moves given.now) state.new }
 {
     let side = side_of(given.grid);
@@ -265,7 +285,7 @@ pub(crate) fn state_at<W: Words>(
     requires counted { (stage.accepted ≤ total) × (total ≤ stage.index * given.now.schedule.moves + stage.done) }
     ensures sound { IfOk result (IsSound (run_for W.moves given.now)) }
     ensures stands { IfOk result (λ s. standing_of s ≡ standing_in given.now.schedule stage placement.sites total) }
-    ensures accepted { IfOk result (λ s. s.accepted.items ≡ []) }
+    ensures accepted { IfOk result (λ s. noted s.accepted ≡ Some []) }
 {
     let moves = given.schedule.moves();
     let live = placement.on_array(given.design, given.grid)?;
@@ -277,7 +297,7 @@ pub(crate) fn state_at<W: Words>(
         ended: false,
         done: stage.index * moves + stage.done,
         total,
-        accepted: Vec::new(given.alloc),
+        accepted: Some(Vec::new(given.alloc)),
     })
 }
 
@@ -289,15 +309,15 @@ pub(crate) fn first_state<W: Words>(
     requires legal { IsLegal given.now.design.now given.now.grid.now given.now.fixed placement.sites }
     ensures sound { IfOk result (IsSound (run_for W.moves given.now)) }
     ensures stands { IfOk result (λ s. standing_of s ≡ at_start (run_for W.moves given.now) placement.sites) }
-    ensures accepted { IfOk result (λ s. s.accepted.items ≡ []) }
+    ensures accepted { IfOk result (λ s. noted s.accepted ≡ Some []) }
 {
     let _moves = given.schedule.moves();
     let first = given.schedule.first(side_of(given.grid));
     state_at(given, placement, first, 0)
 }
 
-/// A copy with the same standing. Its list of accepted moves is empty.
-pub(crate) fn copy_of(alloc: Global, state: &State) -> Result<State, AllocError>
+/// A copy with the same standing. It keeps no numbers of accepted moves.
+pub(crate) fn copy_of(state: &State) -> Result<State, AllocError>
     ensures stands { IfOk result (λ s. standing_of s ≡ standing_of state.now) }
     ensures sound { IfOk result (λ s. (r : Run) → IsSound r state.now → IsSound r s) }
 {
@@ -308,6 +328,6 @@ pub(crate) fn copy_of(alloc: Global, state: &State) -> Result<State, AllocError>
         ended: state.ended,
         done: state.done,
         total: state.total,
-        accepted: Vec::new(alloc),
+        accepted: None,
     })
 }

@@ -6,6 +6,7 @@ use Rattle.fab_commit.specs.Run.Owners.{HasMade}
 use Rattle.fab_commit.specs.Model.History.{is_redone}
 use Rattle.fab_commit.proofs.ModelLemmas.Happening.{done_fits}
 use Rattle.fab_commit.proofs.RunLemmas.Alone.{open_later}
+use Rattle.fab_commit.proofs.RunLemmas.Noting.{has_less}
 use Rattle.fab_commit.proofs.RunLemmas.Owning.{made_more}
 use Rattle.fab_commit.proofs.RunLemmas.Pipelining.{count_both}
 use Rattle.fab_commit.proofs.run.alone.commit_alone.Goals as goal
@@ -24,10 +25,9 @@ commit_some-requires-clause-room g c κs within =
     let long = length-take c.min-count.result c.loop-made.words in
     let same = c.fill_words.auto.out in
     let count = c.min-count.ensures in
-    let all = c.requires.room in
     let low = c.loop-made.invariant.low in
     let more = c.loop-made-test.true in
-    c.loop-made.invariant.room (length c.fill_words.new.out) (omega (arith, all, low, more, long, same, count), omega (arith, all, low, more, long, same, count))
+    c.loop-made.invariant.room (length c.fill_words.new.out) (has_less c.args.owner.now c.args.moves (c.loop-made.made + length c.fill_words.new.out) (omega (arith, low, more, long, same, count)) c.requires.room)
 
 pub commit_some-requires-clause-due : goal.commit_some-requires-clause-due
 commit_some-requires-clause-due g c κs within =
@@ -70,12 +70,8 @@ loop-made-preserved g c =
           let both = count_both p o.state.done n m in
           omega (arith, before, after, part, both);
       room = λ k h.
-          let h0 = h.0 in
-          let h1 = h.1 in
-          let was = inv.room (m + k) (omega (arith, h0), omega (arith, h1)) in
-          let was0 = was.0 in
-          let was1 = was.1 in
-          c.commit_some.ensures.room k (omega (arith, was0, all), omega (arith, was1, all));
+          let was = inv.room (m + k) (has_less o (n + m + k) (n + (m + k)) (omega arith) h) in
+          c.commit_some.ensures.room k (has_less mid (m + k) (length c.fill_words.new.out + k) (omega (arith, all)) was);
     }
 
 pub returns-clause-redone : goal.returns-clause-redone
@@ -91,6 +87,4 @@ pub returns-clause-room : goal.returns-clause-room
 returns-clause-room g c k h =
     let low = c.loop-made.invariant.low in
     let all = c.loop-made-test.false in
-    let h0 = h.0 in
-    let h1 = h.1 in
-    c.loop-made.invariant.room k (omega (arith, h0, low, all), omega (arith, h1, low, all))
+    c.loop-made.invariant.room k (has_less c.args.owner.now (c.args.moves + k) (c.loop-made.made + k) (omega (arith, low, all)) h)

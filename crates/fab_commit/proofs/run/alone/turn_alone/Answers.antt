@@ -7,6 +7,7 @@ use Rattle.fab_commit.specs.Run.Commits.{run_for, standing_of}
 use Rattle.fab_commit.specs.Run.Owners.{HasMade}
 use Rattle.fab_commit.specs.Model.TurnEvents.{is_redone_behind, next_turn, stands}
 use Rattle.fab_commit.proofs.RunLemmas.Alone.{both_counted, gone, gone_nowhere, led_nowhere, open_ahead, open_here, owned_cleared, readied}
+use Rattle.fab_commit.proofs.RunLemmas.Noting.{has_less}
 use Rattle.fab_commit.proofs.RunLemmas.Owning.{made_more}
 use Rattle.fab_commit.proofs.run.alone.turn_alone.Goals as goal
 
@@ -44,19 +45,13 @@ commit_alone-requires-clause-due g c κs within =
 
 pub commit_alone-requires-clause-room : goal.commit_alone-requires-clause-room
 commit_alone-requires-clause-room g c κs within =
-    let room = c.in_ok-reserve.ensures.room in
-    let room0 = room.0 in
-    let room1 = room.1 in
     let kept = c.min-kept.ensures in
-    (omega (arith, room0, kept), omega (arith, room1, kept))
+    has_less c.reserve.new.owner c.min-moves.result c.min-kept.result (omega (arith, kept)) c.in_ok-reserve.ensures.room
 
 pub commit_alone-requires-2-clause-room : goal.commit_alone-requires-2-clause-room
 commit_alone-requires-2-clause-room g c κs within =
-    let room = c.in_ok-reserve.ensures.room in
-    let room0 = room.0 in
-    let room1 = room.1 in
     let kept = c.min-kept.ensures in
-    c.commit_alone.ensures.room (c.min-moves.result - c.min-kept.result) (omega (arith, room0, kept), omega (arith, room1, kept))
+    c.commit_alone.ensures.room (c.min-moves.result - c.min-kept.result) (has_less c.reserve.new.owner c.min-moves.result (c.min-kept.result + (c.min-moves.result - c.min-kept.result)) (omega (arith, kept)) c.in_ok-reserve.ensures.room)
 
 pub commit_alone-requires-2-clause-due : goal.commit_alone-requires-2-clause-due
 commit_alone-requires-2-clause-due g c κs within =

@@ -1,4 +1,4 @@
-use Rattle.std.proofs.Common.{◌≡◌, ◌+◌, ◌-◌, ◌≤◌, Bool, true, false, refl, ap, ◌∙◌, arith}
+use Rattle.std.proofs.Common.{◌≡◌, ◌+◌, ◌-◌, ◌≤◌, Bool, true, false, length, refl, ap, ◌∙◌, arith}
 use mir.Val.{bool_byte}
 use Rattle.std.specs.List.{count_by, range_with_len}
 use Rattle.fab_commit.specs.declared.run.owner.Owner.{Owner}
@@ -6,6 +6,7 @@ use Rattle.fab_commit.specs.Serial.{Standing, judged_here, one_if}
 use Rattle.fab_commit.specs.Run.Commits.{run_for, standing_of}
 use Rattle.fab_commit.specs.Model.History.{is_redone}
 use Rattle.fab_commit.proofs.RunLemmas.Committing.{decided_lawful, numbers_fit}
+use Rattle.fab_commit.proofs.RunLemmas.Noting.{has_less}
 use Rattle.fab_commit.proofs.RunLemmas.Owning.{at_item, counted_on, made_more, one_made, within_of}
 use Rattle.fab_commit.proofs.run.owner.commit_each.Goals as goal
 
@@ -24,8 +25,7 @@ decided-again-requires-clause-fresh g c =
 pub enter-requires : goal.enter-requires
 enter-requires g c =
     let low = c.loop-verdict-test.true in
-    let all = c.requires.room in
-    let room = c.loop-verdict.invariant.2 1 (omega (arith, all, low), omega (arith, all, low)) in
+    let room = c.loop-verdict.invariant.2 1 (has_less c.args.owner.now (length c.args.verdicts.now) (c.loop-verdict.verdict-index + 1) (omega (arith, low)) c.requires.room) in
     let one = room.1 in
     record { room = omega (arith, one) }
 
@@ -51,10 +51,8 @@ commit-requires-clause-going g c =
 pub commit-requires-clause-room : goal.commit-requires-clause-room
 commit-requires-clause-room g c =
     let low = c.loop-verdict-test.true in
-    let all = c.requires.room in
-    let room = c.loop-verdict.invariant.2 1 (omega (arith, all, low), omega (arith, all, low)) in
-    let one = room.0 in
-    omega (arith, one)
+    let room = c.loop-verdict.invariant.2 1 (has_less c.args.owner.now (length c.args.verdicts.now) (c.loop-verdict.verdict-index + 1) (omega (arith, low)) c.requires.room) in
+    room.0
 
 pub overflow_add-owner : goal.overflow_add-owner
 overflow_add-owner g c =
@@ -91,7 +89,6 @@ loop-verdict-preserved g c =
       swaps = c.enter.ensures.items j is;
       stamps = c.stamp.ensures.stamped j is;
     }) in
-    let numbers = c.commit.ensures.room in
     let swaps = c.enter.ensures.room in (
       made_more r o mid now i 1 before.0 made,
       (λ due.
@@ -99,12 +96,9 @@ loop-verdict-preserved g c =
           (at_item r o mid c.args.base c.args.verdicts.now i c.verdict-item.result (omega (arith, moves)) due before.0 c.loop-verdict-test.true c.verdict-item.is)
           (before.1 due) (ap (λ n. mid.redone + n) (told ∙ byte ∙ again))),
       (λ n h.
-          let h0 = h.0 in
-          let h1 = h.1 in
-          let was = before.2 (1 + n) (omega (arith, h0), omega (arith, h1)) in
-          let was0 = was.0 in
+          let was = before.2 (n + 1) (has_less o (i + 1 + n) (i + (n + 1)) (omega arith) h) in
           let was1 = was.1 in
-          (omega (arith, was0, numbers), omega (arith, was1, swaps))),
+          (c.commit.ensures.room n was.0, omega (arith, was1, swaps))),
     )
   where
     byte_le : (b : Bool) → bool_byte b ≤ 1
@@ -127,6 +121,4 @@ returns-clause-redone g c due =
 pub returns-clause-room : goal.returns-clause-room
 returns-clause-room g c n h =
     let low = c.loop-verdict.auto.verdict-index-end in
-    let h0 = h.0 in
-    let h1 = h.1 in
-    c.loop-verdict.invariant.2 n (omega (arith, h0, low), omega (arith, h1, low))
+    c.loop-verdict.invariant.2 n (has_less c.args.owner.now (length c.args.verdicts.now + n) (c.loop-verdict.verdict-index + n) (omega (arith, low)) h)

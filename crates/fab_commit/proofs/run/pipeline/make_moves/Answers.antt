@@ -7,6 +7,7 @@ use Rattle.fab_commit.specs.Model.History.{is_redone}
 use Rattle.fab_commit.specs.Run.Owners.{AreAnswers, AreDue, HasMade, IsOwned}
 use Rattle.fab_commit.specs.Run.Workers.{WorkOf}
 use Rattle.fab_commit.proofs.ModelLemmas.Happening.{done_fits}
+use Rattle.fab_commit.proofs.RunLemmas.Noting.{has_less}
 use Rattle.fab_commit.proofs.RunLemmas.Pipelining.{AreBoth, both_made, due_same, due_second, if_ok, made_none, nothing_made}
 use Rattle.fab_commit.proofs.run.pipeline.make_moves.Given as given
 use Rattle.fab_commit.proofs.run.pipeline.make_moves.Goals as goal
@@ -72,9 +73,13 @@ commit_each-requires-2-clause-room g c κs within =
     let many = c.in_ok-missing.ensures.many in
     let kept = c.len-kept.ensures in
     let fits = c.requires.fits in
-    let numbers = c.in_ok-reserve.ensures.room.0 in
-    let swaps = c.in_ok-reserve.ensures.room.1 in
-    c.commit_each.ensures.room (length c.deref-5.result.now) (omega (arith, seen, held, many, kept, fits, numbers), omega (arith, seen, held, many, kept, fits, swaps))
+    c.commit_each.ensures.room (length c.deref-5.result.now) (has_less c.reserve.new.owner c.args.plan.moves (length c.deref-3.result.now + length c.deref-5.result.now) (omega (arith, seen, held, many, kept, fits)) c.in_ok-reserve.ensures.room)
+
+pub commit_each-requires-clause-room : goal.commit_each-requires-clause-room
+commit_each-requires-clause-room g c κs within =
+    let seen = ap (λ l. length l) c.deref-3.ensures.value in
+    let fits = c.requires.fits in
+    has_less c.reserve.new.owner c.args.plan.moves (length c.deref-3.result.now) (omega (arith, seen, fits)) c.in_ok-reserve.ensures.room
 
 pub commit_each-requires-2-clause-due : goal.commit_each-requires-2-clause-due
 commit_each-requires-2-clause-due g c κs within =

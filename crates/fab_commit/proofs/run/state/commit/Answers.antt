@@ -1,8 +1,9 @@
-use Rattle.std.proofs.Common.{◌≡◌, ◌+◌, ◌++◌, to_z, of_z, w64, rules, refl, sym, ap, subst, ◌∙◌, arith}
+use Rattle.std.proofs.Common.{◌≡◌, ◌+◌, to_z, of_z, w64, rules, refl, sym, ap, subst, ◌∙◌, arith}
 use Rattle.fab_site.specs.Placement.{IsSwapOf}
 use Rattle.fab_commit.specs.declared.run.state.State.{State}
 use Rattle.fab_commit.specs.Serial.{judged_here, numbers_if, one_if}
 use Rattle.fab_commit.specs.Run.Commits.{IsAdvanced, run_for, standing_of}
+use Rattle.fab_commit.specs.Run.Noted.{HasRoomFor, noted, noted_more}
 use Rattle.fab_commit.proofs.RunLemmas.Committing.{IsCommitted, IsSwapped, committed, decided_lawful, stands_after, sound_after, judged_legal, numbers_fit, rejected_stays, void_stays, with_none, with_swap}
 use Rattle.fab_commit.proofs.RunLemmas.Kept.{judged_change}
 use Rattle.fab_commit.proofs.run.state.commit.Given as given
@@ -51,6 +52,14 @@ parts g c =
     (subst (λ y. IsAdvanced r.plan c.side_of-side.result y c.args.decision.now.accepted c.advanced-ended.result.0 c.advanced-ended.result.1) own.stage c.advanced-ended.ensures)
     own.cost
 
+pub count-requires-clause-room : goal.count-requires-clause-room
+count-requires-clause-room g c =
+    elim c.if-decision.branch [
+      | then-decision+in-Some w ↦ subst (λ (v : State). HasRoomFor v.accepted 1) (sym w.state-is) c.requires.room
+      | then-decision+in_default w ↦ subst (λ (v : State). HasRoomFor v.accepted 1) (sym w.state-is) c.requires.room
+      | else-decision w ↦ subst (λ (v : State). HasRoomFor v.accepted 1) (sym w.state-is) c.requires.room
+    ]
+
 pub count-requires-clause-few : goal.count-requires-clause-few
 count-requires-clause-few g c =
     let r = run_for g.W.Words.moves c.args.given.now in
@@ -82,7 +91,13 @@ pub returns-clause-accepted : goal.returns-clause-accepted
 returns-clause-accepted g c =
     let s = c.args.state.now in
     let own = swapped g c in
-    c.count.ensures.accepted ∙ ap (λ v. v.items ++ numbers_if c.if-decision.state.done c.args.decision.now.accepted) own.accepted ∙ ap (λ n. s.accepted.items ++ numbers_if n c.args.decision.now.accepted) own.done ∙ ap (λ b. s.accepted.items ++ numbers_if s.done b) c.requires.decides.accepted
+    c.count.ensures.accepted
+    ∙ ap (λ v. noted_more (noted v) (numbers_if c.if-decision.state.done c.args.decision.now.accepted)) own.accepted
+    ∙ ap (λ n. noted_more (noted s.accepted) (numbers_if n c.args.decision.now.accepted)) own.done
+    ∙ ap (λ b. noted_more (noted s.accepted) (numbers_if s.done b)) c.requires.decides.accepted
+
+pub returns-clause-room : goal.returns-clause-room
+returns-clause-room g c n h = c.count.ensures.room n (subst (λ v. HasRoomFor v (n + 1)) (sym (swapped g c).accepted) h)
 
 pub returns-clause-sound : goal.returns-clause-sound
 returns-clause-sound g c =
