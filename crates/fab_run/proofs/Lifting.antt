@@ -1,23 +1,39 @@
 -- What a piece answers and leaves, said of the piece that is asked for.
-use Rattle.std.proofs.Common.{◌≡◌, ℕ, ◌⊎◌, Bool, List, Option, sym, ap, subst, ◌∙◌, inl, inr}
+use Rattle.std.proofs.Common.{◌≡◌, ℕ, ◌⊎◌, Bool, true, List, Option, Some, sym, ap, subst, ◌∙◌, inl, inr}
 use Rattle.std.specs.Prelude.{Result, Ok, Err, IfOk, IfErr, OnErr}
 use Rattle.fab_file.specs.declared.fault.PlaceFault.TheVariants.{Write}
 use Rattle.fab_run.specs.Check.{report_failed_with}
-use Rattle.fab_run.specs.Ends.{AreRedone, IsReportCutOf, IsReportOf, Piece, answer_of}
+use Rattle.fab_commit.specs.Run.Noted.{noted}
+use Rattle.fab_run.specs.Counted.{Answers, Counts}
+use Rattle.fab_run.specs.Ends.{Answer, AreRedone, IsReportCutOf, IsReportOf, Piece, answer_of}
 use Rattle.fab_run.specs.Placed.{IsDeviceFault, IsMade, IsPlaceCut, IsPlaced, IsReportBegun, IsReportCut, IsTextCut, IsUnreadyFor}
 use Rattle.fab_run.specs.RunChecks.{place_failed_with}
 use Rattle.fab_run.specs.Setting.{Texts}
 use Rattle.fab_run.specs.declared.fault.RunFault.{RunFault}
 use Rattle.fab_run.specs.declared.fault.RunFault.TheVariants.{Place, Report, NoMemory}
+use Rattle.fab_run.specs.declared.ended.Ended.{Ended}
+use Rattle.fab_run.specs.declared.inputs.CountedOutcome.{CountedOutcome}
 use Rattle.fab_run.specs.declared.inputs.Outcome.{Outcome}
 
 abbrev pub Answered : Type 0
-Answered = Result Outcome RunFault
+Answered = Result Ended RunFault
 
-pub made_asked : (Asked : Piece → Type 0) (t : Texts) (p : Piece) (r : Answered) (report_old report_new place_old place_new : Option (List ℕ)) → Asked p
-    → IfOk r (λ out. IsMade t p (answer_of out) report_old report_new place_old place_new) → IfOk r (λ out. IsPlaced Asked t (answer_of out) report_old report_new place_old place_new)
-made_asked Asked t p (Ok out) report_old report_new place_old place_new asked made = (p, asked, made)
-made_asked Asked t p (Err e) report_old report_new place_old place_new asked made = tt
+pub made_asked : (keeps : Bool) (Asked : Piece → Type 0) (t : Texts) (p : Piece) (r : Answered) (report_old report_new place_old place_new : Option (List ℕ)) → Asked p
+    → IfOk r (λ out. Answers keeps out (λ a. IsMade t p a report_old report_new place_old place_new)) → IfOk r (λ out. Answers keeps out (λ a. IsPlaced Asked t a report_old report_new place_old place_new))
+made_asked keeps Asked t p (Ok out) report_old report_new place_old place_new asked made = (made.0, made.1, (p, asked, made.2))
+made_asked keeps Asked t p (Err e) report_old report_new place_old place_new asked made = tt
+
+-- with its numbers, an answer is what they make of it
+pub with_numbers : (Is : Answer → Type 0) (e : Ended) (o : Outcome) → o.ending ≡ e.ending → o.placement ≡ e.placement → Some o.accepted.items ≡ noted e.numbers → o.costs ≡ e.costs → Answers true e Is → Is (answer_of o)
+with_numbers Is e o ending placement numbers costs told =
+    let both : Some o.accepted.items ≡ Some (told.0) = numbers ∙ told.1.kept in
+    let same : o.accepted.items ≡ told.0 = (let k = both in cc) in
+    subst Is (λ i. record { ending = sym ending i; placement = sym placement i; accepted = sym same i; costs = (sym costs i).items }) told.2
+
+-- with their count alone, it is one that has so many
+pub by_count : (Is : Answer → Type 0) (keeps : Bool) (e : Ended) (o : CountedOutcome) → o.ending ≡ e.ending → o.placement ≡ e.placement → o.accepted ≡ e.accepted → o.costs ≡ e.costs → Answers keeps e Is → Counts o Is
+by_count Is keeps e o ending placement accepted costs told =
+    (told.0, accepted ∙ told.1.count, subst Is (λ i. record { ending = sym ending i; placement = sym placement i; accepted = told.0; costs = (sym costs i).items }) told.2)
 
 pub redone_asked : (Asked : Piece → Type 0) (p : Piece) (batch : ℕ) (r : Answered) → Asked p → IfOk r (λ out. AreRedone p batch out.redone) → IfOk r (λ out. (q : Piece) × Asked q × AreRedone q batch out.redone)
 redone_asked Asked p batch (Ok out) asked redone = (p, asked, redone)

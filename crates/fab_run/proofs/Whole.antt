@@ -1,5 +1,5 @@
 -- The report of a piece, and its beginnings.
-use Rattle.std.proofs.Common.{◌≡◌, ℕ, zero, suc, ◌+◌, ◌-◌, ◌<◌, List, [], ◌∷◌, ◌++◌, length, take, true, false, cond, Option, Some, None, is_some, refl, sym, ap, subst, ◌∙◌, arith, inl, inr}
+use Rattle.std.proofs.Common.{◌≡◌, ℕ, zero, suc, ◌+◌, ◌-◌, ◌<◌, List, [], ◌∷◌, ◌++◌, length, take, Bool, true, false, cond, Option, Some, None, is_some, refl, sym, ap, subst, ◌∙◌, arith, inl, inr}
 use Rattle.std.specs.Io.KnownBytes.{Appends}
 use Rattle.std.specs.Prelude.{Result, Ok, Err, IfOk, IfErr, OnOk, OnErr}
 use Rattle.fab_site.specs.Placement.{IsLegal}
@@ -17,12 +17,13 @@ use Rattle.fab_run.specs.Piece.{end_line, last_line, run_costs, stage_costs, sta
 use Rattle.fab_arch.specs.Grid.{GridShape}
 use Rattle.fab_net.specs.Netlist.{Netlist}
 use Rattle.fab_run.specs.Setting.{Texts}
-use Rattle.fab_run.specs.Ends.{Answer, AreRedone, EndsAs, IsBegun, IsPiece, IsReportCutOf, IsReportOf, IsToldPiece, IsWithin, Piece, answer_of, piece_end, piece_of, piece_report}
+use Rattle.fab_run.specs.Ends.{Answer, AreRedone, EndsAs, IsBegun, IsPiece, IsReportCutOf, IsReportOf, IsToldPiece, IsWithin, Piece, piece_end, piece_of, piece_report}
 use Rattle.fab_run.specs.Placed.{IsPlaceFault, IsReportFault, IsTextCut, text_by}
 use Rattle.fab_run.specs.Stages.{AreMade, IsNew}
 use Rattle.fab_run.specs.declared.fault.RunFault.{RunFault}
 use Rattle.fab_run.specs.declared.fault.RunFault.TheVariants.{Place, Report, NoMemory}
-use Rattle.fab_run.specs.declared.inputs.Outcome.{Outcome}
+use Rattle.fab_run.specs.Counted.{Answers, TellsMoves}
+use Rattle.fab_run.specs.declared.ended.Ended.{Ended}
 use Rattle.fab_run.proofs.Telling.{appends_none, appends_two, same_run, take_more, take_whole}
 
 -- a beginning of a text is one of the text and what follows it; where it is not all of the one, it is not all of both
@@ -117,20 +118,20 @@ end_there : (a b : AnnealOf ℕ) (n : ℕ) → IsSameRun a b → b.standing ≡ 
 end_there a b n same stands = λ i. end_line (same_run stream_moves a b same i) (stands i)
 
 -- what an annealer answers that made its piece, and its report
-pub told_piece : (a b : AnnealOf ℕ) (head : List ℕ) (stop : Option ℕ) (batch cost : ℕ) (costs0 costs : List ℕ) (old mid more new : Option (List ℕ))
+pub told_piece : (keeps : Bool) (a b : AnnealOf ℕ) (head : List ℕ) (stop : Option ℕ) (batch cost : ℕ) (costs0 costs : List ℕ) (old mid more new : Option (List ℕ))
     → IsNew a → IsSameRun a b → AreMade stream_moves stop batch a b costs0 costs mid more → cost ≡ cost_of a.design a.grid a.standing.sites → costs0 ≡ cost ∷ [] → Appends old mid head
-    → (r : Result Outcome RunFault) → IfOk r (λ out. EndsAs (run_of stream_moves b) b.standing out.ending) → IfOk r (λ out. out.placement.grid ≡ b.grid) → IfOk r (λ out. out.placement.sites ≡ b.standing.sites)
-    → IfOk r (λ out. IsLegal b.design b.grid b.fixed out.placement.sites) → IfOk r (λ out. out.accepted.items ≡ b.accepted) → IfOk r (λ out. out.costs.items ≡ costs)
+    → (r : Result Ended RunFault) → IfOk r (λ out. EndsAs (run_of stream_moves b) b.standing out.ending) → IfOk r (λ out. out.placement.grid ≡ b.grid) → IfOk r (λ out. out.placement.sites ≡ b.standing.sites)
+    → IfOk r (λ out. IsLegal b.design b.grid b.fixed out.placement.sites) → IfOk r (TellsMoves keeps b.accepted) → IfOk r (λ out. out.costs.items ≡ costs)
     → OnOk r (Appends more new (end_line (run_of stream_moves b) b.standing))
-    → IfOk r (λ out. IsToldPiece (piece_of stream_moves a head stop) (answer_of out) old new)
-told_piece a b head stop batch cost costs0 costs old mid more new fresh same made value first told (Err f) ending array sites legal accepted values last = tt
-told_piece a b head stop batch cost costs0 costs old mid more new fresh same made value first told (Ok out) ending array sites legal accepted values last =
+    → IfOk r (λ out. Answers keeps out (λ w. IsToldPiece (piece_of stream_moves a head stop) w old new))
+told_piece keeps a b head stop batch cost costs0 costs old mid more new fresh same made value first told (Err f) ending array sites legal accepted values last = tt
+told_piece keeps a b head stop batch cost costs0 costs old mid more new fresh same made value first told (Ok out) ending array sites legal accepted values last =
     let r = same_run stream_moves a b same in
     let x = a.standing in
     let n = made.count in
     let p = piece_of stream_moves a head stop in
     let costs_are : costs0 ++ stage_costs (run_of stream_moves a) x n ≡ run_costs (run_of stream_moves a) x n = (λ i. first i ++ stage_costs (run_of stream_moves a) x n) ∙ ap (λ c. c ∷ stage_costs (run_of stream_moves a) x n) value in
-    record {
+    (b.accepted, accepted, record {
       moves = n;
       annealed = record {
         piece = made.piece;
@@ -138,28 +139,28 @@ told_piece a b head stop batch cost costs0 costs old mid more new fresh same mad
         array = array ∙ same.grid;
         stands = sites ∙ ap (λ (y : Standing). y.sites) made.stands;
         legal = subst (λ (q : Run). IsLegal q.problem.design q.problem.grid q.problem.fixed out.placement.sites) r legal;
-        numbers = accepted ∙ made.accepted ∙ ap (λ l. l ++ accepted_among (run_of stream_moves a) x n) fresh.accepted;
+        numbers = made.accepted ∙ ap (λ l. l ++ accepted_among (run_of stream_moves a) x n) fresh.accepted;
         values = values ∙ made.costs ∙ costs_are;
       };
       report = told_whole p old mid more new n told made.told (subst (λ l. Appends more new l) (end_there a b n same made.stands) last);
-    }
+    })
 
 -- where the last line did not go out whole, a beginning of the report did
 pub cut_piece : (a b : AnnealOf ℕ) (head : List ℕ) (stop : Option ℕ) (batch : ℕ) (costs0 costs : List ℕ) (old mid more new : Option (List ℕ)) → IsSameRun a b → AreMade stream_moves stop batch a b costs0 costs mid more → Appends old mid head
-    → (r : Result Outcome RunFault) → OnErr r (IsBegun more new (end_line (run_of stream_moves b) b.standing)) → OnErr r (IsReportOf (piece_of stream_moves a head stop) old new)
+    → (r : Result Ended RunFault) → OnErr r (IsBegun more new (end_line (run_of stream_moves b) b.standing)) → OnErr r (IsReportOf (piece_of stream_moves a head stop) old new)
 cut_piece a b head stop batch costs0 costs old mid more new same made told (Ok out) cut = tt
 cut_piece a b head stop batch costs0 costs old mid more new same made told (Err f) cut =
     cut_last (piece_of stream_moves a head stop) old mid more new made.count (within_by (run_of stream_moves a) a.standing stop made.count made.piece) told made.told (subst (λ l. IsBegun more new l) (end_there a b made.count same made.stands) cut)
 
 pub short_piece : (a b : AnnealOf ℕ) (head : List ℕ) (stop : Option ℕ) (batch : ℕ) (costs0 costs : List ℕ) (old mid more new : Option (List ℕ)) → IsSameRun a b → AreMade stream_moves stop batch a b costs0 costs mid more → Appends old mid head
-    → (r : Result Outcome RunFault) → IfErr r (λ e. e ≡ Report → IsCut (end_line (run_of stream_moves b) b.standing) more new) → IfErr r (λ e. e ≡ Report → IsReportCutOf (piece_of stream_moves a head stop) old new)
+    → (r : Result Ended RunFault) → IfErr r (λ e. e ≡ Report → IsCut (end_line (run_of stream_moves b) b.standing) more new) → IfErr r (λ e. e ≡ Report → IsReportCutOf (piece_of stream_moves a head stop) old new)
 short_piece a b head stop batch costs0 costs old mid more new same made told (Ok out) cut = tt
 short_piece a b head stop batch costs0 costs old mid more new same made told (Err f) cut = λ q.
     short_last (piece_of stream_moves a head stop) old mid more new made.count (within_by (run_of stream_moves a) a.standing stop made.count made.piece) told made.told (subst (λ l. IsCut l more new) (end_there a b made.count same made.stands) (cut q))
 
 -- the moves that were judged again
 pub redone_piece : (a b : AnnealOf ℕ) (head : List ℕ) (stop : Option ℕ) (batch : ℕ) (costs0 costs : List ℕ) (mid more : Option (List ℕ)) → IsNew a → AreMade stream_moves stop batch a b costs0 costs mid more
-    → (r : Result Outcome RunFault) → IfOk r (λ out. out.redone ≡ b.redone) → IfOk r (λ out. AreRedone (piece_of stream_moves a head stop) batch out.redone)
+    → (r : Result Ended RunFault) → IfOk r (λ out. out.redone ≡ b.redone) → IfOk r (λ out. AreRedone (piece_of stream_moves a head stop) batch out.redone)
 redone_piece a b head stop batch costs0 costs mid more fresh made (Err f) count = tt
 redone_piece a b head stop batch costs0 costs mid more fresh made (Ok out) count =
     let r = run_of stream_moves a in

@@ -7,6 +7,7 @@ pub mod RunChecks
 pub mod RunReport
 pub mod Piece
 pub mod Ends
+pub mod Counted
 pub mod Going
 pub mod Placed
 pub mod SameAnswers

@@ -9,7 +9,7 @@ ghost use Rattle.fab_run.specs.Stages.{IsMadeBeside};
 use crate::fault::RunFault;
 use crate::stages::{Pace, anneal_all};
 use fab_board::{Gate, Naming, Task};
-use fab_commit::{Anneal, Crew, Workers, beside};
+use fab_commit::{Anneal, Crew, Keeping, Workers, beside};
 use fab_dial::{Dial, Shower};
 use fab_site::Words;
 use fab_text::Sink;
@@ -19,8 +19,8 @@ use std::thread::Threads;
 
 /// An annealer, the workers that judge ahead of it, and the cost at the start and after each stage that ended.
 #[derive(Drop)]
-pub(crate) struct Course<'a, 'g, V: Words + Drop, G: Gate, J: Naming> {
-    pub(crate) anneal: Anneal<'a, V>,
+pub(crate) struct Course<'a, 'g, V: Words + Drop, K: Keeping, G: Gate, J: Naming> {
+    pub(crate) anneal: Anneal<'a, V, K>,
     pub(crate) workers: Workers<'a, 'g, V, G, J>,
     pub(crate) costs: Vec<u64>,
 }
@@ -30,6 +30,7 @@ pub(crate) fn anneal_beside<
     E: Task<T> + Send + Sync,
     T: Drop + Send,
     V: Words + Sync + Drop,
+    K: Keeping,
     G: Gate,
     J: Naming + Send + Sync,
     W: Sink,
@@ -38,7 +39,7 @@ pub(crate) fn anneal_beside<
     rt: &R,
     alloc: Global,
     crew: Crew<E, T, J>,
-    course: &mut Course<'_, '_, V, G, J>,
+    course: &mut Course<'_, '_, V, K, G, J>,
     pace: &Pace,
     dial: &Dial,
     shower: &mut Shower,
@@ -55,7 +56,7 @@ pub(crate) fn anneal_beside<
         rt,
         &crew,
         course,
-        &mut |c: &mut Course<'_, '_, V, G, J>| -> Result<(), RunFault>
+        &mut |c: &mut Course<'_, '_, V, K, G, J>| -> Result<(), RunFault>
             requires { IsSync R.row × (pace.now.moves ≡ c.old.anneal.plan.moves) × IsLawful c.old.anneal.plan × ((1 ≤ pace.now.batch) × (pace.now.batch ≤ 4096)) × (shower.now.dial ≡ dial.now) }
             ensures dial { shower.exit.now.dial ≡ shower.entry.now.dial }
             ensures made { IsMadeBeside V.moves pace.entry.now.stop pace.entry.now.batch c.old.anneal c.new.anneal c.old.costs.items c.new.costs.items shower.entry.now.shown shower.exit.now.shown (W.contents report.entry.now) (W.contents report.exit.now) (W.failed report.entry.now) (W.failed report.exit.now) result }

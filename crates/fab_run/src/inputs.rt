@@ -76,3 +76,17 @@ pub struct Outcome {
     /// not on the workers.
     pub redone: u64,
 }
+
+/// What a run answers that counts the moves that it accepts, and keeps no number of them. So its memory does not grow with its moves.
+#[derive(Drop)]
+pub struct CountedOutcome {
+    pub ending: Ending,
+    /// The sites of the blocks at the end.
+    pub placement: Placement,
+    /// How many moves were accepted in the piece.
+    pub accepted: u64,
+    /// The cost before the first move of the piece, and after each stage that ended in it, in ten-thousandths.
+    pub costs: Vec<u64>,
+    /// How many moves turns of the batch judge again, as in [`Outcome`].
+    pub redone: u64,
+}

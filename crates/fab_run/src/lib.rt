@@ -7,9 +7,13 @@ pub mod check;
 #[cfg(test)]
 mod check_tests;
 #[cfg(test)]
+mod counted_tests;
+pub mod counting;
+#[cfg(test)]
 mod crew_tests;
 mod crews;
 mod designs;
+mod ended;
 pub mod fault;
 pub mod inputs;
 #[cfg(test)]
@@ -37,9 +41,10 @@ mod stages;
 mod watched_tests;
 
 pub use check::check_run;
+pub use counting::{place_run_counted, place_run_counted_shown, resume_run_counted};
 pub use fab_commit::Point;
 pub use fault::{RunFault, fault_line};
-pub use inputs::{Ending, Inputs, Moves, Options, Outcome};
+pub use inputs::{CountedOutcome, Ending, Inputs, Moves, Options, Outcome};
 pub use laws::{
     answers_are_told, calls_are_runs, chains_are_runs, readings_are_of_lawful_standings,
     standings_are_lawful, watchers_read_standings,

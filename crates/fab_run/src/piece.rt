@@ -7,7 +7,8 @@ ghost use Rattle.fab_sched.specs.Annealing.{IsLawful};
 ghost use Rattle.fab_move.specs.Stream.{stream_moves};
 ghost use Rattle.fab_commit.specs.Run.Commits.{run_of};
 ghost use Rattle.fab_run.specs.Piece.{end_line};
-ghost use Rattle.fab_run.specs.Ends.{AreRedone, EndsAs, IsBegun, IsReportCutOf, IsReportOf, IsToldPiece, answer_of, piece_of};
+ghost use Rattle.fab_run.specs.Ends.{AreRedone, EndsAs, IsBegun, IsReportCutOf, IsReportOf, IsToldPiece, piece_of};
+ghost use Rattle.fab_run.specs.Counted.{Answers, TellsMoves};
 ghost use Rattle.fab_run.specs.Setting.{texts_of};
 ghost use Rattle.fab_run.specs.Placed.{IsDeviceFault, IsMade, IsPlaceFault, IsPlaceOut, IsReportFault, IsTextCut, IsUnreadyFor};
 ghost use Rattle.fab_run.specs.Shown.{AreShown, AreShownInPart};
@@ -17,13 +18,14 @@ ghost use Rattle.fab_file.specs.declared.fault.PlaceFault.TheVariants.{Write};
 ghost use Rattle.fab_file.specs.Written.{IsCut, are_labels};
 
 use crate::crews::{Course, anneal_beside};
+use crate::ended::{Ended, ended_by};
 use crate::fault::RunFault;
-use crate::inputs::{Ending, Inputs, Outcome};
+use crate::inputs::{Ending, Inputs};
 use crate::report::final_line;
 use crate::stages::Pace;
 use fab_arch::Grid;
 use fab_board::{Gate, Naming, Opened, Task};
-use fab_commit::{Anneal, Crew, Work, Workers, found_crew};
+use fab_commit::{Anneal, Crew, Keeping, Work, Workers, found_crew};
 use fab_dial::{Dial, Reading, Shower};
 use fab_file::{PlaceFault, write_place};
 use fab_move::{StreamWords, Verdict};
@@ -61,38 +63,12 @@ pub(crate) fn unwatched<R: Wait>(rt: &R, alloc: Global) -> Result<(Dial, Shower)
 }
 
 /// How the piece of an annealer ended.
-fn ending_of(anneal: &Anneal<'_, StreamWords>) -> Result<Ending, AllocError>
+fn ending_of<K: Keeping>(anneal: &Anneal<'_, StreamWords, K>) -> Result<Ending, AllocError>
     ensures { IfOk result (EndsAs (run_of stream_moves anneal.now) anneal.now.standing) }
 {
     Ok(match anneal.point()? {
         None => Ending::Finished,
         Some(point) => Ending::Stopped(point),
-    })
-}
-
-/// The answer of an annealer that made its piece.
-fn outcome(
-    alloc: Global,
-    anneal: &Anneal<'_, StreamWords>,
-    costs: Vec<u64>,
-) -> Result<Outcome, AllocError>
-    ensures ending { IfOk result (λ out. EndsAs (run_of stream_moves anneal.now) anneal.now.standing out.ending) }
-    ensures array { IfOk result (λ out. out.placement.grid ≡ anneal.now.grid) }
-    ensures sites { IfOk result (λ out. out.placement.sites ≡ anneal.now.standing.sites) }
-    ensures legal { IfOk result (λ out. IsLegal anneal.now.design anneal.now.grid anneal.now.fixed out.placement.sites) }
-    ensures accepted { IfOk result (λ out. out.accepted.items ≡ anneal.now.accepted) }
-    ensures costs { IfOk result (λ out. out.costs.items ≡ costs.items) }
-    ensures redone { IfOk result (λ out. out.redone ≡ anneal.now.redone) }
-{
-    let placement = anneal.placement().copy()?;
-    let accepted = anneal.accepted().to_vec(alloc)?;
-    let ending = ending_of(anneal)?;
-    Ok(Outcome {
-        ending,
-        placement,
-        accepted,
-        costs,
-        redone: anneal.redone(),
     })
 }
 
@@ -146,9 +122,9 @@ fn start_beside<E: Task<T>, T: Drop, J: Naming, W: Sink, P: Sink>(
 }
 
 /// Writes the last line of a report, if no move is left.
-fn tell_last<W: Sink>(
+fn tell_last<K: Keeping, W: Sink>(
     alloc: Global,
-    anneal: &Anneal<'_, StreamWords>,
+    anneal: &Anneal<'_, StreamWords, K>,
     report: &mut W,
 ) -> Result<(), RunFault>
     ensures told { OnOk result (Appends (W.contents report.old) (W.contents report.new) (end_line (run_of stream_moves anneal.now) anneal.now.standing)) }
@@ -165,29 +141,29 @@ fn tell_last<W: Sink>(
     Ok(())
 }
 
-/// Writes the last line of a report, if no move is left. Returns the answer of the run.
-fn tell_end<W: Sink>(
+/// Writes the last line of a report, if no move is left. Returns the answer of the run. What it asks memory for, it asks for before.
+fn tell_end<K: Keeping, W: Sink>(
     alloc: Global,
-    anneal: &Anneal<'_, StreamWords>,
+    anneal: Anneal<'_, StreamWords, K>,
     costs: Vec<u64>,
     report: &mut W,
-) -> Result<Outcome, RunFault>
-    ensures ending { IfOk result (λ out. EndsAs (run_of stream_moves anneal.now) anneal.now.standing out.ending) }
-    ensures array { IfOk result (λ out. out.placement.grid ≡ anneal.now.grid) }
-    ensures sites { IfOk result (λ out. out.placement.sites ≡ anneal.now.standing.sites) }
-    ensures legal { IfOk result (λ out. IsLegal anneal.now.design anneal.now.grid anneal.now.fixed out.placement.sites) }
-    ensures accepted { IfOk result (λ out. out.accepted.items ≡ anneal.now.accepted) }
+) -> Result<Ended, RunFault>
+    ensures ending { IfOk result (λ out. EndsAs (run_of stream_moves anneal.entry) anneal.entry.standing out.ending) }
+    ensures array { IfOk result (λ out. out.placement.grid ≡ anneal.entry.grid) }
+    ensures sites { IfOk result (λ out. out.placement.sites ≡ anneal.entry.standing.sites) }
+    ensures legal { IfOk result (λ out. IsLegal anneal.entry.design anneal.entry.grid anneal.entry.fixed out.placement.sites) }
+    ensures moves { IfOk result (TellsMoves K.numbers anneal.entry.accepted) }
     ensures costs { IfOk result (λ out. out.costs.items ≡ costs.items) }
-    ensures redone { IfOk result (λ out. out.redone ≡ anneal.now.redone) }
-    ensures told { OnOk result (Appends (W.contents report.old) (W.contents report.new) (end_line (run_of stream_moves anneal.now) anneal.now.standing)) }
-    ensures cut { OnErr result (IsBegun (W.contents report.old) (W.contents report.new) (end_line (run_of stream_moves anneal.now) anneal.now.standing)) }
-    ensures short { IfErr result (λ e. e ≡ Report → IsCut (end_line (run_of stream_moves anneal.now) anneal.now.standing) (W.contents report.old) (W.contents report.new)) }
+    ensures redone { IfOk result (λ out. out.redone ≡ anneal.entry.redone) }
+    ensures told { OnOk result (Appends (W.contents report.old) (W.contents report.new) (end_line (run_of stream_moves anneal.entry) anneal.entry.standing)) }
+    ensures cut { OnErr result (IsBegun (W.contents report.old) (W.contents report.new) (end_line (run_of stream_moves anneal.entry) anneal.entry.standing)) }
+    ensures short { IfErr result (λ e. e ≡ Report → IsCut (end_line (run_of stream_moves anneal.entry) anneal.entry.standing) (W.contents report.old) (W.contents report.new)) }
     ensures sound { OnOk result (W.failed report.new ≡ W.failed report.old) }
     ensures fault { IfErr result (IsReportFault (W.failed report.old) (W.failed report.new)) }
 {
-    let outcome = outcome(alloc, anneal, costs)?;
-    tell_last(alloc, anneal, report)?;
-    Ok(outcome)
+    let ending = ending_of(&anneal)?;
+    tell_last(alloc, &anneal, report)?;
+    Ok(ended_by(anneal, ending, costs))
 }
 
 /// Makes the moves of a piece, while a crew stands by, and reports them. The gate is called around each judgement, but not one that is made
@@ -195,6 +171,7 @@ fn tell_end<W: Sink>(
 fn anneal_told<
     'a,
     'g,
+    K: Keeping,
     G: Gate,
     J: Naming + Send + Sync,
     W: Sink,
@@ -204,14 +181,14 @@ fn anneal_told<
     rt: &R,
     alloc: Global,
     opened: Opened<Work<'a, 'g, StreamWords, G>>,
-    anneal: Anneal<'a, StreamWords>,
+    anneal: Anneal<'a, StreamWords, K>,
     piece: &Piece<'_, '_>,
     gate: &'g G,
     dial: &Dial,
     shower: &mut Shower,
     report: &mut W,
     place: &mut P,
-) -> Result<Outcome, RunFault>
+) -> Result<Ended, RunFault>
     requires book { opened ≡ J.book }
     requires own { shower.old.dial ≡ dial.now }
     requires fresh { IsNew anneal }
@@ -219,7 +196,7 @@ fn anneal_told<
     requires plan { IsLawful anneal.plan }
     requires limits { (1 ≤ piece.now.pace.batch) × (piece.now.pace.batch ≤ 4096) × (1 ≤ piece.now.pace.workers) × (piece.now.pace.workers ≤ 64) }
     ensures redone { IfOk result (λ out. AreRedone (piece_of stream_moves anneal.entry piece.now.head.items piece.now.pace.stop) piece.now.pace.batch out.redone) }
-    ensures annealed { IfOk result (λ out. IsToldPiece (piece_of stream_moves anneal.entry piece.now.head.items piece.now.pace.stop) (answer_of out) (W.contents report.old) (W.contents report.new)) }
+    ensures annealed { IfOk result (λ out. Answers K.numbers out (λ a. IsToldPiece (piece_of stream_moves anneal.entry piece.now.head.items piece.now.pace.stop) a (W.contents report.old) (W.contents report.new))) }
     ensures cut { OnErr result (IsReportOf (piece_of stream_moves anneal.entry piece.now.head.items piece.now.pace.stop) (W.contents report.old) (W.contents report.new)) }
     ensures short { IfErr result (λ e. e ≡ Report → IsReportCutOf (piece_of stream_moves anneal.entry piece.now.head.items piece.now.pace.stop) (W.contents report.old) (W.contents report.new)) }
     ensures unready { IfErr result (λ e. e ≡ Place Write → (P.may_be_unready ≡ true) × Appends (W.contents report.old) (W.contents report.new) piece.now.head.items) }
@@ -249,7 +226,7 @@ fn anneal_told<
         workers: _,
         costs,
     } = course;
-    tell_end(alloc, &anneal, costs, report)
+    tell_end(alloc, anneal, costs, report)
 }
 
 /// Writes the place text of a run that is finished.
@@ -257,7 +234,7 @@ fn tell_placement<P: Sink>(
     alloc: Global,
     inputs: &Inputs,
     piece: &Piece<'_, '_>,
-    outcome: &Outcome,
+    outcome: &Ended,
     place: &mut P,
 ) -> Result<(), RunFault>
     requires labels { are_labels inputs.now.labels.net.now inputs.now.labels.arch.now ≡ true }
@@ -281,9 +258,15 @@ fn tell_placement<P: Sink>(
 /// the run. Before the first move, after the head of the report, the writer of the place text is asked whether it is ready.
 /// The gate is called around each judgement, but not one that is made again, and before each commit; one that does nothing need not be. The
 /// dial shows the run's progress, once for each turn that succeeds and made moves.
-pub(crate) fn run_piece<G: Gate, R: AllocGlobal + Threads + Wait + Sync, W: Sink, P: Sink>(
+pub(crate) fn run_piece<
+    K: Keeping,
+    G: Gate,
+    R: AllocGlobal + Threads + Wait + Sync,
+    W: Sink,
+    P: Sink,
+>(
     rt: &R,
-    anneal: Anneal<'_, StreamWords>,
+    anneal: Anneal<'_, StreamWords, K>,
     inputs: &Inputs,
     piece: &Piece<'_, '_>,
     gate: &G,
@@ -291,7 +274,7 @@ pub(crate) fn run_piece<G: Gate, R: AllocGlobal + Threads + Wait + Sync, W: Sink
     shower: &mut Shower,
     report: &mut W,
     place: &mut P,
-) -> Result<Outcome, RunFault>
+) -> Result<Ended, RunFault>
     requires own { shower.old.dial ≡ dial.now }
     requires fresh { IsNew anneal }
     requires design { piece.now.design.now ≡ anneal.design }
@@ -300,7 +283,7 @@ pub(crate) fn run_piece<G: Gate, R: AllocGlobal + Threads + Wait + Sync, W: Sink
     requires moves { piece.now.pace.moves ≡ anneal.plan.moves }
     requires plan { IsLawful anneal.plan }
     requires limits { (1 ≤ piece.now.pace.batch) × (piece.now.pace.batch ≤ 4096) × (1 ≤ piece.now.pace.workers) × (piece.now.pace.workers ≤ 64) }
-    ensures made { IfOk result (λ out. IsMade (texts_of inputs.now) (piece_of stream_moves anneal.entry piece.now.head.items piece.now.pace.stop) (answer_of out) (W.contents report.old) (W.contents report.new) (P.contents place.old) (P.contents place.new)) }
+    ensures made { IfOk result (λ out. Answers K.numbers out (λ a. IsMade (texts_of inputs.now) (piece_of stream_moves anneal.entry piece.now.head.items piece.now.pace.stop) a (W.contents report.old) (W.contents report.new) (P.contents place.old) (P.contents place.new))) }
     ensures redone { IfOk result (λ out. AreRedone (piece_of stream_moves anneal.entry piece.now.head.items piece.now.pace.stop) piece.now.pace.batch out.redone) }
     ensures cut { OnErr result (IsReportOf (piece_of stream_moves anneal.entry piece.now.head.items piece.now.pace.stop) (W.contents report.old) (W.contents report.new)) }
     ensures report_cut { IfErr result (λ e. e ≡ Report → IsReportCutOf (piece_of stream_moves anneal.entry piece.now.head.items piece.now.pace.stop) (W.contents report.old) (W.contents report.new)) }
@@ -313,7 +296,7 @@ pub(crate) fn run_piece<G: Gate, R: AllocGlobal + Threads + Wait + Sync, W: Sink
     ensures shown_cut { OnErr result (AreShownInPart (piece_of stream_moves anneal.entry piece.now.head.items piece.now.pace.stop) piece.now.pace.batch shower.old.shown shower.new.shown) }
 {
     let alloc = rt.alloc();
-    let outcome = anneal_told::<G, Brand, W, P, R>(
+    let outcome = anneal_told::<K, G, Brand, W, P, R>(
         rt,
         alloc,
         Opened::new(),

@@ -250,7 +250,7 @@ fn a_writer_that_fails_in_a_piece_is_told(rt: HostRuntime) -> Result<(), Fail> {
     Ok(())
 }
 
-const SEVEN_AT_13: &[u8] = b"vplace point 2
+pub const SEVEN_AT_13: &[u8] = b"vplace point 2
 seed 1
 array 3 x 2 io_rat 1
 schedule 20000 5000 500 8

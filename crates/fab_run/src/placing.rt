@@ -5,6 +5,7 @@ ghost use Rattle.fab_arch.specs.Grid.{Holds};
 ghost use Rattle.fab_net.specs.Netlist.{logic_count, pad_count};
 ghost use Rattle.fab_site.specs.Pins.{ArePins};
 ghost use Rattle.fab_run.specs.Check.{report_failed_with};
+ghost use Rattle.fab_run.specs.Counted.{Answers};
 ghost use Rattle.fab_run.specs.Ends.{AreRedone, Piece as PieceAsked, answer_of};
 ghost use Rattle.fab_run.specs.Setting.{IsSetting, Setting, setting_of, texts_of};
 ghost use Rattle.fab_run.specs.RunChecks.{IsRefusal, IsRunFault, place_failed_with};
@@ -13,6 +14,7 @@ ghost use Rattle.fab_run.specs.Placed.{AskFor, IsPlaceCut, IsPlaced, IsReportBeg
 ghost use Rattle.fab_run.specs.declared.fault.RunFault.TheVariants.{Place, Report};
 ghost use Rattle.fab_file.specs.declared.fault.PlaceFault.TheVariants.{Write};
 
+use crate::ended::{Ended, outcome_of};
 use crate::fault::RunFault;
 use crate::inputs::{Inputs, Options, Outcome};
 use crate::piece::{Piece, run_piece, unwatched};
@@ -21,7 +23,7 @@ use crate::setting::read_setting;
 use crate::stages::Pace;
 use fab_arch::Grid;
 use fab_board::{Gate, NoGate};
-use fab_commit::Anneal;
+use fab_commit::{Anneal, Keeping, KeepsNumbers};
 use fab_dial::{Dial, Shower};
 use fab_move::StreamWords;
 use fab_net::Design;
@@ -50,23 +52,79 @@ pub(crate) fn annealer<'a>(
     Anneal::new(alloc, design, grid, placement, pins.fixed, schedule, words)
 }
 
-/// The same annealer, and the first two lines of its report.
-fn begin<'a>(
+/// The same annealer, which keeps what `K` says of the moves that it accepts, and the first two lines of its report.
+fn begin<'a, K: Keeping>(
     alloc: Global,
     design: &'a Design,
     grid: &'a Grid,
     pins: Pins,
     schedule: Schedule,
     seed: u64,
-) -> Result<(Anneal<'a, StreamWords>, Vec<u8>), AllocError>
+) -> Result<(Anneal<'a, StreamWords, K>, Vec<u8>), AllocError>
     requires room { Holds grid.now (logic_count design.now) (pad_count design.now) }
     requires pins { ArePins design.now grid.now pins.fixed pins.begun }
     ensures stands { IfOk result (λ r. r.0 ≡ record { design = design.now; grid = grid.now; fixed = pins.fixed; plan = schedule; words = seed; standing = start_by (setting_of design.now grid.now pins.fixed pins.begun schedule) seed; ahead = []; swaps = []; accepted = []; redone = 0 }) }
     ensures head { IfOk result (λ r. r.1.items ≡ head_by (setting_of design.now grid.now pins.fixed pins.begun schedule) seed) }
 {
-    let anneal = annealer(alloc, design, grid, pins, schedule, seed)?;
+    let numbered = annealer(alloc, design, grid, pins, schedule, seed)?;
+    let anneal = numbered.keeping::<K>();
     let head = head_lines(alloc, design, grid, anneal.cost())?;
     Ok((anneal, head))
+}
+
+/// Places the design of a run as `place_run_shown` does, and keeps what `K` says of the moves that it accepts.
+pub(crate) fn place_ended<
+    K: Keeping,
+    G: Gate,
+    R: AllocGlobal + Threads + Wait + Sync,
+    W: Sink,
+    P: Sink,
+>(
+    rt: &R,
+    inputs: &Inputs,
+    options: &Options,
+    gate: &G,
+    dial: &Dial,
+    shower: &mut Shower,
+    report: &mut W,
+    place: &mut P,
+) -> Result<Ended, RunFault>
+    requires own { shower.old.dial ≡ dial.now }
+    ensures headline { IfOk result (λ out. Answers K.numbers out (λ a. IsPlaced (AskFor (texts_of inputs.now) options.now) (texts_of inputs.now) a (W.contents report.old) (W.contents report.new) (P.contents place.old) (P.contents place.new))) }
+    ensures redone { IfOk result (λ out. (p : PieceAsked) × AskFor (texts_of inputs.now) options.now p × AreRedone p options.now.batch out.redone) }
+    ensures only { (s : Setting) → IsSetting (texts_of inputs.now) options.now s → IfErr result (λ e. ¬ IsRefusal e) }
+    ensures fault { IfErr result (IsRunFault (texts_of inputs.now) options.now) }
+    ensures silent { IfErr result (λ e. IsRefusal e → W.contents report.new ≡ W.contents report.old) }
+    ensures cut { OnErr result ((W.contents report.new ≡ W.contents report.old) ⊎ IsReportBegun (AskFor (texts_of inputs.now) options.now) (W.contents report.old) (W.contents report.new)) }
+    ensures report_cut { IfErr result (λ e. e ≡ Report → IsReportCut (AskFor (texts_of inputs.now) options.now) (W.contents report.old) (W.contents report.new)) }
+    ensures unplaced { IfErr result (λ e. e ≢ Place Write → P.contents place.new ≡ P.contents place.old) }
+    ensures place_cut { IfErr result (λ e. e ≡ Place Write → IsPlaceCut P.may_be_unready (AskFor (texts_of inputs.now) options.now) (texts_of inputs.now) (W.contents report.old) (W.contents report.new) (P.contents place.old) (P.contents place.new)) }
+    ensures sound { OnOk result ((W.failed report.new ≡ W.failed report.old) × (P.failed place.new ≡ P.failed place.old)) }
+    ensures failed { IfErr result (λ e. (W.failed report.new ≡ report_failed_with e (W.failed report.old)) × (P.failed place.new ≡ place_failed_with e (P.failed place.old))) }
+    ensures shown { OnOk result (HaveShown (AskFor (texts_of inputs.now) options.now) options.now.batch shower.old.shown shower.new.shown) }
+    ensures unshown { IfErr result (λ e. IsRefusal e → shower.new.shown ≡ shower.old.shown) }
+    ensures shown_cut { OnErr result ((shower.new.shown ≡ shower.old.shown) ⊎ HaveShownInPart (AskFor (texts_of inputs.now) options.now) options.now.batch shower.old.shown shower.new.shown) }
+    ensures dial { shower.new.dial ≡ shower.old.dial }
+{
+    let alloc = rt.alloc();
+    let (design, grid, pins, schedule) = read_setting(alloc, inputs, options)?;
+    let pace = Pace {
+        moves: schedule.moves(),
+        batch: options.batch,
+        workers: options.workers,
+        side: u64::from(grid.nx().max(grid.ny())),
+        stop: options.stop,
+    };
+    let (anneal, head) = begin::<K>(alloc, &design, &grid, pins, schedule, options.seed)?;
+    let piece = Piece {
+        design: &design,
+        grid: &grid,
+        head,
+        pace,
+    };
+    run_piece(
+        rt, anneal, inputs, &piece, gate, dial, shower, report, place,
+    )
 }
 
 /// Places the design of a run as `place_run` does, and shows its progress on the dial: the moves made, how many of them were accepted,
@@ -114,25 +172,19 @@ pub fn place_run_shown<G: Gate, R: AllocGlobal + Threads + Wait + Sync, W: Sink,
     ensures shown_cut { OnErr result ((shower.new.shown ≡ shower.old.shown) ⊎ HaveShownInPart (AskFor (texts_of inputs.now) options.now) options.now.batch shower.old.shown shower.new.shown) }
     ensures dial { shower.new.dial ≡ shower.old.dial }
 {
-    let alloc = rt.alloc();
-    let (design, grid, pins, schedule) = read_setting(alloc, inputs, options)?;
-    let pace = Pace {
-        moves: schedule.moves(),
-        batch: options.batch,
-        workers: options.workers,
-        side: u64::from(grid.nx().max(grid.ny())),
-        stop: options.stop,
-    };
-    let (anneal, head) = begin(alloc, &design, &grid, pins, schedule, options.seed)?;
-    let piece = Piece {
-        design: &design,
-        grid: &grid,
-        head,
-        pace,
-    };
-    run_piece(
-        rt, anneal, inputs, &piece, gate, dial, shower, report, place,
-    )
+    match place_ended::<KeepsNumbers, G, R, W, P>(
+        rt,
+        inputs,
+        options,
+        gate,
+        dial,
+        shower,
+        report,
+        place,
+    ) {
+        Ok(ended) => Ok(outcome_of(ended)),
+        Err(fault) => Err(fault),
+    }
 }
 
 /// Places the design of a run: anneals it from a start placement, with random words of the seed, to the last move or to the stop. Moves are

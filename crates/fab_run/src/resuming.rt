@@ -3,6 +3,7 @@
 ghost use Rattle.std.specs.Prelude.{◌≡◌, ◌≢◌, ◌⊎◌, true, OnOk, OnErr, IfOk, IfErr};
 ghost use Rattle.fab_file.specs.Written.{are_labels as labels_are};
 ghost use Rattle.fab_run.specs.Check.{IsTextFault, report_failed_with};
+ghost use Rattle.fab_run.specs.Counted.{Answers};
 ghost use Rattle.fab_run.specs.Ends.{AreRedone, Piece as PieceAsked, answer_of};
 ghost use Rattle.fab_run.specs.Going.{Going, HasPoint, IsGoing, IsGoingFault, IsGoingNumberFault, IsGoingTextFault};
 ghost use Rattle.fab_run.specs.Setting.{Within, texts_of};
@@ -13,6 +14,7 @@ ghost use Rattle.fab_run.specs.declared.fault.RunFault.TheVariants.{NoMemory, Pl
 ghost use Rattle.fab_file.specs.declared.fault.PlaceFault.TheVariants.{Write};
 
 use crate::designs::read_design;
+use crate::ended::{Ended, outcome_of};
 use crate::fault::RunFault;
 use crate::inputs::{Inputs, Outcome};
 use crate::piece::{Piece, run_piece, unwatched};
@@ -21,7 +23,7 @@ use crate::setting::check_threads;
 use crate::stages::Pace;
 use fab_arch::Grid;
 use fab_board::{Gate, NoGate};
-use fab_commit::{Anneal, Point};
+use fab_commit::{Anneal, Keeping, KeepsNumbers, Point};
 use fab_dial::{Dial, Shower};
 use fab_file::{PlaceFault, are_labels};
 use fab_move::StreamWords;
@@ -79,6 +81,66 @@ fn read_going(
     Ok((design, seed, grid, point))
 }
 
+/// Resumes a run as `resume_run_shown` does, and keeps what `K` says of the moves that it accepts.
+pub(crate) fn resume_ended<
+    K: Keeping,
+    G: Gate,
+    R: AllocGlobal + Threads + Wait + Sync,
+    W: Sink,
+    P: Sink,
+>(
+    rt: &R,
+    inputs: &Inputs,
+    point: &[u8],
+    batch: u64,
+    workers: u64,
+    stop: Option<u64>,
+    gate: &G,
+    dial: &Dial,
+    shower: &mut Shower,
+    report: &mut W,
+    place: &mut P,
+) -> Result<Ended, RunFault>
+    requires own { shower.old.dial ≡ dial.now }
+    ensures headline { IfOk result (λ out. Answers K.numbers out (λ a. IsPlaced (AskToGoOn (texts_of inputs.now) point.now batch workers stop) (texts_of inputs.now) a (W.contents report.old) (W.contents report.new) (P.contents place.old) (P.contents place.new))) }
+    ensures redone { IfOk result (λ out. (p : PieceAsked) × AskToGoOn (texts_of inputs.now) point.now batch workers stop p × AreRedone p batch out.redone) }
+    ensures only { (s : Going) → IsGoing (texts_of inputs.now) point.now batch workers s → IfErr result (λ e. ¬ IsRefusal e) }
+    ensures fault { IfErr result (IsGoingFault (texts_of inputs.now) point.now batch workers) }
+    ensures silent { IfErr result (λ e. IsRefusal e → W.contents report.new ≡ W.contents report.old) }
+    ensures cut { OnErr result ((W.contents report.new ≡ W.contents report.old) ⊎ IsReportBegun (AskToGoOn (texts_of inputs.now) point.now batch workers stop) (W.contents report.old) (W.contents report.new)) }
+    ensures report_cut { IfErr result (λ e. e ≡ Report → IsReportCut (AskToGoOn (texts_of inputs.now) point.now batch workers stop) (W.contents report.old) (W.contents report.new)) }
+    ensures unplaced { IfErr result (λ e. e ≢ Place Write → P.contents place.new ≡ P.contents place.old) }
+    ensures place_cut { IfErr result (λ e. e ≡ Place Write → IsPlaceCut P.may_be_unready (AskToGoOn (texts_of inputs.now) point.now batch workers stop) (texts_of inputs.now) (W.contents report.old) (W.contents report.new) (P.contents place.old) (P.contents place.new)) }
+    ensures sound { OnOk result ((W.failed report.new ≡ W.failed report.old) × (P.failed place.new ≡ P.failed place.old)) }
+    ensures failed { IfErr result (λ e. (W.failed report.new ≡ report_failed_with e (W.failed report.old)) × (P.failed place.new ≡ place_failed_with e (P.failed place.old))) }
+    ensures shown { OnOk result (HaveShown (AskToGoOn (texts_of inputs.now) point.now batch workers stop) batch shower.old.shown shower.new.shown) }
+    ensures unshown { IfErr result (λ e. IsRefusal e → shower.new.shown ≡ shower.old.shown) }
+    ensures shown_cut { OnErr result ((shower.new.shown ≡ shower.old.shown) ⊎ HaveShownInPart (AskToGoOn (texts_of inputs.now) point.now batch workers stop) batch shower.old.shown shower.new.shown) }
+    ensures dial { shower.new.dial ≡ shower.old.dial }
+{
+    let alloc = rt.alloc();
+    let (design, seed, grid, point) = read_going(alloc, inputs, point, batch, workers)?;
+    let pace = Pace {
+        moves: point.schedule.moves(),
+        batch,
+        workers,
+        side: u64::from(grid.nx().max(grid.ny())),
+        stop,
+    };
+    let words = StreamWords::new(seed);
+    let numbered = Anneal::from_point(alloc, &design, &grid, point, words)?;
+    let anneal = numbered.keeping::<K>();
+    let piece = Piece {
+        design: &design,
+        grid: &grid,
+        head: Vec::new(alloc),
+        pace,
+    };
+    run_piece(
+        rt, anneal, inputs, &piece, gate, dial, shower, report, place,
+    )
+}
+
 /// Resumes a run as `resume_run` does, and shows its progress on the dial, as `place_run_shown` does.
 pub(crate) fn resume_run_shown<G: Gate, R: AllocGlobal + Threads + Wait + Sync, W: Sink, P: Sink>(
     rt: &R,
@@ -110,25 +172,22 @@ pub(crate) fn resume_run_shown<G: Gate, R: AllocGlobal + Threads + Wait + Sync, 
     ensures shown_cut { OnErr result ((shower.new.shown ≡ shower.old.shown) ⊎ HaveShownInPart (AskToGoOn (texts_of inputs.now) point.now batch workers stop) batch shower.old.shown shower.new.shown) }
     ensures dial { shower.new.dial ≡ shower.old.dial }
 {
-    let alloc = rt.alloc();
-    let (design, seed, grid, point) = read_going(alloc, inputs, point, batch, workers)?;
-    let pace = Pace {
-        moves: point.schedule.moves(),
+    match resume_ended::<KeepsNumbers, G, R, W, P>(
+        rt,
+        inputs,
+        point,
         batch,
         workers,
-        side: u64::from(grid.nx().max(grid.ny())),
         stop,
-    };
-    let anneal = Anneal::from_point(alloc, &design, &grid, point, StreamWords::new(seed))?;
-    let piece = Piece {
-        design: &design,
-        grid: &grid,
-        head: Vec::new(alloc),
-        pace,
-    };
-    run_piece(
-        rt, anneal, inputs, &piece, gate, dial, shower, report, place,
-    )
+        gate,
+        dial,
+        shower,
+        report,
+        place,
+    ) {
+        Ok(ended) => Ok(outcome_of(ended)),
+        Err(fault) => Err(fault),
+    }
 }
 
 /// Resumes a run from a checkpoint text, and makes its moves up to the last one or to the stop. It answers and writes what annealing one

@@ -67,7 +67,7 @@ pub fn writer_with(alloc: Global, room: usize) -> Counted<Narrow> {
     })
 }
 
-fn push_all(text: &mut Vec<u8>, name: &[u8], numbers: &[u64]) -> Result<(), AllocError> {
+pub fn push_all(text: &mut Vec<u8>, name: &[u8], numbers: &[u64]) -> Result<(), AllocError> {
     text.extend_from_slice(name)?;
     for number in numbers {
         text.push(b' ')?;
@@ -78,7 +78,7 @@ fn push_all(text: &mut Vec<u8>, name: &[u8], numbers: &[u64]) -> Result<(), Allo
 }
 
 // Appends where a run stopped, if it did: its stage, temperature, range, moves made and accepted in the stage, and moves accepted in all.
-fn push_ending(text: &mut Vec<u8>, ending: &Ending) -> Result<(), AllocError> {
+pub fn push_ending(text: &mut Vec<u8>, ending: &Ending) -> Result<(), AllocError> {
     match ending {
         Ending::Finished => Ok(()),
         Ending::Stopped(point) => {

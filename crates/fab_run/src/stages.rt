@@ -14,7 +14,7 @@ ghost use Rattle.fab_run.specs.Stages.{AreCountedOn, AreCut, AreMade};
 use crate::fault::RunFault;
 use crate::report::stage_line;
 use fab_board::{Gate, Naming};
-use fab_commit::{Anneal, Workers};
+use fab_commit::{Anneal, Keeping, Workers};
 use fab_dial::{Dial, Shower};
 use fab_sched::Stage;
 use fab_site::Words;
@@ -88,9 +88,9 @@ pub(crate) fn is_judged_ahead(
 
 /// Makes the next `count` moves of the running stage, fewer than are left in it: in turns of one batch, and a shorter turn for the rest. They
 /// are judged ahead, or by the owner.
-pub(crate) fn make_part<'a, V: Words + Sync + Drop, G: Gate, J: Naming, R: Threads + Wait + Sync>(
+pub(crate) fn make_part<'a, V: Words + Sync + Drop, K: Keeping, G: Gate, J: Naming, R: Threads + Wait + Sync>(
     rt: &R,
-    anneal: &mut Anneal<'a, V>,
+    anneal: &mut Anneal<'a, V, K>,
     count: u64,
     batch: u64,
     ahead: bool,
@@ -127,9 +127,9 @@ pub(crate) fn make_part<'a, V: Words + Sync + Drop, G: Gate, J: Naming, R: Threa
 }
 
 /// Makes the `left` moves that are left in the running stage, in turns of one batch, whose moves are judged ahead.
-fn make_turns<'a, V: Words + Sync + Drop, G: Gate, J: Naming, R: Threads + Wait + Sync>(
+fn make_turns<'a, V: Words + Sync + Drop, K: Keeping, G: Gate, J: Naming, R: Threads + Wait + Sync>(
     rt: &R,
-    anneal: &mut Anneal<'a, V>,
+    anneal: &mut Anneal<'a, V, K>,
     left: u64,
     batch: u64,
     workers: &mut Workers<'a, '_, V, G, J>,
@@ -159,9 +159,9 @@ fn make_turns<'a, V: Words + Sync + Drop, G: Gate, J: Naming, R: Threads + Wait 
 
 /// Makes the `left` moves that are left in the running stage, in turns of one batch. They are judged ahead, or by the owner; the moves, their
 /// costs and how many count as judged again are the same.
-pub(crate) fn make_rest<'a, V: Words + Sync + Drop, G: Gate, J: Naming, R: Threads + Wait + Sync>(
+pub(crate) fn make_rest<'a, V: Words + Sync + Drop, K: Keeping, G: Gate, J: Naming, R: Threads + Wait + Sync>(
     rt: &R,
-    anneal: &mut Anneal<'a, V>,
+    anneal: &mut Anneal<'a, V, K>,
     left: u64,
     batch: u64,
     ahead: bool,
@@ -189,10 +189,10 @@ pub(crate) fn make_rest<'a, V: Words + Sync + Drop, G: Gate, J: Naming, R: Threa
 
 /// Makes the moves that are left in the running stage, in turns of one batch, and appends its cost to `costs`. Returns the report's line
 /// of the stage.
-fn end_stage<'a, V: Words + Sync + Drop, G: Gate, J: Naming, R: Threads + Wait + Sync>(
+fn end_stage<'a, V: Words + Sync + Drop, K: Keeping, G: Gate, J: Naming, R: Threads + Wait + Sync>(
     rt: &R,
     alloc: Global,
-    anneal: &mut Anneal<'a, V>,
+    anneal: &mut Anneal<'a, V, K>,
     stage: Stage,
     moves: u64,
     batch: u64,
@@ -241,6 +241,7 @@ fn end_stage<'a, V: Words + Sync + Drop, G: Gate, J: Naming, R: Threads + Wait +
 pub(crate) fn anneal_all<
     'a,
     V: Words + Sync + Drop,
+    K: Keeping,
     G: Gate,
     W: Sink,
     J: Naming,
@@ -248,7 +249,7 @@ pub(crate) fn anneal_all<
 >(
     rt: &R,
     alloc: Global,
-    anneal: &mut Anneal<'a, V>,
+    anneal: &mut Anneal<'a, V, K>,
     pace: &Pace,
     workers: &mut Workers<'a, '_, V, G, J>,
     dial: &Dial,

@@ -33,7 +33,9 @@ use crate::out_names::OutNames;
 use crate::reading::{read_arch_and_net, read_role};
 use crate::status::Status;
 use fab_file::Labels;
-use fab_run::{Ending, Inputs, Options, Outcome, RunFault, array_of, place_run};
+use fab_run::{
+    CountedOutcome, Ending, Inputs, Options, RunFault, array_of, place_run_counted,
+};
 use fab_text::Sink;
 use std::alloc::Global;
 use std::marker::Brand;
@@ -139,7 +141,7 @@ fn run_place<R: AllocGlobal + Threads + Wait + Sync, O: Sink, P: Sink>(
     ensures sound { OnOk result (O.failed out.new ≡ O.failed out.old) }
     ensures failed { IfErr result (λ e. O.failed out.new ≡ report_failed_with e (O.failed out.old)) }
 {
-    let Outcome { ending, .. } = place_run(rt, inputs, options, out, place)?;
+    let CountedOutcome { ending, .. } = place_run_counted(rt, inputs, options, out, place)?;
     match ending {
         Ending::Finished => Ok(None),
         Ending::Stopped(point) => match kept {

@@ -34,7 +34,7 @@ use crate::out_names::OutNames;
 use crate::reading::{read_arch_and_net, read_role};
 use crate::status::Status;
 use fab_file::Labels;
-use fab_run::{Ending, Inputs, Outcome, RunFault, read_point, resume_run};
+use fab_run::{CountedOutcome, Ending, Inputs, RunFault, read_point, resume_run_counted};
 use fab_text::Sink;
 use std::alloc::Global;
 use std::marker::Brand;
@@ -124,7 +124,7 @@ fn run_on<R: AllocGlobal + Threads + Wait + Sync, O: Sink, P: Sink>(
     ensures sound { OnOk result (O.failed out.new ≡ O.failed out.old) }
     ensures failed { IfErr result (λ e. O.failed out.new ≡ report_failed_with e (O.failed out.old)) }
 {
-    let Outcome { ending, .. } = resume_run(
+    let CountedOutcome { ending, .. } = resume_run_counted(
         rt,
         inputs,
         restart.point,

@@ -70,8 +70,8 @@ returns-clause-annealed g c =
     let told = subst (λ l. Appends old mid l) c.deref.ensures.value c.in_ok-crew-2.ensures.told in
     let all = c.in_ok-anneal_beside.ensures.made in
     let end = c.tell_end.ensures in
-    told_piece c.args.anneal b c.args.piece.now.head.items c.args.piece.now.pace.stop c.args.piece.now.pace.batch c.cost.result c.in_ok-crew-2.costs.items c.anneal_beside.new.course.costs.items old mid more new
-    c.requires.fresh all.same all.made c.cost.ensures c.in_ok-crew-2.ensures.costs told c.tell_end.result end.ending end.array end.sites end.legal end.accepted end.costs end.told
+    told_piece g.K.Keeping.numbers c.args.anneal b c.args.piece.now.head.items c.args.piece.now.pace.stop c.args.piece.now.pace.batch c.cost.result c.in_ok-crew-2.costs.items c.anneal_beside.new.course.costs.items old mid more new
+    c.requires.fresh all.same all.made c.cost.ensures c.in_ok-crew-2.ensures.costs told c.tell_end.result end.ending end.array end.sites end.legal end.moves end.costs end.told
 
 pub returns-clause-cut : goal.returns-clause-cut
 returns-clause-cut g c =

@@ -6,5 +6,5 @@ use Rattle.fab_run.proofs.placing.begin.Goals as goal
 
 pub returns-clause-head : goal.returns-clause-head
 unfolding head_by
-returns-clause-head c =
-    c.in_ok-head.ensures ∙ ap (head_text c.args.design.now c.args.grid.now) (c.cost.ensures ∙ ap (λ q. cost_of q.design q.grid q.standing.sites) c.in_ok-anneal.ensures.stands)
+returns-clause-head g c =
+    c.in_ok-head.ensures ∙ ap (head_text c.args.design.now c.args.grid.now) (c.cost.ensures ∙ ap (λ q. cost_of q.design q.grid q.standing.sites) (c.keeping-anneal.ensures ∙ c.in_ok-numbered.ensures.stands))

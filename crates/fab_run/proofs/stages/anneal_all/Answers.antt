@@ -8,12 +8,13 @@ use Rattle.fab_sched.specs.Annealing.{IsCooling, Plan}
 use Rattle.fab_commit.specs.Serial.{Standing, accepted_among, from, moves_left, stage_at}
 use Rattle.fab_commit.specs.Run.ByTurns.{LeadsByTurns}
 use Rattle.fab_commit.specs.Run.Commits.{run_of}
-use Rattle.fab_commit.proofs.RunLemmas.ByTurns.{by_turns_then}
+use Rattle.fab_commit.proofs.RunLemmas.ByTurns.{by_turns_stay, by_turns_then}
+use Rattle.fab_commit.proofs.RunLemmas.Showing.{shown_first}
 use Rattle.fab_run.specs.Ends.{IsWithin}
 use Rattle.fab_run.specs.Piece.{IsOver, stage_costs, stage_lines}
 use Rattle.fab_run.proofs.Pieces.{left_is, left_there, no_costs, no_lines, over_later}
 use Rattle.fab_run.proofs.Turning.{counted_by_turns, counted_then}
-use Rattle.fab_run.proofs.Telling.{HasTold, appends_none, warmth, colder_by_stage, cut_between, cut_within, short_within, same_run, same_twice, told_on}
+use Rattle.fab_run.proofs.Telling.{HasTold, appends_none, warmth, colder_by_stage, cut_between, cut_within, short_within, same_run, same_twice, told_nothing, told_on}
 use Rattle.fab_run.specs.Shown.{EndsShown, LeadsShown, LeadsShownWithin}
 use Rattle.fab_run.proofs.Showing.{begun_within, shown_all}
 use Rattle.fab_run.proofs.stages.anneal_all.Goals as goal
@@ -22,6 +23,25 @@ use Rattle.fab_run.proofs.stages.anneal_all.Goals as goal
 cold : (p : Plan) (x : Standing) (h : Option ℕ) → stage_at p x h ≡ None → h ≡ None
 cold p x None e = refl
 cold p x (Some t) e = absurd cc
+
+pub loop-stage-init : goal.loop-stage-init
+loop-stage-init g c =
+    let a = c.args.anneal.now in
+    let r = run_of g.V.Words.moves a in
+    let x = a.standing in
+    let costs = c.args.costs.now.items in
+    let old = g.W.Sink.contents c.args.report.now in
+    let none : 0 ≡ x.done - x.done = omega arith in
+    record {
+      same = record { design = refl; grid = refl; fixed = refl; plan = refl; words = refl };
+      turns = by_turns_stay r c.args.pace.now.batch a;
+      at = subst (HasTold r x x a.accepted a.accepted costs costs old old) none (told_nothing r x a.accepted costs old);
+      dial = refl;
+      shown = shown_first r c.args.pace.now.batch x c.args.shower.now.shown;
+      done = omega arith;
+      passed = λ m e. omega arith;
+      sound = refl;
+    }
 
 pub returns-clause-made : goal.returns-clause-made
 returns-clause-made g c =
