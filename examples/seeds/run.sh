@@ -15,17 +15,13 @@ if ! command -v vplace > /dev/null; then
     echo 'run.sh: vplace is not on the path' >&2
     exit 2
 fi
-costs=$(mktemp) || exit 2
-trap 'rm -f "$costs"' EXIT
-trap 'exit 1' HUP INT TERM
-
 status=0
-echo "${SEEDS:-1 2 3 4 5 6 7 8}" | tr -s ' ' '\n' |
-    xargs -P "${JOBS:-$(nproc)}" -I '{seed}' sh "$here/one.sh" '{seed}' "$@" > "$costs" || status=1
+costs=$(echo "${SEEDS:-1 2 3 4 5 6 7 8}" | tr -s ' ' '\n' |
+    xargs -P "${JOBS:-$(nproc)}" -I '{seed}' sh "$here/one.sh" '{seed}' "$@") || status=1
 
-sort -k 2,2n "$costs" | cut -d ' ' -f 1-4
-best=$(sort -k 4,4n -k 2,2n "$costs" | head -n 1)
-if [ -n "$best" ]; then
+if [ -n "$costs" ]; then
+    echo "$costs" | sort -k 2,2n | cut -d ' ' -f 1-4
+    best=$(echo "$costs" | sort -k 4,4n -k 2,2n | head -n 1)
     placement=$(echo "$best" | cut -d ' ' -f 5-)
     kept=${placement%/*}/best.place
     cp "$placement" "$kept.part" && mv "$kept.part" "$kept" || exit 4
