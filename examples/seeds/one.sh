@@ -54,6 +54,7 @@ next_stop() {
 make_piece() {
     number=$1 before=$base.point$(($1 - 1)) after=$base.point$1
     shift
+    [ "$number" -eq 1 ] || [ -f "$before" ] || fail "$before is missing: remove $base.piece* to begin seed $seed anew"
     if [ "$number" -eq 1 ]; then
         vplace place --arch "$arch" --net "$net" --out "$base.place" --seed "$seed" --workers 1 --stop "$piece" --save "$after" "$@"
     else
