@@ -1,5 +1,5 @@
 #!/bin/sh
-# Places a design with many seeds side by side, prints the cost of each, and keeps a copy of the best placement as best.place:
+# Places a design with many seeds side by side, prints the cost of each, and keeps a copy of the best placement so far as best.place:
 #     sh seeds/run.sh ARCH NET [OPTION OF vplace place ..]
 # SEEDS, JOBS (how many run at a time), PIECE and OUT are taken from the environment. Begun again after a kill, with the same words, it
 # goes on from each seed's last checkpoint; seeds that are placed are not placed again.
@@ -21,10 +21,12 @@ costs=$(echo "${SEEDS:-1 2 3 4 5 6 7 8}" | tr -s ' ' '\n' |
 
 if [ -n "$costs" ]; then
     echo "$costs" | sort -k 2,2n | cut -d ' ' -f 1-4
-    best=$(echo "$costs" | sort -k 4,4n -k 2,2n | head -n 1)
-    placement=$(echo "$best" | cut -d ' ' -f 5-)
-    kept=${placement%/*}/best.place
-    cp "$placement" "$kept.part" && mv "$kept.part" "$kept" || exit 4
-    echo "best: $(echo "$best" | cut -d ' ' -f 1-4): $kept"
+    folder=$(echo "$costs" | head -n 1 | cut -d ' ' -f 5-)
+    folder=${folder%/*}
+    # The best of all that is placed there, whichever seeds were asked for now.
+    best=$(cd -- "$folder" && grep -H '^final' seed*.report | sort -s -k 3,3n | head -n 1)
+    seed=${best%%.report:*}
+    cp "$folder/$seed.place" "$folder/best.part" && mv "$folder/best.part" "$folder/best.place" || exit 4
+    echo "best: seed ${seed#seed} cost $(echo "$best" | cut -d ' ' -f 3): $folder/best.place"
 fi
 exit "$status"
