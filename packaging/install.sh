@@ -34,4 +34,5 @@ install -D -m 755 -- "$program" "$folder/bin/vplace" &&
     install -D -m 644 -- "$made/vplace.1" "$folder/share/man/man1/vplace.1" &&
     install -D -m 644 -- "$made/bash" "$folder/share/bash-completion/completions/vplace" &&
     install -D -m 644 -- "$made/zsh" "$folder/share/zsh/site-functions/_vplace" &&
-    install -D -m 644 -- "$made/fish" "$folder/share/fish/vendor_completions.d/vplace.fish"
+    install -D -m 644 -- "$made/fish" "$folder/share/fish/vendor_completions.d/vplace.fish" &&
+    echo "installed below $folder: vplace, its manual page, and completions for bash, zsh and fish"
