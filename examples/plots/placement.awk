@@ -19,9 +19,9 @@ reads_nets {
   }
   next
 }
-/^Array size:/ { nx = $3; ny = $5; next }
+/^Array size:/ { nx = $3 + 0; ny = $5 + 0; next }
 /^Netlist/ || /^#/ || NF < 4 { next }
-{ x[count] = $2; y[count] = $3; place[count] = $4; title[count] = $1; number[$1] = count++; if ($4 > most) most = $4 }
+{ x[count] = $2 + 0; y[count] = $3 + 0; place[count] = $4 + 0; title[count] = $1; number[$1] = count++; if ($4 > most) most = $4 }
 function text(name) { gsub(/&/, "\\&amp;", name); gsub(/</, "\\&lt;", name); return name }
 function box(left, top, side, colour, name) {
   printf "<rect x=\"%g\" y=\"%g\" width=\"%g\" height=\"%g\" fill=\"%s\" stroke=\"black\"><title>%s</title></rect>\n", left, top, side, side, colour, text(name)
