@@ -1,6 +1,12 @@
-# The commands of the repository. Each needs `rt` of the Rattle kit on the path.
+# The commands of the repository. Each but `flow`, `install` and `uninstall` needs `rt` of the Rattle kit on the path.
 
-.PHONY: test edits place bench program
+# Where `make install` puts the program. What is in DESTDIR stands before it, for packages.
+PREFIX = /usr/local
+DESTDIR =
+# The Verilog files that `make flow` places; without any, the two designs of examples/from_verilog.
+V =
+
+.PHONY: test edits place bench program flow install uninstall
 
 # Makes every proof from scratch, and runs the must-fail edits, every test and program, and the tests of the built program. The last line of
 # the output is `N passed, M failed`.
@@ -28,3 +34,14 @@ bench: program
 # is done. If nothing changed, nothing is made again.
 program:
 	@tests/program
+
+# Places designs from their Verilog: examples/from_verilog/README.md.
+flow:
+	@PATH=$(CURDIR)/crates/vplace/out:$$PATH $(MAKE) --no-print-directory -s -C examples/from_verilog $(if $(V),V='$(abspath $(V))')
+
+# Installs the program that `make program` built, a manual page, and completions for bash, zsh and fish.
+install:
+	@packaging/install.sh crates/vplace/out/vplace '$(DESTDIR)$(PREFIX)'
+
+uninstall:
+	@packaging/install.sh --remove '$(DESTDIR)$(PREFIX)'
