@@ -1,5 +1,5 @@
 -- Runs that keep the numbers of the moves that they accept, and runs that only count them (our own).
-use Rattle.std.specs.Prelude.{ℕ, ◌≡◌, Bool, if◌then◌else◌, List, Option, Some, None, length}
+use Rattle.std.specs.Prelude.{ℕ, ◌≡◌, Bool, if◌then◌else◌, List, Some, None, length}
 use Rattle.fab_commit.specs.Run.Noted.{noted}
 use Rattle.fab_run.specs.Ends.{Answer}
 use Rattle.fab_run.specs.declared.ended.Ended.{Ended}

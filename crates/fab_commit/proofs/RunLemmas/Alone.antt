@@ -1,5 +1,5 @@
 -- Moves that the owner judges itself: the live placement tells whether a judgement made ahead was spoilt.
-use Rattle.std.proofs.Common.{◌≡◌, ℕ, ◌+◌, ◌-◌, ◌<◌, ◌≤◌, min, false, [], List, length, is_some, refl, sym, ap, subst, ◌∙◌, arith, ◌++◌, append-nil, append_assoc, replicate, Result, Ok, Err}
+use Rattle.std.proofs.Common.{◌≡◌, ℕ, ◌+◌, ◌-◌, ◌<◌, ◌≤◌, min, false, [], List, length, is_some, refl, sym, ap, subst, ◌∙◌, arith, ◌++◌, append-nil, replicate, Result, Ok, Err}
 use Rattle.std.specs.List.{count_by, filter, range_with_len}
 use Rattle.std.specs.declared.alloc.AllocError.{AllocError}
 use Rattle.fab_dial.specs.declared.readings.Reading.{Reading}

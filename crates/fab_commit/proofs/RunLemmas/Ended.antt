@@ -7,7 +7,7 @@ use Rattle.fab_commit.specs.declared.run.alone.Ahead.{Ahead}
 use Rattle.fab_commit.specs.declared.run.owner.Owner.{Owner}
 use Rattle.fab_commit.specs.declared.run.pipeline.Pipeline.{Pipeline}
 use Rattle.fab_commit.specs.declared.run.state.Given.{Given}
-use Rattle.fab_commit.specs.Serial.{Run, Standing, accepted_among, from, moves_left}
+use Rattle.fab_commit.specs.Serial.{Run, Standing, from, moves_left}
 use Rattle.fab_commit.specs.Run.Alone.{AreMadeAlone, HaveEnded, IsAlone, IsFollowed, IsMadeAlone, redone_in, unjudged, with_shorter}
 use Rattle.fab_commit.specs.Run.ByTurns.{IsByTurns}
 use Rattle.fab_commit.specs.Run.Commits.{AnnealOf, run_for, standing_of, world_of}

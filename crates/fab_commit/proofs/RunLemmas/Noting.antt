@@ -1,5 +1,5 @@
 -- The numbers of accepted moves, where they are kept: more of them, and room for them.
-use Rattle.std.proofs.Common.{◌≡◌, ℕ, ◌+◌, ◌≤◌, List, [], ◌++◌, Option, Some, None, refl, ap, arith, append-nil, append_assoc}
+use Rattle.std.proofs.Common.{◌≡◌, ℕ, ◌≤◌, List, [], ◌++◌, Option, Some, None, refl, ap, arith, append-nil, append_assoc}
 use Rattle.std.specs.Global.{Vec}
 use Rattle.fab_commit.specs.declared.run.owner.Owner.{Owner}
 use Rattle.fab_commit.specs.Run.Noted.{HasRoomFor, noted_more}

@@ -1,5 +1,5 @@
 -- Turns of one batch, of which the last may be shorter.
-use Rattle.std.proofs.Common.{◌≡◌, ℕ, ◌+◌, ◌<◌, ◌≤◌, subst, List, ◌++◌, ◌∷◌, [], replicate, zero, suc, refl, sym, ap, ◌∙◌, append_assoc, arith}
+use Rattle.std.proofs.Common.{◌≡◌, ℕ, ◌+◌, ◌<◌, ◌≤◌, subst, List, ◌++◌, ◌∷◌, [], replicate, zero, suc, refl, sym, ap, ◌∙◌, arith}
 use Rattle.std.specs.List.{count_by, range_with_len}
 use Rattle.fab_dial.specs.declared.readings.Reading.{Reading}
 use Rattle.fab_commit.specs.declared.run.alone.Ahead.{Ahead}

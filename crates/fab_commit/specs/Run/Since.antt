@@ -1,5 +1,5 @@
 -- What a run accepted since one of its standings (our own).
-use Rattle.std.specs.Prelude.{ℕ, ◌≡◌, ◌-◌, ◌≤◌, Bool, if◌then◌else◌, List, Option, Some, None}
+use Rattle.std.specs.Prelude.{ℕ, ◌≡◌, ◌-◌, ◌≤◌, Bool, if◌then◌else◌, List, Some, None}
 use Rattle.fab_commit.specs.declared.run.state.State.{State}
 use Rattle.fab_commit.specs.Serial.{Run, Standing, accepted_among, from}
 use Rattle.fab_commit.specs.Run.Commits.{standing_of}

@@ -1,4 +1,4 @@
-use Rattle.std.proofs.Common.{◌+◌, ◌≤◌, [], length, refl, ap, arith}
+use Rattle.std.proofs.Common.{[], length, refl, ap, arith}
 use Rattle.fab_commit.specs.declared.run.pipeline.Pipeline.{Pipeline}
 use Rattle.fab_commit.specs.Run.Commits.{run_for, standing_of}
 use Rattle.fab_commit.proofs.RunLemmas.Alone.{owned_cleared}

@@ -1,7 +1,7 @@
-use Rattle.std.proofs.Common.{◌+◌, sym, ap, ◌∙◌, arith}
+use Rattle.std.proofs.Common.{sym, ap, ◌∙◌}
 use Rattle.fab_commit.specs.Run.Noted.{noted, noted_more}
 use Rattle.fab_commit.specs.Serial.{numbers_if}
-use Rattle.fab_commit.proofs.RunLemmas.Noting.{noted_more-nil, room_less}
+use Rattle.fab_commit.proofs.RunLemmas.Noting.{noted_more-nil}
 use Rattle.fab_commit.proofs.run.state.count.Goals as goal
 
 pub returns-else-took-clause-accepted : goal.returns-else-took-clause-accepted

@@ -1,6 +1,5 @@
-use Rattle.std.proofs.Common.{◌≡◌, ◌-◌, true, map, sym, ap, subst, ◌∙◌, arith}
+use Rattle.std.proofs.Common.{◌≡◌, true, map, sym, ap, subst, ◌∙◌}
 use Rattle.std.specs.Arc.{arc_value}
-use Rattle.fab_commit.specs.Serial.{Standing, accepted_among}
 use Rattle.fab_commit.specs.declared.run.state.State.{State}
 use Rattle.fab_commit.specs.Run.Commits.{run_for, standing_of}
 use Rattle.fab_commit.specs.Run.Owners.{verdict_of}
