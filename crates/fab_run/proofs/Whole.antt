@@ -130,20 +130,23 @@ told_piece keeps a b head stop batch cost costs0 costs old mid more new fresh sa
     let x = a.standing in
     let n = made.count in
     let p = piece_of stream_moves a head stop in
-    let costs_are : costs0 ++ stage_costs (run_of stream_moves a) x n ≡ run_costs (run_of stream_moves a) x n = (λ i. first i ++ stage_costs (run_of stream_moves a) x n) ∙ ap (λ c. c ∷ stage_costs (run_of stream_moves a) x n) value in
-    (b.accepted, accepted, record {
-      moves = n;
-      annealed = record {
-        piece = made.piece;
-        ending = subst (λ y. EndsAs (run_of stream_moves a) y out.ending) made.stands (subst (λ q. EndsAs q b.standing out.ending) r ending);
-        array = array ∙ same.grid;
-        stands = sites ∙ ap (λ (y : Standing). y.sites) made.stands;
-        legal = subst (λ (q : Run). IsLegal q.problem.design q.problem.grid q.problem.fixed out.placement.sites) r legal;
-        numbers = made.accepted ∙ ap (λ l. l ++ accepted_among (run_of stream_moves a) x n) fresh.accepted;
-        values = values ∙ made.costs ∙ costs_are;
-      };
-      report = told_whole p old mid more new n told made.told (subst (λ l. Appends more new l) (end_there a b n same made.stands) last);
-    })
+    let costs_are : costs0 ++ stage_costs (run_of stream_moves a) x n ≡ run_costs (run_of stream_moves a) x n = (λ i. first i ++ stage_costs (run_of stream_moves a) x n) ∙ ap (λ c. c ∷ stage_costs (run_of stream_moves a) x n) value in (
+      b.accepted,
+      accepted,
+      record {
+        moves = n;
+        annealed = record {
+          piece = made.piece;
+          ending = subst (λ y. EndsAs (run_of stream_moves a) y out.ending) made.stands (subst (λ q. EndsAs q b.standing out.ending) r ending);
+          array = array ∙ same.grid;
+          stands = sites ∙ ap (λ (y : Standing). y.sites) made.stands;
+          legal = subst (λ (q : Run). IsLegal q.problem.design q.problem.grid q.problem.fixed out.placement.sites) r legal;
+          numbers = made.accepted ∙ ap (λ l. l ++ accepted_among (run_of stream_moves a) x n) fresh.accepted;
+          values = values ∙ made.costs ∙ costs_are;
+        };
+        report = told_whole p old mid more new n told made.told (subst (λ l. Appends more new l) (end_there a b n same made.stands) last);
+      },
+    )
 
 -- where the last line did not go out whole, a beginning of the report did
 pub cut_piece : (a b : AnnealOf ℕ) (head : List ℕ) (stop : Option ℕ) (batch : ℕ) (costs0 costs : List ℕ) (old mid more new : Option (List ℕ)) → IsSameRun a b → AreMade stream_moves stop batch a b costs0 costs mid more → Appends old mid head

@@ -66,14 +66,7 @@ pub fn place_run_counted_shown<G: Gate, R: AllocGlobal + Threads + Wait + Sync, 
     ensures dial { shower.new.dial ≡ shower.old.dial }
 {
     match place_ended::<KeepsCount, G, R, W, P>(
-        rt,
-        inputs,
-        options,
-        gate,
-        dial,
-        shower,
-        report,
-        place,
+        rt, inputs, options, gate, dial, shower, report, place,
     ) {
         Ok(ended) => Ok(counted_of(ended)),
         Err(fault) => Err(fault),

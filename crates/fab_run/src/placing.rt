@@ -173,14 +173,7 @@ pub fn place_run_shown<G: Gate, R: AllocGlobal + Threads + Wait + Sync, W: Sink,
     ensures dial { shower.new.dial ≡ shower.old.dial }
 {
     match place_ended::<KeepsNumbers, G, R, W, P>(
-        rt,
-        inputs,
-        options,
-        gate,
-        dial,
-        shower,
-        report,
-        place,
+        rt, inputs, options, gate, dial, shower, report, place,
     ) {
         Ok(ended) => Ok(outcome_of(ended)),
         Err(fault) => Err(fault),

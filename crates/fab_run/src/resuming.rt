@@ -173,17 +173,7 @@ pub(crate) fn resume_run_shown<G: Gate, R: AllocGlobal + Threads + Wait + Sync, 
     ensures dial { shower.new.dial ≡ shower.old.dial }
 {
     match resume_ended::<KeepsNumbers, G, R, W, P>(
-        rt,
-        inputs,
-        point,
-        batch,
-        workers,
-        stop,
-        gate,
-        dial,
-        shower,
-        report,
-        place,
+        rt, inputs, point, batch, workers, stop, gate, dial, shower, report, place,
     ) {
         Ok(ended) => Ok(outcome_of(ended)),
         Err(fault) => Err(fault),

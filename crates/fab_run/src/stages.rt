@@ -88,7 +88,14 @@ pub(crate) fn is_judged_ahead(
 
 /// Makes the next `count` moves of the running stage, fewer than are left in it: in turns of one batch, and a shorter turn for the rest. They
 /// are judged ahead, or by the owner.
-pub(crate) fn make_part<'a, V: Words + Sync + Drop, K: Keeping, G: Gate, J: Naming, R: Threads + Wait + Sync>(
+pub(crate) fn make_part<
+    'a,
+    V: Words + Sync + Drop,
+    K: Keeping,
+    G: Gate,
+    J: Naming,
+    R: Threads + Wait + Sync,
+>(
     rt: &R,
     anneal: &mut Anneal<'a, V, K>,
     count: u64,
@@ -159,7 +166,14 @@ fn make_turns<'a, V: Words + Sync + Drop, K: Keeping, G: Gate, J: Naming, R: Thr
 
 /// Makes the `left` moves that are left in the running stage, in turns of one batch. They are judged ahead, or by the owner; the moves, their
 /// costs and how many count as judged again are the same.
-pub(crate) fn make_rest<'a, V: Words + Sync + Drop, K: Keeping, G: Gate, J: Naming, R: Threads + Wait + Sync>(
+pub(crate) fn make_rest<
+    'a,
+    V: Words + Sync + Drop,
+    K: Keeping,
+    G: Gate,
+    J: Naming,
+    R: Threads + Wait + Sync,
+>(
     rt: &R,
     anneal: &mut Anneal<'a, V, K>,
     left: u64,

@@ -33,9 +33,7 @@ use crate::out_names::OutNames;
 use crate::reading::{read_arch_and_net, read_role};
 use crate::status::Status;
 use fab_file::Labels;
-use fab_run::{
-    CountedOutcome, Ending, Inputs, Options, RunFault, array_of, place_run_counted,
-};
+use fab_run::{CountedOutcome, Ending, Inputs, Options, RunFault, array_of, place_run_counted};
 use fab_text::Sink;
 use std::alloc::Global;
 use std::marker::Brand;

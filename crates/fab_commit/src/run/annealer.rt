@@ -205,7 +205,6 @@ impl<'a, W: Words + Drop> Anneal<'a, W> {
 }
 
 impl<'a, W: Words + Drop, K: Keeping> Anneal<'a, W, K> {
-
     /// A snapshot of the run, for a later run to go on from; `None` after the last move. An error means that memory ran out.
     pub fn point(&self) -> Result<Option<Point>, AllocError>
         ensures none { (result ≡ Ok None) ↔ (self.now.standing.heat ≡ None) }
