@@ -6,12 +6,18 @@ DESTDIR =
 # The Verilog files that `make flow` places; without any, the two designs of examples/from_verilog.
 V =
 
-.PHONY: test edits place bench program flow install uninstall
+.PHONY: test hostile edits place bench program flow install uninstall
 
 # Makes every proof from scratch, and runs the must-fail edits, every test and program, and the tests of the built program. The last line of
 # the output is `N passed, M failed`.
 test:
 	@tests/all
+
+# Runs the program on hostile machines, in the long forms of tests/hostile, whose short forms are in `make test`: limits, devices, changing
+# files, refused calls, kills and load. It says what it does as it goes. Some of it wants root, for another user and small file systems, and
+# some strace and python3; what cannot be tried is said.
+hostile: program
+	@sh tests/hostile/run --long crates/vplace/out/vplace
 
 # Tries the further wrong bodies, which the gate leaves out because they take as long as everything else. Run this before a contract
 # changes.
