@@ -5,10 +5,9 @@ ghost use Rattle.std.specs.Prelude.{◌≡◌, None, IfOk};
 ghost use Rattle.std.specs.Io.KnownBytes.{Appends};
 
 use crate::files::{NamedFiles, ReadFault, WriteFault};
-use fab_text::{Counted, Sink, write_whole};
 use std::alloc::Global;
 use std::fs::{File, Metadata, OpenOptions, TryLockError};
-use std::io::{Error, ErrorKind};
+use std::io::{Error, ErrorKind, Write};
 use std::os::unix::fs::{FileTypeExt, MetadataExt, fchown};
 use std::{fs, str};
 
@@ -109,13 +108,22 @@ impl NamedFiles for HostFiles<'_> {
     }
 }
 
-/// Writes all of the bytes, and returns the writer only if that succeeds.
-fn written<W: Sink + Drop>(mut out: W, bytes: &[u8]) -> Result<W, WriteFault>
+/// Writes all of the bytes, and returns the writer only if that succeeds. A write that a signal interrupts is made again.
+fn written<W: Write + Drop>(mut out: W, bytes: &[u8]) -> Result<W, WriteFault>
     ensures whole { IfOk result (λ w. Appends (W.contents out) (W.contents w) bytes.now) }
 {
-    match write_whole(&mut out, bytes) {
+    match out.write_all(bytes) {
         Ok(()) => Ok(out),
-        Err(_) => Err(WriteFault::Unwritable),
+        Err(error) => Err(WriteFault::of(&error)),
+    }
+}
+
+// Waits until the bytes of a file are on its disk. Of what keeps nothing that could be synced, as pipes and most devices, and of file systems
+// without syncs, the system says that the call is not for it.
+fn synced(file: File) -> Result<(), WriteFault> {
+    match file.sync_all() {
+        Err(error) if error.kind() != ErrorKind::InvalidInput => Err(WriteFault::of(&error)),
+        _ => Ok(()),
     }
 }
 
@@ -253,9 +261,15 @@ impl HostFiles<'_> {
             // The group comes first, since a new one may take bits of the mode away. It stays as it is where the user of this run is not in
             // the old one.
             let _ = fchown(&file, None, Some(old.gid()));
-            if let Err(error) = file.set_permissions(old.permissions()) {
-                self.remove(&file, name.as_str());
-                return Err(WriteFault::of(&error));
+            match file.set_permissions(old.permissions()) {
+                Err(error) if !has_mode_of(&file, &old) => {
+                    self.remove(&file, name.as_str());
+                    if is_no_mode_taken(error.kind()) {
+                        return Ok(Way::InPlace(target));
+                    }
+                    return Err(WriteFault::of(&error));
+                }
+                _ => {}
             }
         }
         Ok(Way::Beside(Beside {
@@ -391,8 +405,7 @@ impl HostFiles<'_> {
     }
 
     fn fill(&self, file: File, bytes: &[u8]) -> Result<(), WriteFault> {
-        let file = written(Counted::new(file), bytes)?.into_inner();
-        file.sync_all().map_err(|error| WriteFault::of(&error))
+        synced(written(file, bytes)?)
     }
 
     // Whether the name is that of a plain file or of none: this may have changed during a long run. An error means that memory is short.
@@ -425,12 +438,7 @@ impl HostFiles<'_> {
             .truncate(!is_shared)
             .open(self.rt, target)
             .map_err(|error| WriteFault::of(&error))?;
-        let file = written(Counted::new(file), bytes)?.into_inner();
-        match file.sync_all() {
-            // Pipes and most devices keep nothing that could be synced.
-            Err(error) if error.kind() != ErrorKind::InvalidInput => Err(WriteFault::of(&error)),
-            _ => Ok(()),
-        }
+        synced(written(file, bytes)?)
     }
 }
 
@@ -441,6 +449,19 @@ fn must_be_in_place(kind: ErrorKind, is_there: bool) -> bool {
         ErrorKind::InvalidFilename => true,
         ErrorKind::PermissionDenied | ErrorKind::ReadOnlyFilesystem => is_there,
         _ => false,
+    }
+}
+
+// Whether a file system refuses modes, as some on a network do. Then the target itself is written, so that its mode stays.
+fn is_no_mode_taken(kind: ErrorKind) -> bool {
+    matches!(kind, ErrorKind::PermissionDenied | ErrorKind::Unsupported)
+}
+
+// Whether a file has the mode of another.
+fn has_mode_of(file: &File, other: &Metadata) -> bool {
+    match file.metadata() {
+        Ok(found) => found.mode() == other.mode(),
+        Err(_) => false,
     }
 }
 

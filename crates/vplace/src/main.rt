@@ -19,6 +19,7 @@ mod narrow;
 mod options;
 mod out_file;
 mod out_names;
+mod patient;
 mod place_flags;
 mod placing;
 #[cfg(test)]
@@ -30,19 +31,26 @@ mod resuming;
 #[cfg(test)]
 mod resuming_tests;
 mod status;
+mod streams;
 #[cfg(test)]
 mod tests;
 mod words;
 
 use fab_text::Counted;
 use host_files::HostFiles;
+use patient::Patient;
 use std::io;
 use std::process::ExitCode;
+use streams::taken;
 use words::given_words;
 
 fn main(rt: HostRuntime) -> ExitCode {
-    let mut out = Counted::new(io::writer(&rt));
-    let mut err = Counted::new(rt.stderr());
+    // As many as there are standard streams, until the run is over.
+    let _streams = (taken(&rt), taken(&rt), taken(&rt));
+    let mut out = Counted::new(Patient {
+        inner: io::writer(&rt),
+    });
+    let mut err = Counted::new(Patient { inner: rt.stderr() });
     let status = match given_words(&rt) {
         Ok(words) => program::program(
             &rt,
