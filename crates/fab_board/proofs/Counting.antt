@@ -1,11 +1,9 @@
 -- Lists in which each number occurs as often as in another.
-use Rattle.std.proofs.Common.{◌≡◌, ℕ, zero, suc, ◌+◌, ◌<◌, List, [], ◌∷◌, length, get_or, sum_by, refl, sym, ap, ◌∙◌, arith}
-use Rattle.std.specs.Prelude.{IsPermutation, remove, All}
+use Rattle.std.proofs.Common.{◌≡◌, ℕ, zero, suc, ◌+◌, ◌<◌, List, [], ◌∷◌, length, get_or, sum_by, refl, sym, ap, arith}
+use Rattle.std.specs.Prelude.{IsPermutation, remove}
 use Rattle.std.specs.List.{range_with_len}
 use Rattle.std.proofs.lemmas.List.Sums.{sum_by-cons, sum_by-remove}
-use Rattle.std.proofs.lemmas.List.Sorted.{IsPermutation-refl, IsPermutation-sym, IsPermutation-cons, IsPermutation-trans, IsPermutation-remove, Contains-permutation}
-use Rattle.std.proofs.lemmas.List.Elements.{All-append, All-contains}
-use Rattle.std.proofs.lemmas.List.FromFn.{get_or-range_with_len, length-range_with_len}
+use Rattle.std.proofs.lemmas.List.Sorted.{IsPermutation-refl, IsPermutation-sym, IsPermutation-cons, IsPermutation-trans, IsPermutation-remove}
 use Rattle.std.proofs.lemmas.Bool.{le-ltb}
 use mathlib.Core.Logic.{dite}
 use native.Mathlib.Decide.{ℕ_discrete}
@@ -42,13 +40,3 @@ times_all x (s ∷ ss) = omega (arith, times_append x s.list (all_numbers ss), s
 -- seats that together have each number below n once have these numbers in some order
 pub dealt_once : (n : ℕ) (seats : List SeatModel) → ((x : ℕ) → sum_by (λ s. times x s.list) seats ≡ once_below x n) → IsPermutation (range_with_len 0 n) (all_numbers seats)
 dealt_once n seats h = same_counts (range_with_len 0 n) (all_numbers seats) (λ x. let r = times_range x 0 n in let a = times_all x seats in let e = h x in let z : once_below x 0 ≡ 0 = rw (le-ltb x 0 (omega arith)) refl in let s : once_below x (0 + n) ≡ once_below x n = ap (once_below x) (omega arith) in omega arith)
-
--- what holds of each number of each seat
-pub all_of_seats : (Q : ℕ → Type 0) (seats : List SeatModel) → All (λ s. All Q s.list) seats → All Q (all_numbers seats)
-all_of_seats Q [] h = λ k d l. absurd (omega arith)
-all_of_seats Q (s ∷ ss) h = All-append Q s.list (all_numbers ss) (h 0 s (omega arith)) (all_of_seats Q ss (λ i d l. h (suc i) d (omega arith)))
-
--- where the seats' numbers are those below n, what holds of theirs holds of each number below n
-pub each_below : (Q : ℕ → Type 0) (n : ℕ) (seats : List SeatModel) → IsPermutation (range_with_len 0 n) (all_numbers seats) → All (λ s. All Q s.list) seats → (k : ℕ) → k < n → Q k
-each_below Q n seats h all k l = All-contains Q (all_numbers seats) k (all_of_seats Q seats all)
-    (Contains-permutation (range_with_len 0 n) (all_numbers seats) k h (k, (let e = length-range_with_len 0 n in omega arith), get_or-range_with_len 0 n k k l ∙ omega arith))

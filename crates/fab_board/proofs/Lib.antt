@@ -2,7 +2,7 @@ pub mod Sums
 pub mod Counting
 pub mod Moves
 pub mod Gathering
-pub mod Filling
 pub mod Fronts
 pub mod Adding
 pub mod Placing
+pub mod Steps

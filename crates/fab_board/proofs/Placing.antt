@@ -1,60 +1,53 @@
--- Answers that are put into their places.
-use Rattle.std.proofs.Common.{◌≡◌, ℕ, zero, suc, ◌<◌, List, [], ◌∷◌, ◌++◌, length, get_or, Some, refl, sym, ap, ◌∙◌, subst, arith, length-append}
+-- The last post, and answers that are put into their places.
+use Rattle.std.proofs.Common.{◌≡◌, ℕ, ◌<◌, List, [], ◌∷◌, ◌++◌, length, map, replicate, set, get_or, Option, Some, None, Result, Ok, Err, refl, sym, ap, ◌∙◌, subst, arith, length-set, get_or-set_same, get_or-set_other}
+use Rattle.std.specs.Prelude.{IfOk, IfSome}
+use Rattle.std.proofs.Math.ListN.{get_or-map, length-replicate}
+use Rattle.std.proofs.lemmas.List.{get_or-replicate, length-map}
 use mathlib.Core.Logic.{dite}
 use native.Mathlib.Decide.{ℕ_discrete}
 use Rattle.fab_board.specs.Posts.{latest}
-use Rattle.fab_board.specs.Judged.{AllAnswered, Paired, InOrder}
+use Rattle.fab_board.specs.Follows.{followed, IsAnswerAfter, IsAnswered}
+use Rattle.fab_board.specs.Judged.{AllAnswered, Placed}
 
 pub latest_push : {E : Type 0} (xs : List E) (e : E) → latest (xs ++ e ∷ []) ≡ Some e
 latest_push [] e = refl
 latest_push (x ∷ []) e = refl
 latest_push (x ∷ y ∷ xs) e = latest_push (y ∷ xs) e
 
--- what is at the end of a list, and before it
-here : {X : Type 0} (xs : List X) (x d : X) → get_or (xs ++ x ∷ []) (length xs) d ≡ x
-here [] x d = refl
-here (y ∷ ys) x d = here ys x d
+-- an answer for a slot, if there is one, is put into it
+pub placed_set : {T : Type 0} (P : ℕ → T → Type 0) (slots : List (Option T)) (i : ℕ) (x : Option T) → i < length slots → IfSome x (P i) → Placed P slots → Placed P (set slots i x)
+placed_set {T} P slots i x inside p h k d l = dite (ℕ_discrete k i)
+    (λ e. subst (λ (j : ℕ). IfSome (get_or (set slots i x) j d) (P j)) (sym e) (subst (λ (o : Option T). IfSome o (P i)) (sym (get_or-set_same slots i x d inside)) p))
+    (λ ne. subst (λ (o : Option T). IfSome o (P k)) (sym (get_or-set_other slots i k x d ne)) (h k d (let n = length-set slots i x in omega arith)))
 
-front : {X : Type 0} (xs : List X) (x : X) (k : ℕ) (d : X) → k < length xs → get_or (xs ++ x ∷ []) k d ≡ get_or xs k d
-front [] x k d l = absurd (omega arith)
-front (y ∷ ys) x zero d l = refl
-front (y ∷ ys) x (suc k) d l = front ys x k d (omega arith)
+-- an answer on the state after some posts, if it holds one
+pub answered_if : {S E T : Type 0} (after : S → E → S) (answer : S → ℕ → Option T → Type 0) (start : Option S) (posts : List E) (n : ℕ) (x : Option T) → IsAnswerAfter after answer start posts n x → IfSome x (λ a. IsAnswered after answer start n (Some a))
+answered_if after answer start posts n None h = tt
+answered_if after answer start posts n (Some a) h = (posts, h)
 
-pub all_pushed : {T : Type 0} (P : ℕ → T → Type 0) (xs ys : List T) (x : T) (n : ℕ) → ys ≡ xs ++ x ∷ [] → n ≡ length xs → P n x → AllAnswered P xs → AllAnswered P ys
-all_pushed {T} P xs ys x n is at p h = subst (λ (l : List T). AllAnswered P l) (sym is) (λ k d l. dite (ℕ_discrete k (length xs))
-    (λ e. subst (λ (j : ℕ). P j (get_or (xs ++ x ∷ []) j d)) (at ∙ sym e) (subst (λ (y : T). P n y) (sym (ap (λ (j : ℕ). get_or (xs ++ x ∷ []) j d) at ∙ here xs x d)) p))
-    (λ ne. subst (λ (y : T). P k y) (sym (front xs x k d (omega (arith, length-append xs (x ∷ []))))) (h k d (omega (arith, length-append xs (x ∷ []))))))
+vacant : {T : Type 0} (P : ℕ → T → Type 0) (n : ℕ) → Placed {T = T} P (replicate n None)
+vacant {T} P n k d l = let none : Option T = None in let e = length-replicate n none in subst (λ (o : Option T). IfSome o (P k)) (sym (get_or-replicate n k None d (omega arith))) tt
 
-pub paired_empty : {T : Type 0} (P : ℕ → T → Type 0) (ns : List ℕ) (xs : List T) → ns ≡ [] → xs ≡ [] → Paired P ns xs
-paired_empty {T} P ns xs no_number none = subst (λ (l : List ℕ). Paired P l xs) (sym no_number) (subst (λ (l : List T). Paired P [] l) (sym none) (refl, λ k d l. absurd (omega arith)))
+pub vacant_places : {T : Type 0} (P : ℕ → T → Type 0) (n : ℕ) (slots : List (Option T)) → slots ≡ replicate n None → (length slots ≡ n) × Placed P slots
+vacant_places {T} P n slots is = let none : Option T = None in (ap (λ (l : List (Option T)). length l) is ∙ length-replicate n none, subst (λ (l : List (Option T)). Placed P l) (sym is) (vacant P n))
 
--- a number and its answer join the others
-pub paired_pushed : {T : Type 0} (P : ℕ → T → Type 0) (ns ms : List ℕ) (xs ys : List T) (n : ℕ) (x : T) → ms ≡ ns ++ n ∷ [] → ys ≡ xs ++ x ∷ [] → P n x → Paired P ns xs → Paired P ms ys
-paired_pushed {T} P ns ms xs ys n x ms_is ys_is p h = subst (λ (l : List ℕ). Paired P l ys) (sym ms_is) (
-  (let a = ap (λ (l : List T). length l) ys_is in let e = h.0 in omega (arith, length-append ns (n ∷ []), length-append xs (x ∷ []))),
-  all_pushed (λ k y. P (get_or (ns ++ n ∷ []) k 0) y) xs ys x (length xs) ys_is refl
-      (subst (λ (m : ℕ). P m x) (sym (ap (λ (j : ℕ). get_or (ns ++ n ∷ []) j 0) (sym h.0) ∙ here ns n 0)) p)
-      (λ k d l. subst (λ (m : ℕ). P m (get_or xs k d)) (sym (front ns n k 0 (let e = h.0 in omega arith))) (h.1 k d l)),
-)
+-- the answers in their places are those of the places
+pub unwrapped : {T : Type 0} (P : ℕ → T → Type 0) (slots : List (Option T)) (xs : List T) → map (λ (x : T). Some x) xs ≡ slots → Placed P slots → (j : ℕ) (d : T) → j < length slots → P j (get_or xs j d)
+unwrapped {T} P slots xs is placed j d l = subst (λ (o : Option T). IfSome o (P j)) (ap (λ (s : List (Option T)). get_or s j (Some d)) (sym is) ∙ get_or-map (λ (x : T). Some x) xs j d) (placed j (Some d) l)
 
--- the last number and its answer leave the others
-pub paired_pop : {T : Type 0} (P : ℕ → T → Type 0) (ns ms : List ℕ) (xs ys : List T) (n : ℕ) (x : T) → ms ≡ ns ++ n ∷ [] → ys ≡ xs ++ x ∷ [] → Paired P ms ys → P n x × Paired P ns xs
-paired_pop {T} P ns ms xs ys n x ms_is ys_is h =
-    let q : Paired P (ns ++ n ∷ []) (xs ++ x ∷ []) = subst (λ (l : List ℕ). Paired P l (xs ++ x ∷ [])) ms_is (subst (λ (l : List T). Paired P ms l) ys_is h) in
-    let same : length ns ≡ length xs = (let e = q.0 in omega (arith, length-append ns (n ∷ []), length-append xs (x ∷ []))) in
-    let last : P (get_or (ns ++ n ∷ []) (length xs) 0) (get_or (xs ++ x ∷ []) (length xs) x) = q.1 (length xs) x (omega (arith, length-append xs (x ∷ []))) in (
-      subst (λ (m : ℕ). P m x) (ap (λ (j : ℕ). get_or (ns ++ n ∷ []) j 0) (sym same) ∙ here ns n 0)
-          (subst (λ (y : T). P (get_or (ns ++ n ∷ []) (length xs) 0) y) (here xs x x) last),
-      (
-        same,
-        λ k d l. subst (λ (m : ℕ). P m (get_or xs k d)) (front ns n k 0 (omega arith))
-            (subst (λ (y : T). P (get_or (ns ++ n ∷ []) k 0) y) (front xs x k d l) (q.1 k d (omega (arith, length-append xs (x ∷ []))))),
-      ),
-    )
+-- answers that were taken out of their places are answers for their numbers
+pub all_unwrapped : {T : Type 0} (P : ℕ → T → Type 0) (slots : List (Option T)) (xs : List T) → map (λ (x : T). Some x) xs ≡ slots → Placed P slots → AllAnswered P xs
+all_unwrapped {T} P slots xs is placed k d l = unwrapped P slots xs is placed k d (let n = sym (length-map xs (λ (x : T). Some x)) ∙ ap (λ (s : List (Option T)). length s) is in omega (arith, n, l))
 
--- answers to the numbers below the count, in order, are all answers
-pub whole_in_order : {T : Type 0} (P : ℕ → T → Type 0) (count : ℕ) (ns : List ℕ) (xs : List T) → InOrder count ns → Paired P ns xs → (length xs ≡ count) × AllAnswered P xs
-whole_in_order {T} P count ns xs order h = (
-  sym h.0 ∙ order.0,
-  λ k d l. subst (λ (m : ℕ). P m (get_or xs k d)) (order.1 k (let e = h.0 in let o = order.0 in omega arith)) (h.1 k d l),
-)
+pub if_ok : {A E : Type 0} (P Q : A → Type 0) (r : Result A E) → ((x : A) → P x → Q x) → IfOk r P → IfOk r Q
+if_ok P Q (Ok x) f h = f x h
+if_ok P Q (Err e) f h = tt
+
+-- a state that no post changes stays
+still : {S E : Type 0} (s : S) (posts : List E) → followed (λ t e. t) s posts ≡ s
+still s [] = refl
+still s (e ∷ es) = still s es
+
+-- an answer after some posts, where no post changes what judges, is one of what judges
+pub given_by : {B E T : Type 0} (gives : B → ℕ → T → Type 0) (by : B) (n : ℕ) (x : T) → IsAnswered {E = E} (λ b e. b) (λ b k y. IfSome y (λ a. gives b k a)) (Some by) n (Some x) → gives by n x
+given_by gives by n x h = subst (λ b. gives b n x) (still by h.0) (h.1 by refl)

@@ -1,9 +1,9 @@
 -- Examples of the definitions, on small lists.
-use Rattle.std.specs.Prelude.{◌≡◌, ℕ, [], ◌∷◌, true, false, Some, None, refl}
+use Rattle.std.specs.Prelude.{◌≡◌, ℕ, ◌+◌, List, [], ◌∷◌, true, false, Some, None, refl}
 use Rattle.fab_board.specs.Counts.{times, once_below}
 use Rattle.fab_board.specs.Views.{BoardName, all_numbers}
 use Rattle.logbook.specs.Pages.{Book}
-use Rattle.fab_board.specs.Judged.{filled, numbers}
+use Rattle.fab_board.specs.Follows.{followed}
 use Rattle.fab_board.specs.Posts.{IsKept, head_of, latest}
 
 pub twice_in_three : times 2 (2 ∷ 3 ∷ 2 ∷ []) ≡ 2
@@ -19,16 +19,6 @@ not_below_three = refl
 pub two_seats : (b : BoardName) → all_numbers (record { board = b; list = 0 ∷ 2 ∷ []; told = true } ∷ record { board = b; list = 1 ∷ []; told = false } ∷ []) ≡ 0 ∷ 2 ∷ 1 ∷ []
 two_seats b = refl
 
--- the answers 7 for number 1 and 5 for number 0, whichever came first
-pub two_answers : filled {T = ℕ} (None ∷ None ∷ []) ((1, 7) ∷ (0, 5) ∷ []) ≡ Some 5 ∷ Some 7 ∷ []
-two_answers = refl
-
-pub two_answers_swapped : filled {T = ℕ} (None ∷ None ∷ []) ((0, 5) ∷ (1, 7) ∷ []) ≡ Some 5 ∷ Some 7 ∷ []
-two_answers_swapped = refl
-
-pub their_numbers : numbers {T = ℕ} ((1, 7) ∷ (0, 5) ∷ []) ≡ 1 ∷ 0 ∷ []
-their_numbers = refl
-
 -- the last of two that were posted
 pub last_of_two : latest {E = ℕ} (3 ∷ 8 ∷ []) ≡ Some 8
 last_of_two = refl
@@ -40,6 +30,14 @@ last_of_none = refl
 pub first_word : (b : Book) → (head_of b).key ≡ 0
 first_word b = refl
 
--- two jobs were posted, so the word is 2
+-- two posts were entered, so the word is 2
 pub two_posted : IsKept {E = ℕ} ((2, true) ∷ (0, true) ∷ []) (3 ∷ 8 ∷ [])
 two_posted = refl
+
+-- a state that adds up what is posted, from 1 on
+pub a_sum_that_follows : followed {S = ℕ} {E = ℕ} (λ s e. s + e) 1 (3 ∷ 8 ∷ []) ≡ 12
+a_sum_that_follows = refl
+
+-- a state that keeps the posts, the last one first: they are followed in their order
+pub followed_in_order : followed {S = List ℕ} {E = ℕ} (λ s e. e ∷ s) [] (3 ∷ 8 ∷ []) ≡ 8 ∷ 3 ∷ []
+followed_in_order = refl

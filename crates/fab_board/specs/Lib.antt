@@ -4,3 +4,4 @@ pub mod Dealt
 pub mod Judged
 pub mod Examples
 pub mod Posts
+pub mod Follows

@@ -75,6 +75,13 @@ impl Board {
         Ok((board, all))
     }
 
+    /// How many seats it was made with.
+    pub(crate) fn seats(&self) -> u64
+        ensures { result ≡ self.now.seats }
+    {
+        self.seats
+    }
+
     /// Claims the least number that no seat has claimed; `None` once all are claimed. It takes one atomic step and never waits. A seat
     /// that was told `None` takes no further step.
     pub fn claim(&self, seat: &mut ClaimSeat) -> Option<u64>

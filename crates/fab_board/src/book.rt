@@ -1,6 +1,6 @@
 //! The list of everything that was posted, which only grows, and prefixes of it that threads carry. No thread keeps the list itself.
-ghost use Rattle.std.specs.Prelude.{◌≡◌, ◌+◌, ◌<◌, ◌^◌, ◌++◌, ◌∷◌, [], length, true, MatchBool};
-ghost use Rattle.fab_board.specs.Posts.{head_of};
+ghost use Rattle.std.specs.Prelude.{◌≡◌, ◌+◌, ◌<◌, ◌^◌, ◌++◌, ◌∷◌, [], length, true, Some, MatchBool};
+ghost use Rattle.fab_board.specs.Posts.{head_of, latest};
 
 use logbook::{Gain, Offer, Plain, Play, Rule, Seen, Start, Word};
 use std::marker::{Brand, Model, PhantomData};
@@ -139,6 +139,12 @@ impl<E, J: Naming> Model for Front<E, J> {
     ghost invariant = { λ f. (f.count ≡ length f.seen.log) × (f.seen.book ≡ J.book) };
 }
 
+fn is_one_more(x: u64, y: u64) -> bool
+    ensures { result ≡ true → y ≡ x + 1 }
+{
+    x < y && y - x == 1
+}
+
 impl<E, J: Naming> Front<E, J> {
     /// A copy.
     pub fn again(&self) -> Front<E, J>
@@ -159,6 +165,22 @@ impl<E, J: Naming> Front<E, J> {
         let mut both = self.seen.again();
         both.learn(&other.seen);
         self.count == other.count
+    }
+
+    /// How many entries there are.
+    pub fn len(&self) -> u64
+        ensures { result ≡ length self.now }
+    {
+        self.count
+    }
+
+    /// Whether the other front is one entry longer. Then it is this one with that entry at its end.
+    pub fn is_next(&self, other: &Front<E, J>) -> bool
+        ensures { result ≡ true → (e : E) → latest other.now ≡ Some e → other.now ≡ self.now ++ e ∷ [] }
+    {
+        let mut both = self.seen.again();
+        both.learn(&other.seen);
+        is_one_more(self.count, other.count)
     }
 
     /// Adds an entry to all that was seen. Returns whether it did: not if the list is longer, or if it has 2^62 entries or more.

@@ -1,45 +1,158 @@
-//! A batch of numbers that threads judge with one borrowed closure.
-ghost use Rattle.std.specs.Prelude.{◌≡◌, ℕ, ◌+◌, ◌^◌, ◌<◌, ◌≤◌, [], true, length, Ok, IfOk, slice_index_or, All};
-ghost use Rattle.fab_board.specs.Judged.{numbers, Answered, IsWorked};
+//! A batch of numbers that a crew judges with one borrowed closure.
+ghost use Rattle.std.specs.Prelude.{◌≡◌, ℕ, ◌+◌, ◌-◌, ◌^◌, ◌<◌, ◌≤◌, [], All, true, length, Ok, Some, None, IfOk, IfSome, OnOk, slice_index_or};
+ghost use Rattle.std.specs.Fn.{CalledAtMut};
+ghost use Rattle.std.specs.Thread.{IsSync};
+ghost use Rattle.fab_board.specs.Follows.{IsAnswered};
+ghost use Rattle.fab_board.specs.Judged.{AllAnswered};
 
 use crate::board::{Board, ClaimSeat};
+use crate::book::{Naming, Opened};
+use crate::claimer::Boarding;
+use crate::follow::{Follow, Origin, Sheet};
+use crate::follow_crew::{beside, close_board};
+use crate::follow_lead::{Lead, new_crew};
 use crate::gate::Gate;
-use crate::slots::{fill, unwrap_all, vacant};
+use crate::plan::Plan;
+use crate::slots::{unwrap_all, vacant};
 use std::alloc::{AllocError, Global};
-use std::sync::Wait;
-use std::thread;
+use std::marker::{Brand, Model, PhantomData};
+use std::sync::{Mutex, Wait};
 use std::thread::Threads;
 
-// What judges a number, and the gate around it.
+/// What is posted to the crew of a batch: numbers to judge.
 #[derive(Clone, Copy)]
-struct Gated<'r, G, F> {
+pub struct Ask {
+    first: u64,
+    count: u64,
+}
+
+/// A judgement of numbers, which threads make at the same time.
+pub trait Judging: Drop {
+    type Answer;
+
+    ghost use Rattle.std.specs.Prelude.{ℕ, IfOk, ◌≡◌};
+
+    ghost may: { Self → ℕ → Type 0 };
+
+    ghost gives: { Self → ℕ → Self.Answer → Type 0 };
+
+    /// The same, for another thread.
+    fn again(&self) -> Self
+        ensures { result ≡ self.now };
+
+    /// Returns an answer for the number. An error means that memory ran out.
+    fn judge(&self, number: u64) -> Result<Self::Answer, AllocError>
+        requires { may self.now number }
+        ensures { IfOk result (λ x. gives self.now number x) };
+}
+
+/// A closure that is lent.
+#[derive(Drop)]
+pub struct Called<'r, F> {
+    by: &'r F,
+}
+
+impl<'r, T, F: Fn(u64) -> Result<T, AllocError>> Judging for Called<'r, F> {
+    type Answer = T;
+
+    ghost use Rattle.std.specs.Prelude.{Ok};
+
+    ghost may = { λ c k. F.pre c.by.now k };
+
+    ghost gives = { λ c k x. F.post c.by.now k (Ok x) };
+
+    fn again(&self) -> Called<'r, F> {
+        Called { by: self.by }
+    }
+
+    fn judge(&self, number: u64) -> Result<T, AllocError> {
+        (self.by)(number)
+    }
+}
+
+/// What a worker of a batch has: the judgement, the gate round it, and the numbers that it may be made of. Contracts see the judgement.
+#[derive(Drop)]
+pub struct Lent<'r, T, G, B: Judging<Answer = T>> {
     gate: &'r G,
-    judge: &'r F,
+    by: B,
+    first: u64,
+    count: u64,
+    of: PhantomData<Mutex<T>>,
 }
 
-// Judges a number between the gate's two calls.
-fn judged<T: Drop, G: Gate, F: Fn(u64) -> Result<T, AllocError>>(
-    by: &Gated<'_, G, F>,
-    number: u64,
-) -> Result<T, AllocError>
-    requires { F.pre by.now.judge.now number }
-    ensures { F.post by.now.judge.now number result }
-{
-    by.gate.before_judge(number);
-    let judged = (by.judge)(number);
-    by.gate.after_judge(number);
-    judged
+impl<'r, T, G, B: Judging<Answer = T>> Model for Lent<'r, T, G, B> {
+    ghost use Rattle.std.specs.Prelude.{ℕ, ◌+◌, ◌<◌};
+
+    ghost Value = { B };
+
+    ghost view = { λ l. l.by };
+
+    ghost invariant = { λ l. (k : ℕ) → k < l.count → B.may l.by (l.first + k) };
 }
 
-// A worker's seat, and its answers by number.
-type Worked<T> = (ClaimSeat, Result<Vec<(u64, T)>, AllocError>);
+impl<'r, T: Drop, G: Gate, B: Judging<Answer = T>> Follow<Ask, Option<T>> for Lent<'r, T, G, B> {
+    ghost use Rattle.std.specs.Prelude.{IfSome, ◌≡◌};
 
-/// Judges the `count` numbers from `first` on, with `workers` workers, or with `count` workers if that is less. Two or more workers are
-/// threads that claim the numbers one by one. A single worker takes them in order, in the caller's thread. A worker calls `judge` for a
-/// number between the gate's two calls, and all workers have ended when this returns. Entry j is an answer for `first + j`.
+    ghost may = { λ l e. e ≡ e };
+
+    ghost after = { λ l e. l };
+
+    ghost answer = { λ l k x. IfSome x (λ a. B.gives l k a) };
+
+    fn first(&self, post: &Ask) -> u64 {
+        post.first
+    }
+
+    fn count(&self, post: &Ask) -> u64 {
+        post.count
+    }
+
+    fn blank(&self) -> Option<T> {
+        None
+    }
+
+    fn follow(&mut self, _post: &Ask) {}
+
+    // A place without an answer is that of a number for which memory ran out. The loop stands here, since a gate that all threads share
+    // cannot be lent to a function of this thread.
+    fn judge(&mut self, first: u64, count: u64, places: &mut [Option<T>]) -> bool {
+        'places: for i in 0..count as usize {
+            let number = first + i as u64;
+            places[i] = None;
+            if number < self.first || number - self.first >= self.count {
+                continue;
+            }
+            self.gate.before_judge(number);
+            let judged = self.by.judge(number);
+            self.gate.after_judge(number);
+            places[i] = judged.ok();
+        }
+        true
+    }
+}
+
+/// What a crew is made of: a claim board with its workers' seats, a state for the owner and one for each worker, and how the numbers are
+/// shared out.
+struct Founded<S> {
+    board: Board,
+    claims: Vec<ClaimSeat>,
+    first: S,
+    others: Vec<S>,
+    units: Plan,
+}
+
+/// The owner's end of a crew, and the sheet that it reads.
+#[derive(Drop)]
+struct Desk<S: Follow<Ask, Option<T>>, T: Drop, J: Naming + Boarding + Origin<S>> {
+    lead: Lead<S, Ask, Option<T>, J>,
+    sheet: Sheet<S, Ask, Option<T>, J>,
+}
+
+/// Judges the `count` numbers from `first` on, with `workers` workers, or with `count` workers if that is less. The workers are threads, which
+/// claim the numbers; the calling thread judges what none of them has claimed. Each calls `judge` for a number between the gate's two
+/// calls, and all have ended when this returns. Entry j is an answer for `first + j`.
 ///
-/// An error means that memory ran out, in `judge` or here. If the system starts no thread for a worker, that worker runs later in the
-/// thread that tried to start it.
+/// An error means that memory ran out, in `judge` or here. A worker that the system refuses to start leaves its numbers to the others.
 pub fn judge_batch<
     T: Send + Drop,
     G: Gate,
@@ -61,101 +174,166 @@ pub fn judge_batch<
     ensures len { IfOk result (λ v. length v.items ≡ count) }
     ensures each { IfOk result (λ v. (j : ℕ) (d : T) → j < count → F.post judge.now (first + j) (Ok (slice_index_or v.items j d))) }
 {
-    let threads = workers.min(count);
-    if threads < 2 {
-        return judge_in_turn(alloc, first, count, &Gated { gate, judge });
-    }
-    let (board, seats) = Board::new(alloc, count, threads)?;
-    let mut worked = spread(rt, alloc, &board, seats, first, &Gated { gate, judge })?;
-    let mut slots = vacant(alloc, count)?;
-    let mut told = Vec::with_capacity(alloc, worked.len())?;
-    while let Some((seat, judged)) = worked.pop() {
-        let answers = judged?;
-        fill(&mut slots, answers);
-        told.push(seat)?;
-    }
-    // All seats were told `None`, so each slot is full.
-    board.close(told);
-    unwrap_all(alloc, slots)
+    judge_with(rt, alloc, first, count, workers, gate, Called { by: judge })
 }
 
-// Judges the numbers in order. No board is needed, and each answer is in its place at once.
-fn judge_in_turn<T: Drop, G: Gate, F: Fn(u64) -> Result<T, AllocError>>(
+/// Judges the `count` numbers from `first` on by a judgement, as [`judge_batch`] does by a closure.
+fn judge_with<T: Send + Drop, G: Gate, B: Judging<Answer = T> + Send, R: Threads + Wait + Sync>(
+    rt: &R,
     alloc: Global,
     first: u64,
     count: u64,
-    by: &Gated<'_, G, F>,
+    workers: u64,
+    gate: &G,
+    by: B,
 ) -> Result<Vec<T>, AllocError>
-    requires room { first + count < 2 ^ 64 }
-    requires calls { (k : ℕ) → k < count → F.pre by.now.judge.now (first + k) }
+    requires first { first ≤ 2 ^ 62 }
+    requires count { count ≤ 4096 }
+    requires workers { (0 < workers) × (workers ≤ 64) }
+    requires calls { (k : ℕ) → k < count → B.may by (first + k) }
     ensures len { IfOk result (λ v. length v.items ≡ count) }
-    ensures each { IfOk result (λ v. (j : ℕ) (d : T) → j < count → F.post by.now.judge.now (first + j) (Ok (slice_index_or v.items j d))) }
+    ensures each { IfOk result (λ v. AllAnswered (λ k x. B.gives by (first + k) x) v.items) }
 {
-    let mut answers = Vec::with_capacity(alloc, count as usize)?;
-    for place in 0..count {
-        answers.push(judged(by, first + place)?)?;
+    if count == 0 {
+        return Ok(Vec::new(alloc));
     }
-    Ok(answers)
+    let founded = found(alloc, first, count, workers.min(count), gate, by)?;
+    judged_by::<Lent<'_, T, G, B>, T, Brand, R>(rt, alloc, Opened::new(), founded, first, count)
 }
 
-// Starts a thread for each seat, which borrows the closure. The threads of a batch start only here.
-fn spread<
-    T: Send + Drop,
-    G: Gate,
-    F: Fn(u64) -> Result<T, AllocError> + Sync,
+/// What a crew of so many workers is made of, which judges these numbers.
+fn found<'r, T, G: Gate, B: Judging<Answer = T>>(
+    alloc: Global,
+    first: u64,
+    count: u64,
+    workers: u64,
+    gate: &'r G,
+    by: B,
+) -> Result<Founded<Lent<'r, T, G, B>>, AllocError>
+    requires workers { (0 < workers) × (workers ≤ 64) }
+    requires calls { (k : ℕ) → k < count → B.may by (first + k) }
+    ensures claims { IfOk result (λ f. All (λ s. s.board ≡ f.board.name) f.claims.items) }
+    ensures first { IfOk result (λ f. f.first ≡ by) }
+    ensures others { IfOk result (λ f. All (λ s. s ≡ by) f.others.items) }
+    ensures many { IfOk result (λ f. (length f.claims.items ≡ workers) × (length f.others.items ≡ workers)) }
+{
+    let mut others = Vec::new(alloc);
+    for _worker in 0..workers {
+        others.push(lend(first, count, gate, by.again()))?;
+    }
+    let (board, claims) = Board::new(alloc, 1 << 62, workers)?;
+    // A gate may hold one judgement until another begins, so no worker takes two of them.
+    let units = if gate.does_nothing() {
+        Plan::of(count, workers)
+    } else {
+        Plan::single(count)
+    };
+    Ok(Founded {
+        board,
+        claims,
+        first: lend(first, count, gate, by),
+        others,
+        units,
+    })
+}
+
+/// The judgement, to be made of these numbers.
+fn lend<'r, T, G: Gate, B: Judging<Answer = T>>(
+    first: u64,
+    count: u64,
+    gate: &'r G,
+    by: B,
+) -> Lent<'r, T, G, B>
+    requires calls { (k : ℕ) → k < count → B.may by (first + k) }
+    ensures { result ≡ by }
+{
+    Lent {
+        gate,
+        by,
+        first,
+        count,
+        of: PhantomData,
+    }
+}
+
+/// Judges so many numbers with a crew of this name.
+fn judged_by<
+    S: Follow<Ask, Option<T>> + Send,
+    T: Drop + Send,
+    J: Naming + Boarding + Origin<S> + Send + Sync,
     R: Threads + Wait + Sync,
 >(
     rt: &R,
     alloc: Global,
-    board: &Board,
-    seats: Vec<ClaimSeat>,
+    opened: Opened<Ask>,
+    founded: Founded<S>,
     first: u64,
-    by: &Gated<'_, G, F>,
-) -> Result<Vec<Worked<T>>, AllocError>
-    requires seats { All (λ s. (s.board ≡ board.now.name) × (s.list ≡ [])) seats.items }
-    requires room { first + board.now.name.count < 2 ^ 64 }
-    requires calls { (k : ℕ) → k < board.now.name.count → F.pre by.now.judge.now (first + k) }
-    ensures len { IfOk result (λ v. length v.items ≡ length seats.items) }
-    ensures each { IfOk result (λ v. All (λ w. IsWorked board.now.name (λ k x. F.post by.now.judge.now (first + k) (Ok x)) w.0 w.1) v.items) }
+    count: u64,
+) -> Result<Vec<T>, AllocError>
+    requires book { opened ≡ J.book }
+    requires board { founded.board.name ≡ J.board }
+    requires claims { All (λ s. s.board ≡ J.board) founded.claims.items }
+    requires start { J.start ≡ Some founded.first }
+    requires starts { All (λ s. J.start ≡ Some s) founded.others.items }
+    requires many { length founded.claims.items ≡ length founded.others.items }
+    requires may { (s : S) (e : Ask) → S.may s e }
+    requires room { first + count < 2 ^ 64 }
+    ensures len { IfOk result (λ v. length v.items ≡ count) }
+    ensures each { IfOk result (λ v. AllAnswered (λ k x. IsAnswered S.after S.answer J.start (first + k) (Some x)) v.items) }
 {
-    // A thread's closure cannot capture a struct that borrows, so it captures the fields.
-    let gate = by.gate;
-    let judge = by.judge;
-    let worker = |seat: ClaimSeat| -> Worked<T>
-        requires { (seat.board ≡ board.now.name) × (seat.list ≡ []) × (first + board.now.name.count < 2 ^ 64) × ((k : ℕ) → k < board.now.name.count → F.pre judge.now (first + k)) }
-        ensures { IsWorked board.entry.now.name (λ k x. F.post judge.entry.now (first + k) (Ok x)) result.0 result.1 }
-    { work(rt, alloc, board, seat, first, &Gated { gate, judge }) };
-    thread::map_vec(rt, seats, &worker)
+    let Founded {
+        board,
+        claims,
+        first: state,
+        others,
+        units,
+    } = founded;
+    let (crew, lead) = new_crew::<S, Ask, Option<T>, J>(
+        alloc, opened, board, claims, state, others, units,
+    )?;
+    let sheet = lead.sheet(alloc)?;
+    let mut desk = Desk { lead, sheet };
+    let answers = beside(
+        rt,
+        &crew,
+        &mut desk,
+        &mut |d: &mut Desk<S, T, J>| -> Result<Vec<T>, AllocError>
+            requires { IsSync R.row × ((s : S) (e : Ask) → S.may s e) × (first + count < 2 ^ 64) }
+            ensures len { IfOk result (λ v. length v.items ≡ count) }
+            ensures each { IfOk result (λ v. AllAnswered (λ k x. IsAnswered S.after S.answer J.start (first + k) (Some x)) v.items) }
+        { collect(rt, alloc, d, first, count) },
+    );
+    drop(desk);
+    close_board(crew);
+    answers
 }
 
-// Claims numbers and judges them, until none is left or memory runs out.
-fn work<R: Wait, T: Drop, G: Gate, F: Fn(u64) -> Result<T, AllocError>>(
+/// Has the crew judge so many numbers, and gathers the answers. The last numbers are taken first, so that the owner, who judges what nobody
+/// has taken, comes towards the workers.
+fn collect<S: Follow<Ask, Option<T>>, T: Drop, J: Naming + Boarding + Origin<S>, R: Wait>(
     rt: &R,
     alloc: Global,
-    board: &Board,
-    mut seat: ClaimSeat,
+    desk: &mut Desk<S, T, J>,
     first: u64,
-    by: &Gated<'_, G, F>,
-) -> Worked<T>
-    requires seat { (seat.board ≡ board.now.name) × (seat.list ≡ []) }
-    requires room { first + board.now.name.count < 2 ^ 64 }
-    requires calls { (k : ℕ) → k < board.now.name.count → F.pre by.now.judge.now (first + k) }
-    ensures board { result.0.board ≡ board.now.name }
-    ensures numbers { IfOk result.1 (λ v. numbers v.items ≡ result.0.list) }
-    ensures told { IfOk result.1 (λ v. result.0.told ≡ true) }
-    ensures answers { IfOk result.1 (λ v. Answered (λ k x. (k < board.now.name.count) × F.post by.now.judge.now (first + k) (Ok x)) v.items) }
+    count: u64,
+) -> Result<Vec<T>, AllocError>
+    requires may { (s : S) (e : Ask) → S.may s e }
+    requires room { first + count < 2 ^ 64 }
+    ensures len { IfOk result (λ v. length v.items ≡ count) }
+    ensures each { IfOk result (λ v. AllAnswered (λ k x. IsAnswered S.after S.answer J.start (first + k) (Some x)) v.items) }
 {
-    let mut answers = Vec::new(alloc);
-    for _turn in rt.forever() {
-        let Some(number) = board.claim(&mut seat) else {
-            break;
-        };
-        let Ok(answer) = judged(by, first + number) else {
-            return (seat, Err(AllocError));
-        };
-        if answers.push((number, answer)).is_err() {
-            return (seat, Err(AllocError));
+    let mut slots = vacant(alloc, count)?;
+    // What one post asks for is due once the next one is posted.
+    let _ = desk.lead.post(rt, Ask { first, count });
+    let _ = desk.lead.post(rt, Ask { first, count: 0 });
+    let mut place = count;
+    while place > 0 {
+        place -= 1;
+        let number = first + place;
+        desk.lead.seek(rt, number, &mut desk.sheet);
+        if let Some(answer) = desk.lead.take(number, &mut desk.sheet, None) {
+            slots[place as usize] = answer;
         }
     }
-    (seat, Ok(answers))
+    unwrap_all(alloc, slots)
 }

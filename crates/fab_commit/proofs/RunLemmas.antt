@@ -5,7 +5,6 @@ pub mod Turned
 pub mod Beginning
 pub mod ByTurns
 pub mod ByChains
-pub mod CatchingUp
 pub mod Committing
 pub mod Folding
 pub mod Noting
@@ -20,3 +19,5 @@ pub mod Alone
 pub mod Counting
 pub mod Parts
 pub mod Ended
+pub mod Followed
+pub mod Foreseeing

@@ -1,5 +1,8 @@
 -- What contracts say of the annealer that a run executes (our own).
+pub mod Behind
 pub mod Commits
+pub mod Followed
+pub mod Foreseen
 pub mod Noted
 pub mod Owners
 pub mod Pipelines
@@ -7,7 +10,6 @@ pub mod Points
 pub mod Readings
 pub mod Since
 pub mod StampTables
-pub mod Workers
 pub mod Turned
 pub mod ByTurns
 pub mod Alone

@@ -1,443 +1,710 @@
-ghost use Rattle.std.specs.Prelude.{◌≡◌, ◌+◌, ◌%◌, ◌^◌};
+// Crews as the calls of a run found them: each worker judges, whoever sleeps is woken, and each move is judged once and committed in turn. A
+// gate holds what must not come first for at most ten seconds, and a test that hangs fails with its time.
 
+use crate::beside_tests::{STAGE, Silent, Together, WORKERS, random, random_net};
+use crate::end_tests::{Maker, ended, random_end};
 use crate::in_time::in_time;
-use crate::{beside, found_crew};
-use fab_board::{Lead, Naming, Opened, Task, new_crew, work_all};
+use crate::tests::{Pace, annealer, read_setting};
+use crate::world_tests::ARCH;
+use fab_board::{Gate, NoGate};
+use fab_move::StreamWords;
+use fab_sched::Schedule;
+use fab_site::{ListWords, Words};
 use std::alloc::{AllocError, Global};
-use std::marker::Brand;
+use std::process::Termination;
 use std::sync::Wait;
 use std::sync::atomic::{AtomicU64, Ordering};
 use std::test::*;
 use std::thread;
 use std::thread::Threads;
-use std::time::Duration;
+use std::time::{CpuClock, Duration};
 
-// Adds `plus` to each number, and counts the judgements. The first `refusals` judgements run out of memory.
+// Follows the calls for each move: 0 before them, and one more with each. They are right if those for a move come before its judgement, after
+// it, and before its commit, each once, and if moves are committed in order of number.
 #[derive(Drop)]
-struct Sums<'a> {
-    plus: u64,
-    count: u64,
-    refusals: u64,
-    judged: &'a AtomicU64,
+struct Calls {
+    steps: Vec<AtomicU64>,
+    commits: AtomicU64,
+    wrong: AtomicU64,
 }
 
-impl Task<u64> for Sums<'_> {
-    ghost count = { λ s. s.count };
-
-    ghost answer = { λ s k x. x ≡ (s.plus + k) % 2 ^ 64 };
-
-    fn count(&self) -> u64 {
-        self.count
-    }
-
-    fn judge(&self, number: u64) -> Result<u64, AllocError> {
-        if self.judged.fetch_add(1, Ordering::SeqCst) < self.refusals {
-            return Err(AllocError);
+impl Calls {
+    // No call is made yet for these moves.
+    fn of(alloc: Global, moves: u64) -> Result<Calls, AllocError> {
+        let mut steps = Vec::new(alloc);
+        for _move in 0..moves {
+            steps.push(AtomicU64::new(0))?;
         }
-        Ok(self.plus.wrapping_add(number))
+        Ok(Calls {
+            steps,
+            commits: AtomicU64::new(0),
+            wrong: AtomicU64::new(0),
+        })
     }
-}
 
-// A crew's owner. Returns what it collected, in turn.
-trait Owner: Sync {
-    fn turns<'a, J: Naming, R: Wait>(
-        &self,
-        rt: &R,
-        alloc: Global,
-        judged: &'a AtomicU64,
-        lead: Lead<Sums<'a>, u64, J>,
-    ) -> Result<Vec<Vec<u64>>, AllocError>;
-}
-
-fn owned_as<'a, J: Naming + Send + Sync, O: Owner, R: Threads + Wait + Sync>(
-    rt: &R,
-    alloc: Global,
-    opened: Opened<Sums<'a>>,
-    judged: &'a AtomicU64,
-    workers: u64,
-    owner: &O,
-) -> Result<Vec<Vec<u64>>, AllocError>
-    requires { opened ≡ J.book }
-{
-    let (crew, lead) = new_crew::<Sums<'a>, u64, J>(alloc, opened, workers)?;
-    thread::scope(thread::scope_env(), rt, move |scope| {
-        let _ = scope.spawn(move || work_all(rt, &crew, workers));
-        owner.turns(rt, alloc, judged, lead)
-    })
-}
-
-// What the owner collects from a crew of `workers` workers, whose judgements are counted.
-fn owned<O: Owner, R: Threads + Wait + Sync>(
-    rt: &R,
-    alloc: Global,
-    judged: &AtomicU64,
-    workers: u64,
-    owner: &O,
-) -> Result<Vec<Vec<u64>>, AllocError> {
-    owned_as::<Brand, O, R>(rt, alloc, Opened::new(), judged, workers, owner)
-}
-
-// Three jobs, one after another: a large one, a small one and one without numbers.
-#[derive(Drop)]
-struct Three;
-
-impl Owner for Three {
-    fn turns<'a, J: Naming, R: Wait>(
-        &self,
-        rt: &R,
-        alloc: Global,
-        judged: &'a AtomicU64,
-        mut lead: Lead<Sums<'a>, u64, J>,
-    ) -> Result<Vec<Vec<u64>>, AllocError> {
-        let mut turns = Vec::new(alloc);
-        for (plus, count) in [(7, 1000), (50, 3), (9, 0)] {
-            let job = Sums {
-                plus,
-                count,
-                refusals: 0,
-                judged,
-            };
-            lead.post(rt, job)?;
-            turns.push(lead.collect(rt)?)?;
-        }
-        Ok(turns)
-    }
-}
-
-#[test]
-fn three_jobs_one_after_another(rt: HostRuntime) -> Result<(), Fail> {
-    in_time(
-        &rt,
-        &mut || -> Result<(), Fail> {
-            for workers in [0, 1, 2] {
-                let judged = AtomicU64::new(0);
-                let turns = owned(&rt, rt.alloc(), &judged, workers, &Three)?;
-                // Each number once.
-                assert_eq!(rt; judged.load(Ordering::SeqCst), 1003);
-                assert_eq!(rt; turns.len(), 3);
-                assert_eq!(rt; turns[0].len(), 1000);
-                for (sum, expected) in turns[0].iter().zip(7..1007u64) {
-                    assert_eq!(rt; *sum, expected, "of {workers} workers");
-                }
-                assert_eq!(rt; turns[1].as_slice(), [50, 51, 52].as_slice());
-                assert_eq!(rt; turns[2].len(), 0);
-            }
-            Ok(())
-        },
-    )
-}
-
-// Posts a second job while the first is out, and collects twice.
-#[derive(Drop)]
-struct Hasty;
-
-impl Owner for Hasty {
-    fn turns<'a, J: Naming, R: Wait>(
-        &self,
-        rt: &R,
-        alloc: Global,
-        judged: &'a AtomicU64,
-        mut lead: Lead<Sums<'a>, u64, J>,
-    ) -> Result<Vec<Vec<u64>>, AllocError> {
-        for (plus, count) in [(5, 2000), (100, 4)] {
-            let job = Sums {
-                plus,
-                count,
-                refusals: 0,
-                judged,
-            };
-            lead.post(rt, job)?;
-        }
-        let mut turns = Vec::new(alloc);
-        turns.push(lead.collect(rt)?)?;
-        turns.push(lead.collect(rt)?)?;
-        Ok(turns)
-    }
-}
-
-#[test]
-fn a_second_job_takes_the_place_of_the_first(rt: HostRuntime) -> Result<(), Fail> {
-    in_time(
-        &rt,
-        &mut || -> Result<(), Fail> {
-            let judged = AtomicU64::new(0);
-            let turns = owned(&rt, rt.alloc(), &judged, 2, &Hasty)?;
-            assert_eq!(rt; turns.len(), 2);
-            assert_eq!(rt; turns[0].as_slice(), [100, 101, 102, 103].as_slice());
-            assert_eq!(rt; turns[1].len(), 0);
-            Ok(())
-        },
-    )
-}
-
-// Posts a job, and collects it once a number of it was judged. Gives up after ten seconds.
-#[derive(Drop)]
-struct Waits<'b> {
-    clock: &'b HostRuntime,
-}
-
-impl Owner for Waits<'_> {
-    fn turns<'a, J: Naming, R: Wait>(
-        &self,
-        rt: &R,
-        alloc: Global,
-        judged: &'a AtomicU64,
-        mut lead: Lead<Sums<'a>, u64, J>,
-    ) -> Result<Vec<Vec<u64>>, AllocError> {
-        let job = Sums {
-            plus: 20,
-            count: 2,
-            refusals: 0,
-            judged,
+    // Notes a call, before which so many have to be made for the move.
+    fn note(&self, k: u64, before: u64) {
+        let is_next = match self.steps.get(k as usize) {
+            Some(step) => step.fetch_add(1, Ordering::SeqCst) == before,
+            None => false,
         };
-        lead.post(rt, job)?;
-        let mut turns = Vec::new(alloc);
-        for _turn in 0..10000u64 {
-            if judged.load(Ordering::SeqCst) > 0 {
-                turns.push(lead.collect(rt)?)?;
-                break;
-            }
-            thread::sleep(self.clock, Duration::from_millis(1));
+        if !is_next {
+            self.wrong.fetch_add(1, Ordering::SeqCst);
         }
-        Ok(turns)
     }
 }
 
+impl Gate for Calls {
+    fn before_judge(&self, k: u64) {
+        self.note(k, 0);
+    }
+
+    fn after_judge(&self, k: u64) {
+        self.note(k, 1);
+    }
+
+    fn before_commit(&self, k: u64) {
+        self.note(k, 2);
+        if self.commits.fetch_add(1, Ordering::SeqCst) != k {
+            self.wrong.fetch_add(1, Ordering::SeqCst);
+        }
+    }
+}
+
+// How many moves the random design's run has: those of three stages and the frozen one.
+const MOVES: u64 = 4 * STAGE;
+
+// How many moves are committed in a run of the random design, and how many calls of its gate are wrong.
+fn called<R: Threads + Wait + Sync>(
+    rt: &R,
+    alloc: Global,
+    maker: Maker,
+    pace: Pace,
+) -> Result<(u64, u64), Fail> {
+    let calls = Calls::of(alloc, MOVES)?;
+    let _end = random_end(rt, alloc, 5, maker, pace, &calls)?;
+    Ok((
+        calls.commits.load(Ordering::SeqCst),
+        calls.wrong.load(Ordering::SeqCst),
+    ))
+}
+
 #[test]
-fn a_worker_judges_while_the_owner_does_something_else(rt: HostRuntime) -> Result<(), Fail> {
+fn each_move_is_judged_once_and_committed_in_turn(rt: HostRuntime) -> Result<(), Fail> {
     in_time(
         &rt,
         &mut || -> Result<(), Fail> {
-            let judged = AtomicU64::new(0);
-            let turns = owned(&rt, rt.alloc(), &judged, 1, &Waits { clock: &rt })?;
-            assert_eq!(rt; judged.load(Ordering::SeqCst), 2);
-            assert_eq!(rt; turns.len(), 1);
-            assert_eq!(rt; turns[0].as_slice(), [20, 21].as_slice());
+            for (batch, workers) in [
+                (1, 1),
+                (1, 7),
+                (3, 3),
+                (3, 64),
+                (16, 2),
+                (64, 64),
+                (4096, 3),
+            ] {
+                let pace = Pace { batch, workers };
+                let calls = called(&rt, rt.alloc(), Maker::Stages, pace)?;
+                assert_eq!(rt; calls, (MOVES, 0), "{batch} by {workers} workers");
+            }
             Ok(())
         },
     )
 }
 
-// Posts a job whose first judgements run out of memory, and after it one without such judgements.
-#[derive(Drop)]
-struct Refused {
-    refusals: u64,
+#[test]
+fn each_move_of_turns_is_judged_once_and_committed_in_turn(rt: HostRuntime) -> Result<(), Fail> {
+    in_time(
+        &rt,
+        &mut || -> Result<(), Fail> {
+            for (batch, workers) in [(3, 1), (16, 2), (64, 7), (130, 64)] {
+                let pace = Pace { batch, workers };
+                let calls = called(&rt, rt.alloc(), Maker::Turns, pace)?;
+                assert_eq!(rt; calls, (MOVES, 0), "{batch} by {workers} workers");
+            }
+            Ok(())
+        },
+    )
 }
 
-impl Owner for Refused {
-    fn turns<'a, J: Naming, R: Wait>(
-        &self,
-        rt: &R,
+// Words that count how often those of moves are asked for.
+#[derive(Drop)]
+struct AskedWords<'a> {
+    words: StreamWords,
+    asked: &'a AtomicU64,
+}
+
+impl<'a> Words for AskedWords<'a> {
+    ghost use Rattle.fab_move.specs.Stream.{stream_moves, stream_starts};
+
+    ghost moves = { λ w. stream_moves w.words };
+
+    ghost starts = { λ w. stream_starts w.words };
+
+    fn move_words(&self, k: u64) -> [u32; 4] {
+        self.asked.fetch_add(1, Ordering::SeqCst);
+        self.words.move_words(k)
+    }
+
+    fn start_word(&self, i: u32) -> u32 {
+        self.words.start_word(i)
+    }
+}
+
+// How often the words of moves are asked for in a run, and how many moves are made in it, with those that are judged again.
+fn asked<G: Gate, R: Threads + Wait + Sync>(
+    rt: &R,
+    alloc: Global,
+    maker: Maker,
+    pace: Pace,
+    gate: &G,
+) -> Result<(u64, u64), Fail> {
+    let asked = AtomicU64::new(0);
+    let words = AskedWords {
+        words: StreamWords::new(11),
+        asked: &asked,
+    };
+    let net = random_net(alloc, 5)?;
+    let of = read_setting(alloc, ARCH, net.as_bytes())?;
+    let mut anneal = random(alloc, &of, words)?;
+    let _end = ended(rt, alloc, &mut anneal, maker, pace, gate)?;
+    let judged = anneal.done().saturating_add(anneal.redone());
+    Ok((asked.load(Ordering::SeqCst), judged))
+}
+
+// No answer is lost and made again, also where a worker judges some moves in a row.
+#[test]
+fn words_are_asked_for_once_for_each_judgement(rt: HostRuntime) -> Result<(), Fail> {
+    in_time(
+        &rt,
+        &mut || -> Result<(), Fail> {
+            for (batch, workers) in [(3, 2), (16, 3), (64, 7)] {
+                let pace = Pace { batch, workers };
+                for maker in [Maker::Stages, Maker::Turns] {
+                    let (times, judged) = asked(&rt, rt.alloc(), maker, pace, &NoGate)?;
+                    assert_eq!(rt; times, judged, "{maker:?} of {batch} by {workers} workers");
+                    let (times, judged) = asked(&rt, rt.alloc(), maker, pace, &Silent)?;
+                    assert_eq!(rt; times, judged, "{maker:?} of {batch} by {workers} workers");
+                }
+            }
+            Ok(())
+        },
+    )
+}
+
+// Waits until the count is so high, for at most ten seconds; then the test has failed, and nothing is waited for any more.
+pub(crate) fn hold(rt: &HostRuntime, count: &AtomicU64, wanted: u64, failed: &AtomicU64) {
+    for _turn in 0..10_000u64 {
+        if count.load(Ordering::SeqCst) >= wanted || failed.load(Ordering::SeqCst) != 0 {
+            return;
+        }
+        thread::sleep(rt, Duration::from_millis(1));
+    }
+    failed.store(1, Ordering::SeqCst);
+}
+
+// Stages of the random design have thirteen batches of so many moves.
+const BATCH: u64 = 10;
+
+// Holds the first commit of each batch until a judgement of the batch after it has begun, if that is of the same stage.
+#[derive(Drop)]
+struct Ahead<'a> {
+    rt: &'a HostRuntime,
+    batch: u64,
+    stage: u64,
+    // For each batch of the run, how many judgements have begun.
+    begun: Vec<AtomicU64>,
+    failed: AtomicU64,
+}
+
+impl<'a> Ahead<'a> {
+    // Nothing has begun yet in a run of so many moves.
+    fn of(
         alloc: Global,
-        judged: &'a AtomicU64,
-        mut lead: Lead<Sums<'a>, u64, J>,
-    ) -> Result<Vec<Vec<u64>>, AllocError> {
-        let mut turns = Vec::new(alloc);
-        for (plus, refusals) in [(30, self.refusals), (60, 0)] {
-            let job = Sums {
-                plus,
-                count: 3,
-                refusals,
-                judged,
-            };
-            lead.post(rt, job)?;
-            turns.push(lead.collect(rt).unwrap_or(Vec::new(alloc)))?;
+        rt: &'a HostRuntime,
+        batch: u64,
+        stage: u64,
+        moves: u64,
+    ) -> Result<Ahead<'a>, AllocError> {
+        let mut begun = Vec::new(alloc);
+        for _batch in 0..moves / batch.max(1) {
+            begun.push(AtomicU64::new(0))?;
         }
-        Ok(turns)
+        Ok(Ahead {
+            rt,
+            batch,
+            stage,
+            begun,
+            failed: AtomicU64::new(0),
+        })
+    }
+
+    // How many judgements of this move's batch have begun.
+    fn begun(&self, k: u64) -> Option<&AtomicU64> {
+        self.begun.get((k / self.batch.max(1)) as usize)
     }
 }
 
+impl Gate for Ahead<'_> {
+    fn before_judge(&self, k: u64) {
+        if let Some(begun) = self.begun(k) {
+            begun.fetch_add(1, Ordering::SeqCst);
+        }
+    }
+
+    fn after_judge(&self, _k: u64) {}
+
+    fn before_commit(&self, k: u64) {
+        let next = k.saturating_add(self.batch);
+        if k % self.batch.max(1) != 0 || next % self.stage.max(1) == 0 {
+            return;
+        }
+        if let Some(begun) = self.begun(next) {
+            hold(self.rt, begun, 1, &self.failed);
+        }
+    }
+}
+
+// So the judgements are posted before the commits, and one worker is one beside the owner.
 #[test]
-fn what_a_thread_had_no_memory_for_is_judged_again(rt: HostRuntime) -> Result<(), Fail> {
+fn workers_judge_a_batch_while_the_one_before_is_committed(rt: HostRuntime) -> Result<(), Fail> {
     in_time(
         &rt,
         &mut || -> Result<(), Fail> {
-            for workers in [0, 2] {
-                let judged = AtomicU64::new(0);
-                let turns = owned(&rt, rt.alloc(), &judged, workers, &Refused { refusals: 1 })?;
-                assert_eq!(rt; turns.len(), 2);
-                assert_eq!(rt;
-                    turns[0].as_slice(),
-                    [30, 31, 32].as_slice(),
-                    "of {workers} workers"
-                );
-                assert_eq!(rt;
-                    turns[1].as_slice(),
-                    [60, 61, 62].as_slice(),
-                    "of {workers} workers"
-                );
+            for maker in [Maker::Stages, Maker::Turns] {
+                for workers in [1, 3] {
+                    let pace = Pace {
+                        batch: BATCH,
+                        workers,
+                    };
+                    let gate = Ahead::of(rt.alloc(), &rt, BATCH, STAGE, MOVES)?;
+                    let alone = random_end(&rt, rt.alloc(), 5, Maker::Alone, pace, &NoGate)?;
+                    let beside = random_end(&rt, rt.alloc(), 5, maker, pace, &gate)?;
+                    assert_eq!(rt;
+                        beside.as_str(),
+                        alone.as_str(),
+                        "{maker:?}, {workers} workers"
+                    );
+                    let failed = gate.failed.load(Ordering::SeqCst);
+                    assert_eq!(rt; failed, 0, "{maker:?}, {workers} workers");
+                }
             }
-            // Refused twice, the owner gets an error and no answers. The next job is answered as usual.
-            let judged = AtomicU64::new(0);
-            let turns = owned(&rt, rt.alloc(), &judged, 0, &Refused { refusals: 2 })?;
-            assert_eq!(rt; turns.len(), 2);
-            assert_eq!(rt; turns[0].len(), 0);
-            assert_eq!(rt; turns[1].as_slice(), [60, 61, 62].as_slice());
             Ok(())
         },
     )
 }
 
-// Long enough for a thread that looks for work to fall asleep.
-fn a_while() -> Duration {
-    Duration::from_millis(300)
-}
-
-// One number, whose judgement takes a while.
-#[derive(Drop)]
-struct Slow<'a> {
-    clock: &'a HostRuntime,
-    begun: &'a AtomicU64,
-}
-
-impl Task<u64> for Slow<'_> {
-    ghost count = { λ s. 1 };
-
-    ghost answer = { λ s k x. x ≡ k };
-
-    fn count(&self) -> u64 {
-        1
-    }
-
-    fn judge(&self, number: u64) -> Result<u64, AllocError> {
-        self.begun.fetch_add(1, Ordering::SeqCst);
-        thread::sleep(self.clock, a_while());
-        Ok(number)
-    }
-}
-
-// Posts two jobs to a crew that has fallen asleep, waits in its sleep for the answer of the worker that took the job, and sends the crew
-// home when it is asleep again. Returns how many judgements had begun before each call of `collect`.
-fn slept<'a, J: Naming, R: Wait>(
-    rt: &R,
-    alloc: Global,
-    clock: &'a HostRuntime,
-    begun: &'a AtomicU64,
-    mut lead: Lead<Slow<'a>, u64, J>,
-) -> Result<Vec<u64>, AllocError> {
-    let mut seen = Vec::new(alloc);
-    for turn in 0..2u64 {
-        thread::sleep(clock, a_while());
-        lead.post(rt, Slow { clock, begun })?;
-        for _look in 0..3000u64 {
-            if begun.load(Ordering::SeqCst) > turn {
-                break;
-            }
-            thread::sleep(clock, Duration::from_millis(1));
-        }
-        seen.push(begun.load(Ordering::SeqCst))?;
-        lead.collect(rt)?;
-    }
-    thread::sleep(clock, a_while());
-    Ok(seen)
-}
-
-fn slept_as<'a, J: Naming + Send + Sync, R: Threads + Wait + Sync>(
-    rt: &R,
-    alloc: Global,
-    opened: Opened<Slow<'a>>,
-    clock: &'a HostRuntime,
-    begun: &'a AtomicU64,
-) -> Result<Vec<u64>, AllocError>
-    requires { opened ≡ J.book }
-{
-    let (crew, lead) = new_crew::<Slow<'a>, u64, J>(alloc, opened, 2)?;
-    thread::scope(thread::scope_env(), rt, move |scope| {
-        let _ = scope.spawn(move || work_all(rt, &crew, 2));
-        slept(rt, alloc, clock, begun, lead)
-    })
-}
-
-fn slept_beside<R: Threads + Wait + Sync>(
+// Whether so many threads judge at once in a run at this pace.
+fn are_at_once<R: Threads + Wait + Sync>(
     rt: &R,
     alloc: Global,
     clock: &HostRuntime,
-    begun: &AtomicU64,
-) -> Result<Vec<u64>, AllocError> {
-    slept_as::<Brand, R>(rt, alloc, Opened::new(), clock, begun)
+    maker: Maker,
+    pace: Pace,
+    threads: u64,
+) -> Result<bool, Fail> {
+    let gate = Together {
+        rt: clock,
+        threads,
+        begun: AtomicU64::new(0),
+        failed: AtomicU64::new(0),
+    };
+    let _end = random_end(rt, alloc, 5, maker, pace, &gate)?;
+    Ok(gate.failed.load(Ordering::SeqCst) == 0)
 }
 
 #[test]
-fn a_crew_and_its_owner_are_woken(rt: HostRuntime) -> Result<(), Fail> {
+fn all_workers_of_a_turn_judge_at_once(rt: HostRuntime) -> Result<(), Fail> {
     in_time(
         &rt,
         &mut || -> Result<(), Fail> {
-            let begun = AtomicU64::new(0);
-            let seen = slept_beside(&rt, rt.alloc(), &rt, &begun)?;
-            assert_eq!(rt; seen.as_slice(), [1, 2].as_slice());
+            for workers in WORKERS {
+                let pace = Pace {
+                    batch: 128,
+                    workers,
+                };
+                // The calling thread judges too, while it waits for the first move.
+                let threads = workers.saturating_add(1);
+                assert!(rt;
+                    are_at_once(&rt, rt.alloc(), &rt, Maker::Turns, pace, threads)?,
+                    "{workers} workers"
+                );
+            }
             Ok(())
         },
     )
 }
 
-// Adds 9 to each number.
+// How many moves a small batch has.
+const FEW: u64 = 3;
+
+// The owner is held in its first commit until so many judgements of the second batch have begun, and each of these until all have: so as many
+// workers judge at once, and the owner is none of them.
 #[derive(Drop)]
-struct Nines {
-    count: u64,
+struct Each<'a> {
+    rt: &'a HostRuntime,
+    wanted: u64,
+    begun: AtomicU64,
+    failed: AtomicU64,
 }
 
-impl Task<u64> for Nines {
-    ghost count = { λ s. s.count };
-
-    ghost answer = { λ s k x. x ≡ (9 + k) % 2 ^ 64 };
-
-    fn count(&self) -> u64 {
-        self.count
+impl Gate for Each<'_> {
+    fn before_judge(&self, k: u64) {
+        if k >= FEW && k < FEW.saturating_add(self.wanted) {
+            self.begun.fetch_add(1, Ordering::SeqCst);
+            hold(self.rt, &self.begun, self.wanted, &self.failed);
+        }
     }
 
-    fn judge(&self, number: u64) -> Result<u64, AllocError> {
-        Ok(number.wrapping_add(9))
+    fn after_judge(&self, _k: u64) {}
+
+    fn before_commit(&self, k: u64) {
+        if k == 0 {
+            hold(self.rt, &self.begun, self.wanted, &self.failed);
+        }
     }
 }
 
-// What an owner collects that keeps its end of the crew until the crew has ended.
-fn kept_as<J: Naming + Send + Sync, R: Threads + Wait + Sync>(
-    rt: &R,
-    alloc: Global,
-    opened: Opened<Nines>,
-    workers: u64,
-) -> Result<Vec<Vec<u64>>, AllocError>
-    requires { opened ≡ J.book }
-{
-    let (crew, mut lead) = found_crew::<Nines, u64, J>(alloc, opened, workers)?;
-    let posted = beside(
-        rt,
-        &crew,
-        &mut lead,
-        &mut |lead: &mut Lead<Nines, u64, J>| -> Result<(), AllocError> {
-            lead.post(rt, Nines { count: 500 })
-        },
-    );
-    posted?;
-    let mut turns = Vec::new(alloc);
-    turns.push(lead.collect(rt)?)?;
-    lead.post(rt, Nines { count: 2 })?;
-    turns.push(lead.collect(rt)?)?;
-    Ok(turns)
-}
-
-fn kept<R: Threads + Wait + Sync>(
-    rt: &R,
-    alloc: Global,
-    workers: u64,
-) -> Result<Vec<Vec<u64>>, AllocError> {
-    kept_as::<Brand, R>(rt, alloc, Opened::new(), workers)
-}
-
+// In a batch of three, three workers get one move each.
 #[test]
-fn a_crew_ends_while_its_owner_keeps_its_end(rt: HostRuntime) -> Result<(), Fail> {
+fn workers_of_a_small_batch_get_a_move_each(rt: HostRuntime) -> Result<(), Fail> {
     in_time(
         &rt,
         &mut || -> Result<(), Fail> {
-            for workers in [0, 1, 3] {
-                let turns = kept(&rt, rt.alloc(), workers)?;
-                assert_eq!(rt; turns.len(), 2);
-                assert_eq!(rt; turns[0].len(), 500);
-                for (sum, expected) in turns[0].iter().zip(9..509u64) {
-                    assert_eq!(rt; *sum, expected, "of {workers} workers");
+            for maker in [Maker::Stages, Maker::Turns] {
+                for (workers, wanted) in [(1, 1), (2, 2), (3, 3), (64, 3)] {
+                    let gate = Each {
+                        rt: &rt,
+                        wanted,
+                        begun: AtomicU64::new(0),
+                        failed: AtomicU64::new(0),
+                    };
+                    let pace = Pace {
+                        batch: FEW,
+                        workers,
+                    };
+                    let _end = random_end(&rt, rt.alloc(), 5, maker, pace, &gate)?;
+                    assert_eq!(rt;
+                        gate.begun.load(Ordering::SeqCst),
+                        wanted,
+                        "{maker:?}, {workers}"
+                    );
+                    assert_eq!(rt;
+                        gate.failed.load(Ordering::SeqCst),
+                        0,
+                        "{maker:?}, {workers}"
+                    );
                 }
-                assert_eq!(rt; turns[1].as_slice(), [9, 10].as_slice());
             }
+            Ok(())
+        },
+    )
+}
+
+// Where threads of this process are busy for longer in seven tenths of a second in which none has anything to do, one does not sleep. In
+// milliseconds.
+const MOST: u64 = 350;
+
+// Lets a second pass. Whether threads of this process were busy meanwhile, behind the time for which a thread looks before it sleeps.
+fn was_busy(rt: &HostRuntime) -> bool {
+    thread::sleep(rt, Duration::from_millis(300));
+    let before = rt.process_cpu_time();
+    thread::sleep(rt, Duration::from_millis(700));
+    let after = rt.process_cpu_time();
+    match (before, after) {
+        (Ok(before), Ok(after)) => after.saturating_sub(before) > Duration::from_millis(MOST),
+        _ => true,
+    }
+}
+
+// The first judgement of the second batch takes a second. A worker makes it, since the owner begins to commit the first batch only then. So the
+// owner has to sleep for it, and so do the other workers, which have judged the third batch by then.
+#[derive(Drop)]
+struct Slow<'a> {
+    rt: &'a HostRuntime,
+    begun: AtomicU64,
+    busy: AtomicU64,
+    failed: AtomicU64,
+}
+
+impl Gate for Slow<'_> {
+    fn before_judge(&self, k: u64) {
+        if k >= BATCH && self.begun.fetch_add(1, Ordering::SeqCst) == 0 && was_busy(self.rt) {
+            self.busy.store(1, Ordering::SeqCst);
+        }
+    }
+
+    fn after_judge(&self, _k: u64) {}
+
+    fn before_commit(&self, k: u64) {
+        if k == 0 {
+            hold(self.rt, &self.begun, 1, &self.failed);
+        }
+    }
+}
+
+#[test]
+fn the_owner_sleeps_and_is_woken_by_a_slow_worker(rt: HostRuntime) -> Result<(), Fail> {
+    in_time(
+        &rt,
+        &mut || -> Result<(), Fail> {
+            for maker in [Maker::Stages, Maker::Turns] {
+                for workers in [1, 3] {
+                    let pace = Pace {
+                        batch: BATCH,
+                        workers,
+                    };
+                    let gate = Slow {
+                        rt: &rt,
+                        begun: AtomicU64::new(0),
+                        busy: AtomicU64::new(0),
+                        failed: AtomicU64::new(0),
+                    };
+                    let alone = random_end(&rt, rt.alloc(), 5, Maker::Alone, pace, &NoGate)?;
+                    let beside = random_end(&rt, rt.alloc(), 5, maker, pace, &gate)?;
+                    assert_eq!(rt;
+                        beside.as_str(),
+                        alone.as_str(),
+                        "{maker:?}, {workers} workers"
+                    );
+                    assert_eq!(rt; gate.failed.load(Ordering::SeqCst), 0, "{maker:?}");
+                    assert_eq!(rt; gate.busy.load(Ordering::SeqCst), 0, "{maker:?}, {workers}");
+                }
+            }
+            Ok(())
+        },
+    )
+}
+
+// The owner takes a second before the last commit of the first batch: the crew has judged the second batch by then, and sleeps. Before the
+// first commit of the second batch it waits until each worker makes a judgement of the third batch, all at once. The crew sleeps at the end of
+// the first stage too.
+#[derive(Drop)]
+struct Sleepy<'a> {
+    rt: &'a HostRuntime,
+    workers: u64,
+    begun: AtomicU64,
+    busy: AtomicU64,
+    failed: AtomicU64,
+}
+
+impl Gate for Sleepy<'_> {
+    fn before_judge(&self, k: u64) {
+        let third = 2 * BATCH;
+        if k >= third && k < third.saturating_add(self.workers) {
+            self.begun.fetch_add(1, Ordering::SeqCst);
+            hold(self.rt, &self.begun, self.workers, &self.failed);
+        }
+    }
+
+    fn after_judge(&self, _k: u64) {}
+
+    fn before_commit(&self, k: u64) {
+        let last = k.saturating_add(1);
+        if last == BATCH && was_busy(self.rt) {
+            self.busy.store(1, Ordering::SeqCst);
+        }
+        if k == BATCH {
+            hold(self.rt, &self.begun, self.workers, &self.failed);
+        }
+        if last == STAGE {
+            thread::sleep(self.rt, Duration::from_millis(400));
+        }
+    }
+}
+
+#[test]
+fn a_sleeping_crew_is_woken_whole_and_sent_home(rt: HostRuntime) -> Result<(), Fail> {
+    in_time(
+        &rt,
+        &mut || -> Result<(), Fail> {
+            for workers in [1, 3, 7] {
+                let pace = Pace {
+                    batch: BATCH,
+                    workers,
+                };
+                let gate = Sleepy {
+                    rt: &rt,
+                    workers,
+                    begun: AtomicU64::new(0),
+                    busy: AtomicU64::new(0),
+                    failed: AtomicU64::new(0),
+                };
+                let alone = random_end(&rt, rt.alloc(), 5, Maker::Alone, pace, &NoGate)?;
+                let beside = random_end(&rt, rt.alloc(), 5, Maker::Stages, pace, &gate)?;
+                assert_eq!(rt; beside.as_str(), alone.as_str(), "{workers} workers");
+                assert_eq!(rt; gate.failed.load(Ordering::SeqCst), 0, "{workers} workers");
+                assert_eq!(rt; gate.busy.load(Ordering::SeqCst), 0, "{workers} workers");
+            }
+            Ok(())
+        },
+    )
+}
+
+// The only worker judges the first move of the second batch, since the owner begins to commit the first batch only then. It is held there until
+// the owner has judged the next move.
+#[derive(Drop)]
+struct Helped<'a> {
+    rt: &'a HostRuntime,
+    begun: AtomicU64,
+    ended: AtomicU64,
+    failed: AtomicU64,
+}
+
+impl Gate for Helped<'_> {
+    fn before_judge(&self, k: u64) {
+        if k == BATCH {
+            self.begun.store(1, Ordering::SeqCst);
+            hold(self.rt, &self.ended, 1, &self.failed);
+        }
+    }
+
+    fn after_judge(&self, k: u64) {
+        if k == BATCH + 1 {
+            self.ended.store(1, Ordering::SeqCst);
+        }
+    }
+
+    fn before_commit(&self, k: u64) {
+        if k == 0 {
+            hold(self.rt, &self.begun, 1, &self.failed);
+        }
+    }
+}
+
+#[test]
+fn the_owner_helps_while_it_waits(rt: HostRuntime) -> Result<(), Fail> {
+    in_time(
+        &rt,
+        &mut || -> Result<(), Fail> {
+            for maker in [Maker::Stages, Maker::Turns] {
+                let pace = Pace {
+                    batch: BATCH,
+                    workers: 1,
+                };
+                let gate = Helped {
+                    rt: &rt,
+                    begun: AtomicU64::new(0),
+                    ended: AtomicU64::new(0),
+                    failed: AtomicU64::new(0),
+                };
+                let _end = random_end(&rt, rt.alloc(), 5, maker, pace, &gate)?;
+                assert_eq!(rt; gate.failed.load(Ordering::SeqCst), 0, "{maker:?}");
+            }
+            Ok(())
+        },
+    )
+}
+
+// Two blocks without a common net, on four sites.
+const PAIR: &[u8] = b".clb b1\npinlist: x\n.clb b2\npinlist: y\n";
+
+const PAIR_ARCH: &[u8] = b"io_rat 1\noutpin class: 0 top\n";
+
+// Words of moves that send the first block to the second column of the first row and to the first one, in turn. It starts in the first column.
+// So each move is a swap, and none changes the cost.
+fn to_and_fro(alloc: Global, moves: u64) -> Result<ListWords, AllocError> {
+    let mut words = Vec::new(alloc);
+    for k in 0..moves {
+        let column = if k % 2 == 0 { u32::MAX } else { 0 };
+        words.push([0, column, 0, 0])?;
+    }
+    Ok(ListWords {
+        starts: Vec::new(alloc),
+        moves: words,
+    })
+}
+
+// How many of 12,288 such moves are made, accepted and judged again, beside a crew that judges the next batch while one is committed. Only the
+// first move rests on nothing that was touched since.
+fn all_accepted<R: Threads + Wait + Sync>(
+    rt: &R,
+    alloc: Global,
+    maker: Maker,
+    workers: u64,
+    gate: &Ahead<'_>,
+) -> Result<(u64, u64, u64), Fail> {
+    let of = read_setting(alloc, PAIR_ARCH, PAIR)?;
+    let schedule = Schedule::new(1, 2, 500, 12_288)?;
+    let mut anneal = annealer(alloc, &of, None, schedule, to_and_fro(alloc, 12_288)?)?;
+    let pace = Pace {
+        batch: 4096,
+        workers,
+    };
+    let _end = ended(rt, alloc, &mut anneal, maker, pace, gate)?;
+    Ok((anneal.done(), anneal.accepted_count(), anneal.redone()))
+}
+
+#[test]
+fn turns_end_whose_moves_are_all_accepted(rt: HostRuntime) -> Result<(), Fail> {
+    in_time(
+        &rt,
+        &mut || -> Result<(), Fail> {
+            for maker in [Maker::Stages, Maker::Turns] {
+                for workers in [1, 3] {
+                    let gate = Ahead::of(rt.alloc(), &rt, 4096, 12_288, 12_288)?;
+                    let made = all_accepted(&rt, rt.alloc(), maker, workers, &gate)?;
+                    assert_eq!(rt; made, (12_288, 12_288, 12_287), "{maker:?}, {workers}");
+                    assert_eq!(rt;
+                        gate.failed.load(Ordering::SeqCst),
+                        0,
+                        "{maker:?}, {workers}"
+                    );
+                }
+            }
+            Ok(())
+        },
+    )
+}
+
+// Whether a run ended so. What a failed run tells goes to standard error.
+fn is_told(rt: &HostRuntime, told: Result<String, Fail>, wanted: &str) -> bool {
+    match told {
+        Ok(text) => text.as_str() == wanted,
+        Err(fail) => {
+            let failed: Result<(), Fail> = Err(fail);
+            let _code = failed.report(rt);
+            false
+        }
+    }
+}
+
+// Where a frozen stage of thirty moves ends.
+fn short_end<R: Threads + Wait + Sync>(
+    rt: &R,
+    alloc: Global,
+    maker: Maker,
+    pace: Pace,
+) -> Result<String, Fail> {
+    let net = random_net(alloc, 5)?;
+    let of = read_setting(alloc, ARCH, net.as_bytes())?;
+    let schedule = Schedule::new(1, 2, 400, 30)?;
+    let mut anneal = annealer(alloc, &of, None, schedule, StreamWords::new(11))?;
+    ended(rt, alloc, &mut anneal, maker, pace, &NoGate)
+}
+
+#[test]
+fn two_hundred_runs_side_by_side_end_in_time(rt: HostRuntime) -> Result<(), Fail> {
+    in_time(
+        &rt,
+        &mut || -> Result<(), Fail> {
+            let pace = Pace {
+                batch: 16,
+                workers: 2,
+            };
+            let clock = &rt;
+            let alone = short_end(&rt, rt.alloc(), Maker::Alone, pace)?;
+            let wanted = alone.as_str();
+            let right = thread::map_indices(
+                &rt,
+                rt.alloc(),
+                200,
+                &|_run: usize| -> bool {
+                    let told = short_end(clock, clock.alloc(), Maker::Stages, pace);
+                    is_told(clock, told, wanted)
+                },
+            )?;
+            assert!(rt; right.iter().all(|is_right| *is_right));
             Ok(())
         },
     )

@@ -8,8 +8,8 @@ use std::thread;
 use std::thread::{Threads, join_mut};
 use std::time::{Clock, Duration};
 
-// How long such a test may take, in milliseconds. Each takes less than a second where nothing waits for ever.
-const LIMIT: u64 = 20_000;
+// How long such a test may take, in milliseconds: many times what it takes on a machine at rest, since others may use this one.
+const LIMIT: u64 = 100_000;
 
 // Ends the test as failed, unless `ended` is set within the limit.
 fn watch<R: Abort + Clock>(rt: &R, ended: &AtomicU64) {

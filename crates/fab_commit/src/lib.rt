@@ -3,9 +3,15 @@
 #![tactic(auto)]
 
 #[cfg(test)]
+mod beside_tests;
+#[cfg(test)]
 mod board_tests;
 #[cfg(test)]
 mod crew_tests;
+#[cfg(test)]
+mod end_tests;
+#[cfg(test)]
+mod follow_tests;
 #[cfg(test)]
 mod in_time;
 pub mod laws;
@@ -34,9 +40,7 @@ pub use laws::{
 pub use model::events::{Event, Way};
 pub use model::world::World;
 pub use run::annealer::Anneal;
-pub use run::crew::{Crew, beside, found_crew};
-pub use run::job::Work;
+pub use run::beside::StagePlan;
 pub use run::keeping::{Keeping, KeepsCount, KeepsNumbers};
 pub use run::point::Point;
 pub use run::turn::Turn;
-pub use run::workers::Workers;

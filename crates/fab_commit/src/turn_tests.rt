@@ -1,11 +1,11 @@
+use crate::end_tests::Maker;
+use crate::in_time::in_time;
 use crate::tests::{
     ALONE, Chosen, Clash, Pace, Setting, annealer, clashing, put_sites, read_setting, turned,
     void_case,
 };
-use crate::turn_tables::{ENDS, End};
-use crate::world_tables::{ROWS, Row};
-use crate::world_tests::{ARCH, schedule_of};
-use crate::{Anneal, Turn};
+use crate::world_tests::ARCH;
+use crate::{Anneal, Turn, end_tests};
 use fab_board::{Gate, NoGate};
 use fab_move::StreamWords;
 use fab_sched::Schedule;
@@ -19,7 +19,10 @@ use std::thread::Threads;
 use std::time::Duration;
 
 /// The state of a run: the moves made and accepted, the cost, and the sites of the blocks.
-fn told_end<W: Words + Drop>(alloc: Global, anneal: &Anneal<'_, W>) -> Result<String, AllocError> {
+pub(crate) fn told_end<W: Words + Drop>(
+    alloc: Global,
+    anneal: &Anneal<'_, W>,
+) -> Result<String, AllocError> {
     let mut text = format!(in alloc;
         "done {} total {} cost {} at",
         anneal.done(),
@@ -31,7 +34,7 @@ fn told_end<W: Words + Drop>(alloc: Global, anneal: &Anneal<'_, W>) -> Result<St
 }
 
 /// Makes turns with these batches, again and again, until no move is left.
-fn finish<W: Words + Send + Sync + Drop, G: Gate, R: Threads + Wait + Sync>(
+pub(crate) fn finish<W: Words + Send + Sync + Drop, G: Gate, R: Threads + Wait + Sync>(
     rt: &R,
     alloc: Global,
     anneal: &mut Anneal<'_, W>,
@@ -225,7 +228,7 @@ pub(crate) fn eight<'a, W: Words + Drop>(
     of: &'a Setting,
     words: W,
 ) -> Result<Anneal<'a, W>, Fail> {
-    let schedule = Schedule::new(30_000, 3_000, 500, 100)?;
+    let schedule = Schedule::new(30_000, 3_000, 500, EIGHT_STAGE)?;
     annealer(alloc, of, None, schedule, words)
 }
 
@@ -278,7 +281,12 @@ struct Seen {
     /// How many commits were begun, and how many of them were not of the next move.
     commits: AtomicU64,
     disordered: AtomicU64,
+    /// How many moves were judged again before the call for their commit.
+    early: AtomicU64,
 }
+
+/// Stages of the eight blocks' run have so many moves.
+const EIGHT_STAGE: u64 = 100;
 
 impl Seen {
     /// Nothing is seen yet of `moves` moves.
@@ -295,6 +303,7 @@ impl Seen {
             outside: AtomicU64::new(0),
             commits: AtomicU64::new(0),
             disordered: AtomicU64::new(0),
+            early: AtomicU64::new(0),
         })
     }
 
@@ -306,6 +315,9 @@ impl Seen {
         let before = asked.fetch_add(1, Ordering::SeqCst);
         if before == 0 && !self.is_inside(k) {
             self.outside.fetch_add(1, Ordering::SeqCst);
+        }
+        if before == 1 && self.commits.load(Ordering::SeqCst) <= k {
+            self.early.fetch_add(1, Ordering::SeqCst);
         }
     }
 
@@ -390,10 +402,11 @@ fn asked<W: Words + Send + Sync + Drop, R: Threads + Wait + Sync>(
     rt: &R,
     alloc: Global,
     anneal: &mut Anneal<'_, W>,
+    maker: Maker,
     pace: Pace,
     seen: &Seen,
 ) -> Result<String, Fail> {
-    finish(rt, alloc, anneal, &[pace.batch], pace.workers, seen)?;
+    let _end = end_tests::ended(rt, alloc, anneal, maker, pace, seen)?;
     Ok(told_asked(alloc, seen, anneal.redone())?)
 }
 
@@ -413,7 +426,7 @@ fn clash_asked<R: Threads + Wait + Sync>(
     } = clashing(alloc, clash)?;
     let words = SeenWords { words, seen };
     let mut anneal = annealer(alloc, &of, fixed, schedule, words)?;
-    asked(rt, alloc, &mut anneal, pace, seen)
+    asked(rt, alloc, &mut anneal, Maker::Turns, pace, seen)
 }
 
 #[test]
@@ -434,6 +447,7 @@ fn words_of_the_clashing_move_are_asked_for_twice(rt: HostRuntime) -> Result<(),
 fn eight_asked<R: Threads + Wait + Sync>(
     rt: &R,
     alloc: Global,
+    maker: Maker,
     pace: Pace,
     seen: &Seen,
 ) -> Result<String, Fail> {
@@ -443,29 +457,65 @@ fn eight_asked<R: Threads + Wait + Sync>(
         seen,
     };
     let mut anneal = eight(alloc, &of, words)?;
-    asked(rt, alloc, &mut anneal, pace, seen)
+    asked(rt, alloc, &mut anneal, maker, pace, seen)
 }
 
+/// By turns and by stages with a crew each, the same words are asked for.
 #[test]
 fn words_of_redone_moves_are_asked_for_twice_and_others_once(rt: HostRuntime) -> Result<(), Fail> {
-    for workers in [1, 4] {
-        let seen = Seen::of(rt.alloc(), 500)?;
-        let asked = eight_asked(&rt, rt.alloc(), Pace { batch: 16, workers }, &seen)?;
-        assert_eq!(rt; asked.as_str(), EIGHT_ASKED);
-    }
-    Ok(())
+    in_time(
+        &rt,
+        &mut || -> Result<(), Fail> {
+            for maker in [Maker::Turns, Maker::Stages] {
+                for workers in [1, 4] {
+                    let seen = Seen::of(rt.alloc(), 500)?;
+                    let pace = Pace { batch: 16, workers };
+                    let asked = eight_asked(&rt, rt.alloc(), maker, pace, &seen)?;
+                    assert_eq!(rt; asked.as_str(), EIGHT_ASKED, "{maker:?}, {workers} workers");
+                }
+            }
+            Ok(())
+        },
+    )
 }
 
 #[test]
 fn words_are_first_asked_for_in_their_judgement(rt: HostRuntime) -> Result<(), Fail> {
-    for batch in [1, 16] {
-        for workers in [1, 4] {
-            let seen = Seen::of(rt.alloc(), 500)?;
-            let _asked = eight_asked(&rt, rt.alloc(), Pace { batch, workers }, &seen)?;
-            assert_eq!(rt; seen.outside.load(Ordering::SeqCst), 0);
-        }
-    }
-    Ok(())
+    in_time(
+        &rt,
+        &mut || -> Result<(), Fail> {
+            for maker in [Maker::Turns, Maker::Stages] {
+                for (batch, workers) in [(1, 1), (1, 4), (16, 1), (16, 4)] {
+                    let seen = Seen::of(rt.alloc(), 500)?;
+                    let pace = Pace { batch, workers };
+                    let _asked = eight_asked(&rt, rt.alloc(), maker, pace, &seen)?;
+                    let outside = seen.outside.load(Ordering::SeqCst);
+                    assert_eq!(rt; outside, 0, "{maker:?} of {batch} by {workers}");
+                }
+            }
+            Ok(())
+        },
+    )
+}
+
+/// So the call before a commit does not come behind it.
+#[test]
+fn a_move_is_judged_again_behind_the_call_for_its_commit(rt: HostRuntime) -> Result<(), Fail> {
+    in_time(
+        &rt,
+        &mut || -> Result<(), Fail> {
+            for maker in [Maker::Turns, Maker::Stages] {
+                for (batch, workers) in [(2, 1), (16, 1), (16, 4)] {
+                    let seen = Seen::of(rt.alloc(), 500)?;
+                    let pace = Pace { batch, workers };
+                    let _asked = eight_asked(&rt, rt.alloc(), maker, pace, &seen)?;
+                    let early = seen.early.load(Ordering::SeqCst);
+                    assert_eq!(rt; early, 0, "{maker:?} of {batch} by {workers}");
+                }
+            }
+            Ok(())
+        },
+    )
 }
 
 /// Holds the judgement of move 0 until that of move 1 is over, the commit of move 0 until a move of the next batch is
@@ -537,48 +587,5 @@ fn workers_judge_the_next_batch_while_a_batch_is_committed(rt: HostRuntime) -> R
         "redone 0 done 30 total 0 cost 40000 at 0,1,0 2,1,0 1,1,0"
     );
     assert_eq!(rt; gate.failed.load(Ordering::SeqCst), 0);
-    Ok(())
-}
-
-/// The whole run of a row: how many moves were judged again, and where it ends.
-fn row_end<R: Threads + Wait + Sync>(
-    rt: &R,
-    alloc: Global,
-    row: &Row,
-    pace: Pace,
-) -> Result<(u64, String), Fail> {
-    let schedule = schedule_of(row)?;
-    let of = read_setting(alloc, ARCH, row.net)?;
-    let mut anneal = annealer(alloc, &of, None, schedule, StreamWords::new(row.seed))?;
-    ended(rt, alloc, &mut anneal, pace, &NoGate)
-}
-
-/// Whether a run ends as expected with each batch, with one worker and with three.
-fn leads_to<R: Threads + Wait + Sync>(
-    rt: &R,
-    alloc: Global,
-    row: &Row,
-    end: &End,
-) -> Result<bool, Fail> {
-    for (batch, redone) in [1, 2, 5].iter().zip(end.redone.iter()) {
-        for workers in [1, 3] {
-            let pace = Pace {
-                batch: *batch,
-                workers,
-            };
-            let (again, told) = row_end(rt, alloc, row, pace)?;
-            if again != *redone || told.as_str() != end.wanted {
-                return Ok(false);
-            }
-        }
-    }
-    Ok(row.seed == end.seed)
-}
-
-#[test]
-fn turns_lead_where_the_reference_does(rt: HostRuntime) -> Result<(), Fail> {
-    for (row, end) in ROWS.iter().zip(ENDS.iter()) {
-        assert!(rt; leads_to(&rt, rt.alloc(), row, end)?, "seed {}", end.seed);
-    }
     Ok(())
 }

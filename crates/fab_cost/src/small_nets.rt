@@ -78,6 +78,7 @@ fn change_of_step(
     plus(one, plus(two, three))
 }
 
+#[inline(always)]
 #[tactic(auto, using(crate::proofs::Sited::block_below, crate::proofs::Steps::few_none, crate::proofs::Steps::few_some))]
 /// How the swap changes the cost of the small nets: first its block goes, then the other. The records of the first have only other blocks,
 /// so none is looked for among them.

@@ -114,8 +114,12 @@ fn without_swap() -> Decision
     }
 }
 
-/// The marks that a proposal rests on.
-fn footprint_of(alloc: Global, design: &Design, proposal: Proposal) -> Result<Footprint, AllocError>
+/// The marks that a proposal of this design rests on: what a decision on it has looked at. An error means that memory ran out.
+pub fn footprint_of(
+    alloc: Global,
+    design: &Design,
+    proposal: Proposal,
+) -> Result<Footprint, AllocError>
     requires block { (s : Swap) → proposal ≡ proposes s → s.block.0 < length design.now.kinds }
     requires other { (s : Swap) (b : BlockId) → proposal ≡ proposes s → s.other ≡ Some b → b.0 < length design.now.kinds }
     ensures { IfOk result (λ f. f.items ≡ footprint_is design.now proposal) }

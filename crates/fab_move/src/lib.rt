@@ -17,7 +17,7 @@ pub mod verdicts;
 mod windows;
 
 pub use acceptance::accepts;
-pub use judging::{decide, judge, weigh};
+pub use judging::{decide, footprint_of, judge, weigh};
 pub use marks::{Footprint, Mark};
 pub use proposals::{Proposal, propose};
 pub use stream_words::StreamWords;

@@ -144,6 +144,7 @@ fn is_logic_block(design: &Design, block: BlockId) -> bool
     }
 }
 
+#[inline(always)]
 /// The proposal for a block and its target.
 fn propose_to(
     fixed: &Fixed,

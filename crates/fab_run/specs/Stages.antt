@@ -1,19 +1,15 @@
 -- How the stages of a piece of a run are made and reported (our own).
-use Rattle.std.specs.Prelude.{ℕ, ◌≡◌, ◌+◌, ◌-◌, ◌++◌, List, [], Option, Result, OnOk, OnErr, IfErr, take}
+use Rattle.std.specs.Prelude.{ℕ, ◌≡◌, ◌+◌, ◌-◌, ◌++◌, List, [], Option, take}
 use Rattle.std.specs.Io.KnownBytes.{Appends}
 use Rattle.fab_file.specs.Written.{IsCut}
 use Rattle.fab_commit.specs.Serial.{Run, Standing, accepted_among, from}
 use Rattle.fab_commit.specs.Run.ByTurns.{IsByTurns}
-use Rattle.fab_dial.specs.declared.readings.Reading.{Reading}
-use Rattle.fab_commit.specs.Run.Commits.{AnnealOf, IsSameRun, run_of}
-use Rattle.fab_commit.specs.Run.Readings.{readings}
+use Rattle.fab_commit.specs.Run.Commits.{AnnealOf, run_of}
 use Rattle.fab_commit.specs.Model.Turns.{redone_in_run}
 use Rattle.fab_run.specs.declared.fault.RunFault.{RunFault}
 use Rattle.fab_run.specs.declared.fault.RunFault.TheVariants.{Report}
 use Rattle.fab_run.specs.Ends.{IsPiece, IsWithin}
 use Rattle.fab_run.specs.Piece.{stage_costs, stage_lines}
-use Rattle.fab_run.specs.Placed.{IsReportFault}
-use Rattle.fab_run.specs.Shown.{AreShownBegun}
 
 -- nothing is accepted, judged ahead or judged again yet
 pub record IsNew {W : Type 0} (a : AnnealOf W) : Type 0 where
@@ -43,14 +39,3 @@ pub record AreMade {W : Type 0} (moves : W → ℕ → List ℕ) (stop : Option 
 pub record AreCut (r : Run) (x : Standing) (stop : Option ℕ) (old new : Option (List ℕ)) (e : RunFault) : Type 0 where
   pub begun : (n : ℕ) × (k : ℕ) × IsWithin r x stop n × Appends old new (take k (stage_lines r x n))
   pub short : e ≡ Report → (n : ℕ) × IsWithin r x stop n × IsCut (stage_lines r x n) old new
-
--- an annealer made the moves of a piece with a crew, and reported and showed them; or it was cut short, and reported and showed a
--- beginning of them
-pub record IsMadeBeside {W : Type 0} (moves : W → ℕ → List ℕ) (stop : Option ℕ) (batch : ℕ) (a b : AnnealOf W) (costs0 costs1 : List ℕ) (shown0 shown1 : List Reading) (old new : Option (List ℕ)) (failed0 failed1 : ℕ) (answer : Result (Unit {0}) RunFault) : Type 0 where
-  pub same : IsSameRun a b
-  pub made : OnOk answer (AreMade moves stop batch a b costs0 costs1 old new)
-  pub shown : OnOk answer (shown1 ≡ shown0 ++ readings (run_of moves a) a.standing batch (b.standing.done - a.standing.done))
-  pub cut : IfErr answer (AreCut (run_of moves a) a.standing stop old new)
-  pub shown_cut : OnErr answer (AreShownBegun (run_of moves a) a.standing stop batch shown0 shown1)
-  pub sound : OnOk answer (failed1 ≡ failed0)
-  pub fault : IfErr answer (IsReportFault failed0 failed1)

@@ -1,25 +1,22 @@
-// How the words of moves are asked for: how often, when, and by how many threads at once. The crew of a run stands from the first move to the
-// last.
+// How the words of moves are asked for: how often, when, and by how many threads at once.
 ghost use Rattle.std.specs.Prelude.{◌≡◌, ◌≤◌, ◌<◌, IfOk};
 ghost use Rattle.fab_sched.specs.Annealing.{IsLawful};
 
-use crate::crews::{Course, anneal_beside};
 use crate::piece::unwatched;
 use crate::run_tests::{ARCH, INPUTS, OPTIONS, SEVEN, SHORT, writer_with};
 use crate::setting::read_setting;
-use crate::stages::{Pace, is_judged_ahead, make_part, make_rest};
+use crate::stages::{Pace, anneal_all, is_judged_ahead, make_part, make_rest};
 use crate::watched_tests::Quiet;
 use crate::{Inputs, Moves, Options, RunFault};
-use fab_board::{Gate, Naming, NoGate, Opened};
-use fab_commit::{Anneal, Work, Workers, found_crew};
+use fab_board::{Gate, NoGate};
+use fab_commit::{Anneal, StagePlan};
 use fab_dial::{Dial, Shower};
 use fab_file::Labels;
-use fab_move::{StreamWords, Verdict};
+use fab_move::StreamWords;
 use fab_sched::Stage;
 use fab_site::{Words, start};
 use fab_text::push_number;
 use std::alloc::{AllocError, Global};
-use std::marker::Brand;
 use std::sync::Wait;
 use std::sync::atomic::{AtomicU64, Ordering};
 use std::test::*;
@@ -27,51 +24,7 @@ use std::thread;
 use std::thread::Threads;
 use std::time::Duration;
 
-// Makes the moves of a run while a crew may judge ahead. The answer is how many moves were made, and how many judged again.
-fn made_beside<
-    'a,
-    'g,
-    G: Gate,
-    J: Naming + Send + Sync,
-    V: Words + Send + Sync + Drop,
-    R: Threads + Wait + Sync,
->(
-    rt: &R,
-    alloc: Global,
-    opened: Opened<Work<'a, 'g, V, G>>,
-    anneal: Anneal<'a, V>,
-    gate: &'g G,
-    pace: &Pace,
-    dial: &Dial,
-    shower: &mut Shower,
-) -> Result<(u64, u64), RunFault>
-    requires book { opened ≡ J.book }
-    requires own { shower.old.dial ≡ dial.now }
-    requires moves { pace.now.moves ≡ anneal.plan.moves }
-    requires plan { IsLawful anneal.plan }
-    requires limits { (1 ≤ pace.now.batch) × (pace.now.batch ≤ 4096) × (1 ≤ pace.now.workers) × (pace.now.workers ≤ 64) }
-{
-    let mut report = writer_with(alloc, 10_000);
-    let (crew, lead) = found_crew::<Work<'a, 'g, V, G>, Verdict, J>(alloc, opened, pace.workers)?;
-    let mut course = Course {
-        anneal,
-        workers: Workers::crew(lead, gate),
-        costs: Vec::new(alloc),
-    };
-    anneal_beside(
-        rt,
-        alloc,
-        crew,
-        &mut course,
-        pace,
-        dial,
-        shower,
-        &mut report,
-    )?;
-    Ok((course.anneal.done(), course.anneal.redone()))
-}
-
-// The same of a run of texts by these words.
+// Makes the moves of a run of texts by these words. The answer is how many moves were made, and how many judged again.
 fn run_with<V: Words + Send + Sync + Drop, G: Gate, R: AllocGlobal + Threads + Wait + Sync>(
     rt: &R,
     inputs: &Inputs,
@@ -89,20 +42,24 @@ fn run_with<V: Words + Send + Sync + Drop, G: Gate, R: AllocGlobal + Threads + W
         stop: options.stop,
     };
     let placement = start(alloc, &design, &grid, &pins, &words)?;
-    let anneal = Anneal::new(
+    let mut anneal = Anneal::new(
         alloc, &design, &grid, placement, pins.fixed, schedule, words,
     )?;
     let (dial, mut shower) = unwatched(rt, alloc)?;
-    made_beside::<G, Brand, V, R>(
+    let mut report = writer_with(alloc, 10_000);
+    let mut costs = Vec::new(alloc);
+    anneal_all(
         rt,
         alloc,
-        Opened::new(),
-        anneal,
-        gate,
+        &mut anneal,
         &pace,
+        gate,
         &dial,
         &mut shower,
-    )
+        &mut report,
+        &mut costs,
+    )?;
+    Ok((anneal.done(), anneal.redone()))
 }
 
 // Words that count how often those of moves are asked for.
@@ -412,7 +369,7 @@ impl<'a> Words for FollowedWords<'a> {
 }
 
 // Makes the moves that are left in the running stage alone, the first ones, so many, by themselves, and then the rest.
-fn stage_alone<V: Words + Sync + Drop, G: Gate, R: Threads + Wait + Sync>(
+fn stage_alone<V: Words + Send + Sync + Drop, G: Gate, R: Threads + Wait + Sync>(
     rt: &R,
     anneal: &mut Anneal<'_, V>,
     moves: u64,
@@ -427,16 +384,20 @@ fn stage_alone<V: Words + Sync + Drop, G: Gate, R: Threads + Wait + Sync>(
     requires own { shower.old.dial ≡ dial.now }
     requires limits { (1 ≤ batch) × (batch ≤ 4096) }
 {
-    let mut nobody = Workers::<'_, '_, V, G, Brand>::none(gate);
-    let workers = &mut nobody;
+    let plan = StagePlan {
+        batch,
+        workers: 1,
+        gate,
+        dial,
+    };
     if let Some(stage) = anneal.stage() {
         if part < moves - stage.done {
-            make_part(rt, anneal, part, batch, false, workers, dial, shower)?;
+            make_part(rt, anneal, part, false, &plan, shower)?;
         }
     }
     if let Some(stage) = anneal.stage() {
         let left = moves - stage.done;
-        make_rest(rt, anneal, left, batch, false, workers, dial, shower)?;
+        make_rest(rt, anneal, left, false, &plan, shower)?;
     }
     Ok(())
 }

@@ -9,28 +9,27 @@ use std::test::*;
 use std::thread;
 use std::time::Duration;
 
-// Batches of eight moves in stages of 24. Before a run's commit `at` the owner is held until so many judgements of the next batch have
-// begun, and each of these until all of them have: so as many threads as that judge at once, and the owner is none of them.
+// Before a run's commit `at` the owner is held until so many judgements of the next batch have begun, and each of these until all of them have:
+// so as many threads as that judge at once, and the owner is none of them. In a batch of three, three workers get one move each.
 #[derive(Drop)]
 struct AtOnce<'a> {
     rt: &'a HostRuntime,
     at: u64,
-    workers: u64,
+    batch: u64,
+    wanted: u64,
     begun: AtomicU64,
     all: AtomicU64,
     failed: AtomicU64,
 }
 
-const BATCH: u64 = 8;
-
 impl Gate for AtOnce<'_> {
     fn before_judge(&self, k: u64) {
-        let next = self.at.saturating_add(BATCH);
-        if k < next || k >= next.saturating_add(self.workers) {
+        let next = self.at.saturating_add(self.batch);
+        if k < next || k >= next.saturating_add(self.wanted) {
             return;
         }
         let begun = self.begun.fetch_add(1, Ordering::SeqCst);
-        if begun.saturating_add(1) == self.workers {
+        if begun.saturating_add(1) == self.wanted {
             self.all.store(1, Ordering::SeqCst);
         }
         hold(self.rt, &self.all, &self.failed);
@@ -45,10 +44,11 @@ impl Gate for AtOnce<'_> {
     }
 }
 
-fn eights(workers: u64) -> Options {
+// Stages of three batches.
+fn paced(batch: u64, workers: u64) -> Options {
     Options {
-        moves: Moves::Given(24),
-        batch: BATCH,
+        moves: Moves::Given(batch.saturating_mul(3)),
+        batch,
         workers,
         ..OPTIONS
     }
@@ -56,28 +56,35 @@ fn eights(workers: u64) -> Options {
 
 #[test]
 fn all_workers_of_a_run_judge_at_once(rt: HostRuntime) -> Result<(), Fail> {
-    for workers in [1, 2, 3, 7] {
-        for at in [0, 24, 32] {
+    for (batch, workers) in [(8, 1), (8, 2), (8, 3), (8, 7), (3, 3), (3, 64), (64, 64)] {
+        let options = paced(batch, workers);
+        let wanted = workers.min(batch);
+        // The first batch of the first two stages, and the second one of the second stage.
+        for at in [0, batch.saturating_mul(3), batch.saturating_mul(4)] {
             let gate = AtOnce {
                 rt: &rt,
                 at,
-                workers,
+                batch,
+                wanted,
                 begun: AtomicU64::new(0),
                 all: AtomicU64::new(0),
                 failed: AtomicU64::new(0),
             };
-            let held = last_shown(&rt, &INPUTS, &eights(workers), after(0), &gate)?;
+            let held = last_shown(&rt, &INPUTS, &options, after(0), &gate)?;
             assert_eq!(rt;
                 gate.failed.load(Ordering::SeqCst),
                 0,
                 "{workers} workers at {at}"
             );
-            assert_eq!(rt; gate.begun.load(Ordering::SeqCst), workers);
-            assert!(rt; held.1 == last_shown(&rt, &INPUTS, &eights(workers), after(0), &NoGate)?.1);
+            assert_eq!(rt; gate.begun.load(Ordering::SeqCst), wanted);
+            assert!(rt; held.1 == last_shown(&rt, &INPUTS, &options, after(0), &NoGate)?.1);
         }
     }
     Ok(())
 }
+
+// The batch of the tests below, whose stages have 24 moves.
+const BATCH: u64 = 8;
 
 // The first judgement of the second batch takes a second, and the owner begins to commit the first batch only then: so a worker judges it,
 // and the owner has to sleep for it. Judgements are counted by number.
@@ -121,10 +128,12 @@ fn the_owner_sleeps_until_a_slow_judgement_is_made(rt: HostRuntime) -> Result<()
             failed: AtomicU64::new(0),
             judged: &judged,
         };
-        let held = last_shown(&rt, &INPUTS, &eights(workers), after(0), &gate)?;
+        let held = last_shown(&rt, &INPUTS, &paced(BATCH, workers), after(0), &gate)?;
         assert_eq!(rt; gate.failed.load(Ordering::SeqCst), 0);
         assert_eq!(rt; held.0, after(120));
-        assert!(rt; held.1 == last_shown(&rt, &INPUTS, &eights(workers), after(0), &NoGate)?.1);
+        assert!(rt;
+            held.1 == last_shown(&rt, &INPUTS, &paced(BATCH, workers), after(0), &NoGate)?.1
+        );
         // No answer is lost and made anew.
         for times in &judged {
             assert_eq!(rt; times.load(Ordering::SeqCst), 1);
@@ -168,7 +177,7 @@ fn a_sleeping_crew_is_woken_for_a_batch_and_sent_home(rt: HostRuntime) -> Result
             begun: AtomicU64::new(0),
             failed: AtomicU64::new(0),
         };
-        let held = last_shown(&rt, &INPUTS, &eights(workers), after(0), &gate)?;
+        let held = last_shown(&rt, &INPUTS, &paced(BATCH, workers), after(0), &gate)?;
         assert_eq!(rt; gate.failed.load(Ordering::SeqCst), 0);
         assert_eq!(rt; held.0, after(120));
     }

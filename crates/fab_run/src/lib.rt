@@ -11,7 +11,6 @@ mod counted_tests;
 pub mod counting;
 #[cfg(test)]
 mod crew_tests;
-mod crews;
 mod designs;
 mod ended;
 pub mod fault;

@@ -17,22 +17,20 @@ ghost use Rattle.fab_run.specs.declared.fault.RunFault.TheVariants.{Place, Repor
 ghost use Rattle.fab_file.specs.declared.fault.PlaceFault.TheVariants.{Write};
 ghost use Rattle.fab_file.specs.Written.{IsCut, are_labels};
 
-use crate::crews::{Course, anneal_beside};
 use crate::ended::{Ended, ended_by};
 use crate::fault::RunFault;
 use crate::inputs::{Ending, Inputs};
 use crate::report::final_line;
-use crate::stages::Pace;
+use crate::stages::{Pace, anneal_all};
 use fab_arch::Grid;
-use fab_board::{Gate, Naming, Opened, Task};
-use fab_commit::{Anneal, Crew, Keeping, Work, Workers, found_crew};
+use fab_board::Gate;
+use fab_commit::{Anneal, Keeping};
 use fab_dial::{Dial, Reading, Shower};
 use fab_file::{PlaceFault, write_place};
-use fab_move::{StreamWords, Verdict};
+use fab_move::StreamWords;
 use fab_net::Design;
 use fab_text::{Sink, write_whole};
 use std::alloc::{AllocError, Global};
-use std::marker::Brand;
 use std::sync::Wait;
 use std::thread::Threads;
 
@@ -99,28 +97,6 @@ fn tell_start<W: Sink, P: Sink>(
     Ok(costs)
 }
 
-/// Does the same, and passes the crew through. On a fault it drops the crew: only a function that is generic in the crew's job can.
-fn start_beside<E: Task<T>, T: Drop, J: Naming, W: Sink, P: Sink>(
-    alloc: Global,
-    crew: Crew<E, T, J>,
-    cost: u64,
-    head: &[u8],
-    report: &mut W,
-    place: &mut P,
-) -> Result<(Crew<E, T, J>, Vec<u64>), RunFault>
-    ensures costs { IfOk result (λ r. r.1.items ≡ cost ∷ []) }
-    ensures told { OnOk result (Appends (W.contents report.old) (W.contents report.new) head.now) }
-    ensures cut { OnErr result (IsBegun (W.contents report.old) (W.contents report.new) head.now) }
-    ensures short { IfErr result (λ e. e ≡ Report → IsCut head.now (W.contents report.old) (W.contents report.new)) }
-    ensures unready { IfErr result (λ e. e ≡ Place Write → (P.may_be_unready ≡ true) × Appends (W.contents report.old) (W.contents report.new) head.now) }
-    ensures place { P.contents place.new ≡ P.contents place.old }
-    ensures sound { OnOk result ((W.failed report.new ≡ W.failed report.old) × (P.failed place.new ≡ P.failed place.old)) }
-    ensures fault { IfErr result (IsDeviceFault (W.failed report.old) (W.failed report.new) (P.failed place.old) (P.failed place.new)) }
-{
-    let costs = tell_start(alloc, cost, head, report, place)?;
-    Ok((crew, costs))
-}
-
 /// Writes the last line of a report, if no move is left.
 fn tell_last<K: Keeping, W: Sink>(
     alloc: Global,
@@ -166,30 +142,19 @@ fn tell_end<K: Keeping, W: Sink>(
     Ok(ended_by(anneal, ending, costs))
 }
 
-/// Makes the moves of a piece, while a crew stands by, and reports them. The gate is called around each judgement, but not one that is made
+/// Makes the moves of a piece, and reports them. The gate is called around each judgement, but not one that is made
 /// again, and before each commit; one that does nothing need not be.
-fn anneal_told<
-    'a,
-    'g,
-    K: Keeping,
-    G: Gate,
-    J: Naming + Send + Sync,
-    W: Sink,
-    P: Sink,
-    R: Threads + Wait + Sync,
->(
+fn anneal_told<K: Keeping, G: Gate, W: Sink, P: Sink, R: Threads + Wait + Sync>(
     rt: &R,
     alloc: Global,
-    opened: Opened<Work<'a, 'g, StreamWords, G>>,
-    anneal: Anneal<'a, StreamWords, K>,
+    mut anneal: Anneal<'_, StreamWords, K>,
     piece: &Piece<'_, '_>,
-    gate: &'g G,
+    gate: &G,
     dial: &Dial,
     shower: &mut Shower,
     report: &mut W,
     place: &mut P,
 ) -> Result<Ended, RunFault>
-    requires book { opened ≡ J.book }
     requires own { shower.old.dial ≡ dial.now }
     requires fresh { IsNew anneal }
     requires moves { piece.now.pace.moves ≡ anneal.plan.moves }
@@ -208,24 +173,18 @@ fn anneal_told<
     ensures shown_cut { OnErr result (AreShownInPart (piece_of stream_moves anneal.entry piece.now.head.items piece.now.pace.stop) piece.now.pace.batch shower.old.shown shower.new.shown) }
 {
     let pace = piece.pace;
-    let (crew, lead) = found_crew::<Work<'a, 'g, StreamWords, G>, Verdict, J>(
+    let mut costs = tell_start(alloc, anneal.cost(), &piece.head, report, place)?;
+    anneal_all(
+        rt,
         alloc,
-        opened,
-        pace.workers,
+        &mut anneal,
+        &pace,
+        gate,
+        dial,
+        shower,
+        report,
+        &mut costs,
     )?;
-    let workers = Workers::crew(lead, gate);
-    let (crew, costs) = start_beside(alloc, crew, anneal.cost(), &piece.head, report, place)?;
-    let mut course = Course {
-        anneal,
-        workers,
-        costs,
-    };
-    anneal_beside(rt, alloc, crew, &mut course, &pace, dial, shower, report)?;
-    let Course {
-        anneal,
-        workers: _,
-        costs,
-    } = course;
     tell_end(alloc, anneal, costs, report)
 }
 
@@ -296,18 +255,7 @@ pub(crate) fn run_piece<
     ensures shown_cut { OnErr result (AreShownInPart (piece_of stream_moves anneal.entry piece.now.head.items piece.now.pace.stop) piece.now.pace.batch shower.old.shown shower.new.shown) }
 {
     let alloc = rt.alloc();
-    let outcome = anneal_told::<K, G, Brand, W, P, R>(
-        rt,
-        alloc,
-        Opened::new(),
-        anneal,
-        piece,
-        gate,
-        dial,
-        shower,
-        report,
-        place,
-    )?;
+    let outcome = anneal_told(rt, alloc, anneal, piece, gate, dial, shower, report, place)?;
     tell_placement(alloc, inputs, piece, &outcome, place)?;
     Ok(outcome)
 }

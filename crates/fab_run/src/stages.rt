@@ -3,6 +3,7 @@
 ghost use Rattle.std.specs.Prelude.{◌≡◌, ℕ, ◌+◌, ◌-◌, ◌<◌, ◌≤◌, ◌++◌, Some, OnOk, OnErr, IfOk, IfErr, MatchOption};
 ghost use Rattle.fab_sched.specs.Annealing.{IsLawful};
 ghost use Rattle.fab_commit.specs.Serial.{accepted_among, from, moves_left, stage_of};
+ghost use Rattle.fab_commit.specs.Run.Alone.{IsMadeAlone};
 ghost use Rattle.fab_commit.specs.Run.ByTurns.{LeadsByTurns};
 ghost use Rattle.fab_commit.specs.Run.Commits.{IsSameRun, run_of};
 ghost use Rattle.fab_commit.specs.Run.Readings.{readings};
@@ -13,8 +14,8 @@ ghost use Rattle.fab_run.specs.Stages.{AreCountedOn, AreCut, AreMade};
 
 use crate::fault::RunFault;
 use crate::report::stage_line;
-use fab_board::{Gate, Naming};
-use fab_commit::{Anneal, Keeping, Workers};
+use fab_board::Gate;
+use fab_commit::{Anneal, Keeping, StagePlan};
 use fab_dial::{Dial, Shower};
 use fab_sched::Stage;
 use fab_site::Words;
@@ -56,7 +57,8 @@ fn moves_before(stop: Option<u64>, done: u64, left: u64) -> Option<u64>
     Some(rest)
 }
 
-/// In a design of fewer blocks a crew costs as much time as it saves, or more, in each stage (bench/stages.py).
+/// In a design of fewer blocks a crew costs as much time as it saves, or more, in each stage. That and the next bound were measured with the
+/// crew before this one (bench/stages.py, 27 November 2026).
 const LARGE_DESIGN: usize = 40_000;
 
 /// From so many blocks on, a crew of three or more workers saves time before the stages are cold, too.
@@ -86,156 +88,120 @@ pub(crate) fn is_judged_ahead(
     is_cooler && blocks >= VERY_LARGE_DESIGN && pace.workers >= 3
 }
 
-/// Makes the next `count` moves of the running stage, fewer than are left in it: in turns of one batch, and a shorter turn for the rest. They
-/// are judged ahead, or by the owner.
+/// Makes the next `count` moves of the running stage, of which some are left and at least so many: in turns of one batch, and a shorter turn for
+/// the rest. They are judged ahead by a crew that lives for them, or by the owner; the moves, their costs and how many count as judged again are
+/// the same.
+fn make_moves<V: Words + Send + Sync + Drop, K: Keeping, G: Gate, R: Threads + Wait + Sync>(
+    rt: &R,
+    anneal: &mut Anneal<'_, V, K>,
+    count: u64,
+    ahead: bool,
+    plan: &StagePlan<'_, G>,
+    shower: &mut Shower,
+) -> Result<(), AllocError>
+    requires some { (count ≤ moves_left (run_of V.moves anneal.old) anneal.old.standing) × (0 < moves_left (run_of V.moves anneal.old) anneal.old.standing) }
+    requires own { shower.old.dial ≡ plan.now.dial.now }
+    requires limits { (1 ≤ plan.now.batch) × (plan.now.batch ≤ 4096) × (1 ≤ plan.now.workers) × (plan.now.workers ≤ 64) }
+    ensures made { IsMadeAlone V.moves plan.now.batch count anneal.old anneal.new result shower.old.shown shower.new.shown }
+    ensures dial { shower.new.dial ≡ shower.old.dial }
+{
+    if ahead && count > 0 {
+        return anneal.make_beside(rt, count, plan, shower);
+    }
+    anneal.make_alone(rt, count, plan.batch, plan.gate, plan.dial, shower)
+}
+
+/// Makes the next `count` moves of the running stage, fewer than are left in it, as [`make_moves`] does.
 pub(crate) fn make_part<
-    'a,
-    V: Words + Sync + Drop,
+    V: Words + Send + Sync + Drop,
     K: Keeping,
     G: Gate,
-    J: Naming,
     R: Threads + Wait + Sync,
 >(
     rt: &R,
-    anneal: &mut Anneal<'a, V, K>,
+    anneal: &mut Anneal<'_, V, K>,
     count: u64,
-    batch: u64,
     ahead: bool,
-    workers: &mut Workers<'a, '_, V, G, J>,
-    dial: &Dial,
+    plan: &StagePlan<'_, G>,
     shower: &mut Shower,
 ) -> Result<(), AllocError>
     requires part { count < moves_left (run_of V.moves anneal.old) anneal.old.standing }
-    requires own { shower.old.dial ≡ dial.now }
-    requires limits { (1 ≤ batch) × (batch ≤ 4096) }
+    requires own { shower.old.dial ≡ plan.now.dial.now }
+    requires limits { (1 ≤ plan.now.batch) × (plan.now.batch ≤ 4096) × (1 ≤ plan.now.workers) × (plan.now.workers ≤ 64) }
     ensures same { IsSameRun anneal.old anneal.new }
     ensures done { OnOk result (anneal.new.standing.done ≡ anneal.old.standing.done + count) }
     ensures stands { OnOk result (anneal.new.standing ≡ from (run_of V.moves anneal.old) anneal.old.standing count) }
     ensures accepted { OnOk result (anneal.new.accepted ≡ anneal.old.accepted ++ accepted_among (run_of V.moves anneal.old) anneal.old.standing count) }
-    ensures counted { OnOk result (AreCountedOn (run_of V.moves anneal.old) batch anneal.old anneal.new) }
+    ensures counted { OnOk result (AreCountedOn (run_of V.moves anneal.old) plan.now.batch anneal.old anneal.new) }
     ensures dial { shower.new.dial ≡ shower.old.dial }
-    ensures shown { OnOk result (EndsShown (run_of V.moves anneal.old) batch anneal.old.standing anneal.new.standing shower.old.shown shower.new.shown) }
-    ensures shown_cut { OnErr result (LeadsShownWithin (run_of V.moves anneal.old) batch anneal.old.standing count shower.old.shown shower.new.shown) }
+    ensures shown { OnOk result (EndsShown (run_of V.moves anneal.old) plan.now.batch anneal.old.standing anneal.new.standing shower.old.shown shower.new.shown) }
+    ensures shown_cut { OnErr result (LeadsShownWithin (run_of V.moves anneal.old) plan.now.batch anneal.old.standing count shower.old.shown shower.new.shown) }
 {
-    if !ahead {
-        return anneal.make_alone(rt, count, batch, workers.gate(), dial, shower);
-    }
-    let mut made = 0;
-    while batch <= count - made {
-        let before = anneal.done();
-        anneal.turn_shown_by(rt, batch, workers, dial, shower)?;
-        made += anneal.done() - before;
-    }
-    if made == count {
-        return Ok(());
-    }
-    anneal.turn_shown_by(rt, count - made, workers, dial, shower)?;
-    Ok(())
+    make_moves(rt, anneal, count, ahead, plan, shower)
 }
 
-/// Makes the `left` moves that are left in the running stage, in turns of one batch, whose moves are judged ahead.
-fn make_turns<'a, V: Words + Sync + Drop, K: Keeping, G: Gate, J: Naming, R: Threads + Wait + Sync>(
-    rt: &R,
-    anneal: &mut Anneal<'a, V, K>,
-    left: u64,
-    batch: u64,
-    workers: &mut Workers<'a, '_, V, G, J>,
-    dial: &Dial,
-    shower: &mut Shower,
-) -> Result<(), AllocError>
-    requires left { left ≡ moves_left (run_of V.moves anneal.old) anneal.old.standing }
-    requires own { shower.old.dial ≡ dial.now }
-    requires limits { (1 ≤ batch) × (batch ≤ 4096) }
-    ensures same { IsSameRun anneal.old anneal.new }
-    ensures turns { OnOk result (LeadsByTurns (run_of V.moves anneal.old) batch anneal.old anneal.new) }
-    ensures stands { OnOk result (anneal.new.standing ≡ from (run_of V.moves anneal.old) anneal.old.standing left) }
-    ensures done { OnOk result (anneal.new.standing.done ≡ anneal.old.standing.done + left) }
-    ensures accepted { OnOk result (anneal.new.accepted ≡ anneal.old.accepted ++ accepted_among (run_of V.moves anneal.old) anneal.old.standing left) }
-    ensures dial { shower.new.dial ≡ shower.old.dial }
-    ensures shown { OnOk result (LeadsShown (run_of V.moves anneal.old) batch anneal.old.standing anneal.new.standing shower.old.shown shower.new.shown) }
-    ensures shown_cut { OnErr result (LeadsShownWithin (run_of V.moves anneal.old) batch anneal.old.standing left shower.old.shown shower.new.shown) }
-{
-    let mut made = 0;
-    while made < left {
-        let done = anneal.done();
-        anneal.turn_shown_by(rt, batch, workers, dial, shower)?;
-        made += anneal.done() - done;
-    }
-    Ok(())
-}
-
-/// Makes the `left` moves that are left in the running stage, in turns of one batch. They are judged ahead, or by the owner; the moves, their
-/// costs and how many count as judged again are the same.
+/// Makes the `left` moves that are left in the running stage, of which there are some, as [`make_moves`] does.
 pub(crate) fn make_rest<
-    'a,
-    V: Words + Sync + Drop,
+    V: Words + Send + Sync + Drop,
     K: Keeping,
     G: Gate,
-    J: Naming,
     R: Threads + Wait + Sync,
 >(
     rt: &R,
-    anneal: &mut Anneal<'a, V, K>,
+    anneal: &mut Anneal<'_, V, K>,
     left: u64,
-    batch: u64,
     ahead: bool,
-    workers: &mut Workers<'a, '_, V, G, J>,
-    dial: &Dial,
+    plan: &StagePlan<'_, G>,
     shower: &mut Shower,
 ) -> Result<(), AllocError>
-    requires left { left ≡ moves_left (run_of V.moves anneal.old) anneal.old.standing }
-    requires own { shower.old.dial ≡ dial.now }
-    requires limits { (1 ≤ batch) × (batch ≤ 4096) }
+    requires left { (left ≡ moves_left (run_of V.moves anneal.old) anneal.old.standing) × (0 < left) }
+    requires own { shower.old.dial ≡ plan.now.dial.now }
+    requires limits { (1 ≤ plan.now.batch) × (plan.now.batch ≤ 4096) × (1 ≤ plan.now.workers) × (plan.now.workers ≤ 64) }
     ensures same { IsSameRun anneal.old anneal.new }
-    ensures turns { OnOk result (LeadsByTurns (run_of V.moves anneal.old) batch anneal.old anneal.new) }
+    ensures turns { OnOk result (LeadsByTurns (run_of V.moves anneal.old) plan.now.batch anneal.old anneal.new) }
     ensures stands { OnOk result (anneal.new.standing ≡ from (run_of V.moves anneal.old) anneal.old.standing left) }
     ensures done { OnOk result (anneal.new.standing.done ≡ anneal.old.standing.done + left) }
     ensures accepted { OnOk result (anneal.new.accepted ≡ anneal.old.accepted ++ accepted_among (run_of V.moves anneal.old) anneal.old.standing left) }
     ensures dial { shower.new.dial ≡ shower.old.dial }
-    ensures shown { OnOk result (LeadsShown (run_of V.moves anneal.old) batch anneal.old.standing anneal.new.standing shower.old.shown shower.new.shown) }
-    ensures shown_cut { OnErr result (LeadsShownWithin (run_of V.moves anneal.old) batch anneal.old.standing left shower.old.shown shower.new.shown) }
+    ensures shown { OnOk result (LeadsShown (run_of V.moves anneal.old) plan.now.batch anneal.old.standing anneal.new.standing shower.old.shown shower.new.shown) }
+    ensures shown_cut { OnErr result (LeadsShownWithin (run_of V.moves anneal.old) plan.now.batch anneal.old.standing left shower.old.shown shower.new.shown) }
 {
-    if !ahead && 0 < left {
-        return anneal.finish_stage_alone(rt, batch, workers.gate(), dial, shower);
-    }
-    make_turns(rt, anneal, left, batch, workers, dial, shower)
+    make_moves(rt, anneal, left, ahead, plan, shower)
 }
 
 /// Makes the moves that are left in the running stage, in turns of one batch, and appends its cost to `costs`. Returns the report's line
 /// of the stage.
-fn end_stage<'a, V: Words + Sync + Drop, K: Keeping, G: Gate, J: Naming, R: Threads + Wait + Sync>(
+fn end_stage<V: Words + Send + Sync + Drop, K: Keeping, G: Gate, R: Threads + Wait + Sync>(
     rt: &R,
     alloc: Global,
-    anneal: &mut Anneal<'a, V, K>,
+    anneal: &mut Anneal<'_, V, K>,
     stage: Stage,
     moves: u64,
-    batch: u64,
     ahead: bool,
-    workers: &mut Workers<'a, '_, V, G, J>,
-    dial: &Dial,
+    plan: &StagePlan<'_, G>,
     shower: &mut Shower,
     costs: &mut Vec<u64>,
 ) -> Result<Vec<u8>, AllocError>
     requires stage { Some stage ≡ stage_of (run_of V.moves anneal.old) anneal.old.standing }
     requires moves { moves ≡ anneal.old.plan.moves }
     requires some { 1 ≤ moves }
-    requires own { shower.old.dial ≡ dial.now }
-    requires limits { (1 ≤ batch) × (batch ≤ 4096) }
+    requires own { shower.old.dial ≡ plan.now.dial.now }
+    requires limits { (1 ≤ plan.now.batch) × (plan.now.batch ≤ 4096) × (1 ≤ plan.now.workers) × (plan.now.workers ≤ 64) }
     ensures same { IsSameRun anneal.old anneal.new }
-    ensures turns { OnOk result (LeadsByTurns (run_of V.moves anneal.old) batch anneal.old anneal.new) }
+    ensures turns { OnOk result (LeadsByTurns (run_of V.moves anneal.old) plan.now.batch anneal.old anneal.new) }
     ensures stands { OnOk result (anneal.new.standing ≡ from (run_of V.moves anneal.old) anneal.old.standing (moves_left (run_of V.moves anneal.old) anneal.old.standing)) }
     ensures done { OnOk result (anneal.new.standing.done ≡ anneal.old.standing.done + moves_left (run_of V.moves anneal.old) anneal.old.standing) }
     ensures accepted { OnOk result (anneal.new.accepted ≡ anneal.old.accepted ++ accepted_among (run_of V.moves anneal.old) anneal.old.standing (moves_left (run_of V.moves anneal.old) anneal.old.standing)) }
     ensures costs { OnOk result (costs.new.items ≡ costs.old.items ++ stage_costs (run_of V.moves anneal.old) anneal.old.standing (moves_left (run_of V.moves anneal.old) anneal.old.standing)) }
     ensures line { IfOk result (λ v. v.items ≡ stage_lines (run_of V.moves anneal.old) anneal.old.standing (moves_left (run_of V.moves anneal.old) anneal.old.standing)) }
     ensures dial { shower.new.dial ≡ shower.old.dial }
-    ensures shown { OnOk result (LeadsShown (run_of V.moves anneal.old) batch anneal.old.standing anneal.new.standing shower.old.shown shower.new.shown) }
-    ensures shown_cut { OnErr result (LeadsShownWithin (run_of V.moves anneal.old) batch anneal.old.standing (moves_left (run_of V.moves anneal.old) anneal.old.standing) shower.old.shown shower.new.shown) }
+    ensures shown { OnOk result (LeadsShown (run_of V.moves anneal.old) plan.now.batch anneal.old.standing anneal.new.standing shower.old.shown shower.new.shown) }
+    ensures shown_cut { OnErr result (LeadsShownWithin (run_of V.moves anneal.old) plan.now.batch anneal.old.standing (moves_left (run_of V.moves anneal.old) anneal.old.standing) shower.old.shown shower.new.shown) }
 {
     let before = anneal.total();
     let _begun = anneal.done();
     let left = moves - stage.done;
-    make_rest(rt, anneal, left, batch, ahead, workers, dial, shower)?;
+    make_rest(rt, anneal, left, ahead, plan, shower)?;
     let _made = anneal.done();
     let cost = anneal.cost();
     let accepted = stage.accepted + (anneal.total() - before);
@@ -253,19 +219,17 @@ fn end_stage<'a, V: Words + Sync + Drop, K: Keeping, G: Gate, J: Naming, R: Thre
 
 /// Makes the moves of a piece, up to its stop or to the last move, and writes the line of each stage as it ends.
 pub(crate) fn anneal_all<
-    'a,
-    V: Words + Sync + Drop,
+    V: Words + Send + Sync + Drop,
     K: Keeping,
     G: Gate,
     W: Sink,
-    J: Naming,
     R: Threads + Wait + Sync,
 >(
     rt: &R,
     alloc: Global,
-    anneal: &mut Anneal<'a, V, K>,
+    anneal: &mut Anneal<'_, V, K>,
     pace: &Pace,
-    workers: &mut Workers<'a, '_, V, G, J>,
+    gate: &G,
     dial: &Dial,
     shower: &mut Shower,
     report: &mut W,
@@ -274,7 +238,7 @@ pub(crate) fn anneal_all<
     requires moves { pace.now.moves ≡ anneal.old.plan.moves }
     requires plan { IsLawful anneal.old.plan }
     requires own { shower.old.dial ≡ dial.now }
-    requires limits { (1 ≤ pace.now.batch) × (pace.now.batch ≤ 4096) }
+    requires limits { (1 ≤ pace.now.batch) × (pace.now.batch ≤ 4096) × (1 ≤ pace.now.workers) × (pace.now.workers ≤ 64) }
     ensures same { IsSameRun anneal.old anneal.new }
     ensures made { OnOk result (AreMade V.moves pace.now.stop pace.now.batch anneal.old anneal.new costs.old.items costs.new.items (W.contents report.old) (W.contents report.new)) }
     ensures cut { IfErr result (AreCut (run_of V.moves anneal.old) anneal.old.standing pace.now.stop (W.contents report.old) (W.contents report.new)) }
@@ -285,17 +249,21 @@ pub(crate) fn anneal_all<
     ensures shown_cut { OnErr result (AreShownBegun (run_of V.moves anneal.old) anneal.old.standing pace.now.stop pace.now.batch shower.old.shown shower.new.shown) }
 {
     let moves = pace.moves;
-    let does_nothing = workers.gate().does_nothing();
+    let does_nothing = gate.does_nothing();
     let blocks = anneal.placement().blocks();
+    let plan = StagePlan {
+        batch: pace.batch,
+        workers: pace.workers,
+        gate,
+        dial,
+    };
     while let Some(stage) = anneal.stage() {
         let ahead = is_judged_ahead(&stage, blocks, pace, does_nothing);
         if let Some(rest) = moves_before(pace.stop, anneal.done(), moves - stage.done) {
-            make_part(rt, anneal, rest, pace.batch, ahead, workers, dial, shower)?;
+            make_part(rt, anneal, rest, ahead, &plan, shower)?;
             return Ok(());
         }
-        let line = end_stage(
-            rt, alloc, anneal, stage, moves, pace.batch, ahead, workers, dial, shower, costs,
-        )?;
+        let line = end_stage(rt, alloc, anneal, stage, moves, ahead, &plan, shower, costs)?;
         write_whole(report, &line)?;
     }
     Ok(())

@@ -468,7 +468,7 @@ fn many_runs_end_with_a_crew_and_without(rt: HostRuntime) -> Result<(), Fail> {
     Ok(())
 }
 
-// The seven blocks on an array so large that the older placement follows after each turn of a stage that the owner makes alone.
+// The seven blocks on a large array, in stages of a few moves.
 const SPARSE: Options = Options {
     size: Some((60, 60)),
     init_t: 4_000_000,
@@ -490,10 +490,9 @@ fn many_runs_end_with_short_stages_on_a_large_array(rt: HostRuntime) -> Result<(
     Ok(())
 }
 
-// The owner makes the first stage of a large design alone, for so long that the crew sleeps. Then the crew judges the frozen stage, whole or up
-// to a stop.
+// The owner makes the first stage of a large design alone. Then a crew is founded for the frozen stage, and judges it whole or up to a stop.
 #[test]
-fn a_crew_that_slept_judges_a_cold_stage(rt: HostRuntime) -> Result<(), Fail> {
+fn a_crew_judges_a_cold_stage_behind_a_long_one(rt: HostRuntime) -> Result<(), Fail> {
     let net = ring(rt.alloc(), 40_000)?;
     let inputs = ring_of(&net);
     for stop in [Some(100_700), None] {

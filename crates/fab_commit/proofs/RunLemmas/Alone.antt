@@ -8,10 +8,9 @@ use Rattle.fab_commit.specs.declared.run.alone.Ahead.{Ahead}
 use Rattle.fab_commit.specs.declared.run.owner.Owner.{Owner}
 use Rattle.fab_commit.specs.declared.run.state.State.{State}
 use Rattle.fab_commit.specs.Serial.{Run, Standing, accepted_among, from, judged_here, moves_left, one_if}
-use Rattle.fab_commit.specs.Run.Alone.{AreMadeAlone, AreOpen, HasGone, HaveGone, HaveStopped, IsAlone, IsFollowed, is_touched_here}
+use Rattle.fab_commit.specs.Run.Alone.{AreMadeAlone, AreOpen, HasGone, HaveGone, HaveStopped, IsAlone, IsUnjudged, is_touched_here}
 use Rattle.fab_commit.specs.Run.Pipelines.{HasTurn, IsBehind}
 use Rattle.fab_commit.specs.declared.run.pipeline.Pipeline.{Pipeline}
-use Rattle.std.specs.Arc.{arc_value}
 use Rattle.fab_commit.specs.Run.Commits.{IsSound, standing_of}
 use Rattle.fab_commit.specs.Run.Noted.{noted, noted_more}
 use Rattle.fab_commit.specs.Run.Owners.{HasMade, IsOwned, Leads, since}
@@ -308,6 +307,10 @@ have_stopped r batch t o mid now ahead due n made first second =
       redone = omega (arith, was, more);
     }
 
+-- memory ran out before the first turn
+pub stopped_at_once : (r : Run) (batch : ℕ) (t : LastTurn) (o now : Owner) (ahead due : Ahead) → IsAlone r t o ahead → HasGone r t o 0 0 now due → HaveStopped r batch t o 0 0 now due
+stopped_at_once r batch t o now ahead due alone gone = have_stopped r batch t o o now ahead due 0 0 (none_gone r batch t o ahead alone) gone
+
 -- the owner of what is kept after a turn
 pub alone_behind : (r : Run) (t : LastTurn) (s : Pipeline) (ahead : Ahead) → IsBehind r t s → ahead.base ≡ s.base → ahead.moves ≡ length s.ahead.items → IsAlone r t s.owner ahead
 alone_behind r t s ahead b base many = record {
@@ -325,15 +328,12 @@ alone_behind r t s ahead b base many = record {
   recent = b.recent;
 }
 
--- what is kept where the older state has followed the owner
-pub behind_alone : (r : Run) (u : LastTurn) (now : Pipeline) (due : Ahead) → IsAlone r u now.owner due → due.moves ≡ 0 → now.ahead.items ≡ [] → IsSound r (arc_value now.older)
-    → standing_of (arc_value now.older) ≡ standing_of now.owner.state → now.base ≡ due.base → IsBehind r u now
-behind_alone r u now due alone none empty sound same base = record {
+-- what is kept where nothing is judged ahead
+pub behind_alone : (r : Run) (u : LastTurn) (now : Pipeline) (due : Ahead) → IsAlone r u now.owner due → due.moves ≡ 0 → now.ahead.items ≡ [] → now.base ≡ due.base → IsBehind r u now
+behind_alone r u now due alone none empty base = record {
   plan = alone.plan;
   stage = alone.stage;
   owned = alone.owned;
-  older = sound;
-  same = same;
   here = alone.here;
   done_is = alone.done_is;
   base_is = base ∙ alone.base_is;
@@ -354,6 +354,6 @@ sound_alone r batch count t o ahead now due (Err e) old new alone made = (made.s
 
 -- what is kept after moves that the owner made alone
 pub left_alone : {A : Type 0} (r : Run) (batch count : ℕ) (t : LastTurn) (o : Owner) (ahead : Ahead) (now : Pipeline) (due : Ahead) (answer : Result A AllocError) (old new : List Reading) → IsAlone r t o ahead
-    → AreMadeAlone r batch count o ahead now.owner due answer old new → IsFollowed r now due → HasTurn r now
-left_alone r batch count t o ahead now due (Ok v) old new alone made f = (let h = made.ended t alone in (_, behind_alone r _ now due h.alone made.none f.ahead f.older f.same f.base))
-left_alone r batch count t o ahead now due (Err e) old new alone made f = (let h = made.stopped t alone in (_, behind_alone r _ now due h.3.alone made.none f.ahead f.older f.same f.base))
+    → AreMadeAlone r batch count o ahead now.owner due answer old new → IsUnjudged now due → HasTurn r now
+left_alone r batch count t o ahead now due (Ok v) old new alone made f = (let h = made.ended t alone in (_, behind_alone r _ now due h.alone made.none f.ahead f.base))
+left_alone r batch count t o ahead now due (Err e) old new alone made f = (let h = made.stopped t alone in (_, behind_alone r _ now due h.3.alone made.none f.ahead f.base))

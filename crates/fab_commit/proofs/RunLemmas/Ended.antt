@@ -8,7 +8,7 @@ use Rattle.fab_commit.specs.declared.run.owner.Owner.{Owner}
 use Rattle.fab_commit.specs.declared.run.pipeline.Pipeline.{Pipeline}
 use Rattle.fab_commit.specs.declared.run.state.Given.{Given}
 use Rattle.fab_commit.specs.Serial.{Run, Standing, from, moves_left}
-use Rattle.fab_commit.specs.Run.Alone.{AreMadeAlone, HaveEnded, IsAlone, IsFollowed, IsMadeAlone, redone_in, unjudged, with_shorter}
+use Rattle.fab_commit.specs.Run.Alone.{AreMadeAlone, HaveEnded, IsAlone, IsUnjudged, IsMadeAlone, redone_in, unjudged, with_shorter}
 use Rattle.fab_commit.specs.Run.ByTurns.{IsByTurns}
 use Rattle.fab_commit.specs.Run.Commits.{AnnealOf, run_for, standing_of, world_of}
 use Rattle.fab_commit.specs.Run.Owners.{verdict_of}
@@ -79,7 +79,7 @@ counted_part r batch t o now due count a x pos stage here again h by =
 
 pub made_alone : {W A : Type 0} (moves : W → ℕ → List ℕ) (given : Given W) (z : Standing) (batch count : ℕ) (s now : Pipeline) (t : LastTurn) (ahead due : Ahead) (answer : Result A AllocError) (old new : List Reading) → IsBehind (run_for moves given) t s
     → z.done ≤ s.owner.state.done → standing_of s.owner.state ≡ from (run_for moves given) z (s.owner.state.done - z.done)
-    → IsAlone (run_for moves given) t s.owner ahead → AreMadeAlone (run_for moves given) batch count s.owner ahead now.owner due answer old new → IsFollowed (run_for moves given) now due
+    → IsAlone (run_for moves given) t s.owner ahead → AreMadeAlone (run_for moves given) batch count s.owner ahead now.owner due answer old new → IsUnjudged now due
     → IsMadeAlone moves batch count (seen moves given z s) (seen moves given z now) answer old new
 made_alone moves given z batch count s now t ahead due (Ok v) old new b after here alone made f =
     let r = run_for moves given in
@@ -87,7 +87,7 @@ made_alone moves given z batch count s now t ahead due (Ok v) old new b after he
     let h = made.ended t alone in
     let n = h.turns in
     let u = last_turn r t (with_shorter n batch h.short) in
-    let behind = behind_alone r (unjudged u) now due h.alone made.none f.ahead f.older f.same f.base in
+    let behind = behind_alone r (unjudged u) now due h.alone made.none f.ahead f.base in
     let done = h.done in
     let some : count ≡ now.owner.state.done - s.owner.state.done = omega (arith, done) in
     record {
@@ -123,7 +123,7 @@ made_alone moves given z batch count s now t ahead due (Err e) old new b after h
     let few = h.2 in
     let h = h.3 in
     let u = last_turn r t (replicate n batch) in
-    let behind = behind_alone r (cut_turn r 0 u) now due h.alone made.none f.ahead f.older f.same f.base in
+    let behind = behind_alone r (cut_turn r 0 u) now due h.alone made.none f.ahead f.base in
     let done = h.done in
     let some : (made.stopped t alone).1 ≡ now.owner.state.done - s.owner.state.done = omega (arith, done) in
     let zero = none_redone r u in

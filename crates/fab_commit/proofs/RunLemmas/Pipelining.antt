@@ -1,8 +1,7 @@
 -- Turns on two placements: what is judged, committed and caught up leads from the end of one turn to the end of the next.
 use Rattle.std.proofs.Common.{◌≡◌, ℕ, zero, suc, ◌+◌, ◌-◌, ◌<◌, ◌≤◌, min, Bool, true, false, cond, take, inl, inr, Result, Ok, Err, IfOk, List, [], ◌∷◌, ◌++◌, length, map, get_or, refl, sym, ap, subst, ◌∙◌, arith}
-use Rattle.std.specs.Arc.{arc_value}
 use Rattle.std.specs.List.{count_by, filter, range_with_len}
-use Rattle.std.proofs.lemmas.List.{ext_get_or, get_or-map, get_or-take, length-map, length-take}
+use Rattle.std.proofs.lemmas.List.{ext_get_or, get_or-map, get_or-take, get_or_append_left, get_or_push, length-map, length-take}
 use Rattle.std.proofs.lemmas.List.Sums.{sum_by-append}
 use Rattle.std.proofs.lemmas.Bool.{cases_lt, le-ltb, lt-ltb}
 use Rattle.std.specs.Prelude.{nat_lt}
@@ -11,7 +10,8 @@ use Rattle.fab_commit.specs.declared.run.owner.Owner.{Owner}
 use Rattle.fab_commit.specs.declared.run.pipeline.Pipeline.{Pipeline}
 use Rattle.fab_commit.specs.declared.run.state.State.{State}
 use Rattle.fab_commit.specs.Serial.{Run, Standing, accepted_among, from, moves_left, one_if}
-use Rattle.fab_commit.specs.Run.Commits.{IsSound, standing_of}
+use Rattle.fab_commit.specs.Run.Alone.{AreOpen}
+use Rattle.fab_commit.specs.Run.Commits.{standing_of}
 use Rattle.fab_commit.specs.Model.History.{accepted_from, is_redone}
 use Rattle.fab_commit.specs.Run.Noted.{noted, noted_more}
 use Rattle.fab_commit.specs.Run.Owners.{AreAnswers, AreDue, HasCounted, HasMade, IsOwned, KeepsKind, redone_of_both, since, verdict_of}
@@ -46,22 +46,31 @@ answers_from r x k n answers long each = record { are = by_each answers each lon
         ∙ ap (verdict_on r x) (sym (get_range k (length all) i (omega (arith, l, one))))
         ∙ sym (get_or-map (verdict_on r x) (range_with_len k (length all)) i 0 (verdict_on r x 0) (omega (arith, l, one, many))))
 
+-- one answer more
+pub each_pushed : (r : Run) (x : Standing) (k n : ℕ) (xs ys : List Answer) (a : Answer) → ys ≡ xs ++ a ∷ [] → length xs ≡ n → ((j : ℕ) (d : Answer) → j < n → IsAnswer r x (k + j) (get_or xs j d)) → IsAnswer r x (k + n) a
+    → (j : ℕ) (d : Answer) → j < n + 1 → IsAnswer r x (k + j) (get_or ys j d)
+each_pushed r x k n xs ys a is long each last j d l = elim (cases_lt j n) [
+  | inl low ↦ subst (IsAnswer r x (k + j)) (sym (ap (λ (zs : List Answer). get_or zs j d) is ∙ get_or_append_left xs (a ∷ []) d j (omega (arith, low, long)))) (each j d low)
+  | inr high ↦ (let e : n ≡ j = omega (arith, high, l) in subst (λ i. IsAnswer r x (k + i) (get_or ys i d)) e (subst (IsAnswer r x (k + n)) (sym (ap (λ (zs : List Answer). get_or zs n d) is ∙ get_or_push xs a d n long)) last))
+]
+
 pub no_answers : (r : Run) (x : Standing) (k : ℕ) (answers : List Answer) → answers ≡ [] → AreAnswers r x k answers
 no_answers r x k answers e = subst (AreAnswers r x k) (sym e) (answers_from r x k 0 [] refl (λ j d l. absurd (omega (arith, l))))
 
--- these are due from the owner's standing before
-pub record IsDueNext (r : Run) (o mid : Owner) (missing : List Answer) : Type 0 where
-  pub due : AreDue r mid o.state.done missing
+-- these are open from the owner's standing before
+pub record IsOpenNext (r : Run) (o mid : Owner) (n : ℕ) : Type 0 where
+  pub due : AreOpen r mid o.state.done n
   pub is : due.start ≡ standing_of o.state
 
--- the answers of the turn's start, once those of before are committed
-pub due_next : (r : Run) (o mid : Owner) (base : ℕ) (ahead missing : List Answer) → AreDue r o base ahead → HasMade r o (length ahead) mid
-    → AreAnswers r (standing_of o.state) (o.state.done + length ahead) missing → length ahead + length missing ≤ moves_left r (standing_of o.state)
-    → IsDueNext r o mid missing
-due_next r o mid base ahead missing due made are left =
+-- the moves that count as judged at the turn's start, once those judged before are committed
+pub open_next : (r : Run) (o mid : Owner) (base : ℕ) (ahead : List Answer) (n : ℕ) → AreDue r o base ahead → HasMade r o (mid.state.done - o.state.done) mid → mid.state.done ≡ o.state.done + length ahead
+    → length ahead + n ≤ moves_left r (standing_of o.state) → IsOpenNext r o mid n
+open_next r o mid base ahead n due first ok left =
     let y = standing_of o.state in
+    let all : mid.state.done - o.state.done ≡ length ahead = omega (arith, ok) in
+    let made : HasMade r o (length ahead) mid = subst (λ k. HasMade r o k mid) all first in
     let done = made.done in
-    let next : AreDue r mid o.state.done missing = record {
+    let next : AreOpen r mid o.state.done n = record {
       start = y;
       made = length ahead;
       log = due.log ++ accepted_from r y (length ahead);
@@ -69,7 +78,6 @@ due_next r o mid base ahead missing due made are left =
       base_is = refl;
       done_is = done;
       stage = left;
-      answers_are = subst (λ k. AreAnswers r y k missing) (sym done) are;
       stamps = made.stamps due.log due.before due.stamps;
       before = subst (λ k. AreBefore k (due.log ++ accepted_from r y (length ahead))) (sym done) (before_on r y due.log (length ahead) due.before);
       recent = recent_after r y due.log (length ahead) due.before;
@@ -246,8 +254,6 @@ pub record IsMadeOf (r : Run) (s : Pipeline) (o : Owner) (n ahead : ℕ) (now : 
   pub stamps : o.stamps ≡ s.owner.stamps
   pub redone : o.redone ≡ s.owner.redone
   pub made : HasMade r o n now.owner
-  pub older : IsSound r (arc_value now.older)
-  pub same : standing_of (arc_value now.older) ≡ standing_of now.owner.state
   pub base_is : now.base ≡ s.owner.state.done
   pub many : length now.ahead.items ≡ ahead
   pub answers_are : AreAnswers r (standing_of s.owner.state) now.owner.state.done now.ahead.items
@@ -276,8 +282,6 @@ turned r t s now o moves n ahead kept b m low list counted =
         plan = b.plan;
         stage = subst (λ v. n + ahead ≤ moves_left r v) b.here m.left;
         owned = m.made.owned;
-        older = m.older;
-        same = m.same;
         here = m.made.stands ∙ ap (λ v. from r v n) here;
         done_is = done_y;
         base_is = m.base_is ∙ there;
@@ -303,26 +307,29 @@ pub record AreBoth (r : Run) (o : Owner) (base : ℕ) (ahead : List Answer) (now
   pub made : HasMade r o (now.state.done - o.state.done) now
   pub redone : HasCounted r o base ahead now
 
--- the second part is due where the first was committed
-pub due_second : (r : Run) (o mid : Owner) (base : ℕ) (ahead missing : List Answer) → AreAnswers r (standing_of o.state) (o.state.done + length ahead) missing
-    → length ahead + length missing ≤ moves_left r (standing_of o.state) → HasMade r o (mid.state.done - o.state.done) mid → mid.state.done ≡ o.state.done + length ahead
-    → AreDue r o base ahead → IsDueNext r o mid missing
-due_second r o mid base ahead missing answers left first ok due =
-    let n : mid.state.done - o.state.done ≡ length ahead = omega (arith, ok) in
-    due_next r o mid base ahead missing due (subst (λ k. HasMade r o k mid) n first) answers left
-
-pub both_made : (r : Run) (o found mid now : Owner) (base : ℕ) (ahead missing : List Answer) → HasMade r o 0 found → found.stamps ≡ o.stamps → found.redone ≡ o.redone
-    → (AreDue r found base ahead → IsDueNext r found mid missing)
+pub both_made : (r : Run) (o found mid now : Owner) (base : ℕ) (ahead : List Answer) (n : ℕ) → HasMade r o 0 found → found.stamps ≡ o.stamps → found.redone ≡ o.redone
+    → (AreDue r found base ahead → IsOpenNext r found mid n)
     → HasMade r found (mid.state.done - found.state.done) mid → mid.state.done ≡ found.state.done + length ahead
     → ((due : AreDue r found base ahead) → mid.redone ≡ found.redone + count_by (is_redone r due.start base) (range_with_len found.state.done (mid.state.done - found.state.done)))
-    → HasMade r mid (now.state.done - mid.state.done) now → now.state.done ≡ mid.state.done + length missing
-    → ((due : AreDue r mid found.state.done missing) → now.redone ≡ mid.redone + count_by (is_redone r due.start found.state.done) (range_with_len mid.state.done (now.state.done - mid.state.done)))
+    → HasMade r mid n now
+    → ((due : AreOpen r mid found.state.done n) → now.redone ≡ mid.redone + count_by (is_redone r due.start found.state.done) (range_with_len mid.state.done n))
     → AreBoth r o base ahead now
-both_made r o found mid now base ahead missing room stamps same second first ok counted last more then = record {
-  made = made_after r o found now room (made_both r found mid now first last);
-  redone = counted_after r o found now base ahead room stamps same (record {
-    redone = λ due.
-        let next = second due in
-        redone_then r found mid now base (length ahead) due.start next.due.start next.is due.base_is ok (omega (arith, more)) (counted due) (then next.due);
-  });
-}
+both_made r o found mid now base ahead n room stamps same second first ok counted last then =
+    let more = last.done in
+    let rest : n ≡ now.state.done - mid.state.done = omega (arith, more) in
+    record {
+      made = made_after r o found now room (made_both r found mid now first (subst (λ k. HasMade r mid k now) rest last));
+      redone = counted_after r o found now base ahead room stamps same (record {
+        redone = λ due.
+            let next = second due in
+            redone_then r found mid now base (length ahead) due.start next.due.start next.is due.base_is ok (omega (arith, more)) (counted due)
+            (subst (λ k. now.redone ≡ mid.redone + count_by (is_redone r next.due.start found.state.done) (range_with_len mid.state.done k)) rest (then next.due));
+      });
+    }
+
+-- what comes after the moves that were judged ahead, where room for all was reserved first
+pub open_after : (r : Run) (o found mid : Owner) (base : ℕ) (ahead : List Answer) (k moves next : ℕ) → AreDue r o base ahead → HasMade r o 0 found → found.stamps ≡ o.stamps → standing_of found.state ≡ standing_of o.state
+    → HasMade r found (mid.state.done - found.state.done) mid → mid.state.done ≡ found.state.done + length ahead → k ≡ length ahead → k ≤ moves → moves + next ≤ moves_left r (standing_of o.state) → IsOpenNext r found mid (moves - k)
+open_after r o found mid base ahead k moves next due room stamps stands first ok long fits all =
+    let same : moves_left r (standing_of found.state) ≡ moves_left r (standing_of o.state) = ap (moves_left r) stands in
+    open_next r found mid base ahead (moves - k) (due_same r o found base ahead due room stamps) first ok (omega (arith, long, fits, all, same))

@@ -121,8 +121,6 @@ forgets r t s now is b = subst (IsBehind r t) (sym is) (record {
     table = b.owned.table;
     counted = b.owned.counted;
   };
-  older = b.older;
-  same = b.same;
   here = b.here;
   done_is = b.done_is;
   base_is = b.base_is;

@@ -1,8 +1,8 @@
--- An owner that judges its moves itself, on the live placement, as contracts see it (our own).
+-- Moves of a stage that an owner makes by turns, alone or beside a crew, as contracts see them (our own). The count of moves judged again is
+-- that of the turns of the batch in both cases, so one set of definitions serves both; their names are those of the owner alone.
 use Rattle.std.specs.Prelude.{ℕ, ◌≡◌, zero, suc, ◌+◌, ◌-◌, ◌<◌, ◌≤◌, nat_lt, Bool, List, [], ◌∷◌, ◌++◌, length, replicate, slice_index_or, Result, OnOk, OnErr}
 use Rattle.std.specs.List.{count_by, filter, list_any, range_with_len}
 use Rattle.std.specs.declared.alloc.AllocError.{AllocError}
-use Rattle.std.specs.Arc.{arc_value}
 use Rattle.fab_dial.specs.declared.readings.Reading.{Reading}
 use Rattle.fab_sched.specs.Annealing.{IsLawful}
 use Rattle.fab_commit.specs.declared.run.alone.Ahead.{Ahead}
@@ -10,7 +10,7 @@ use Rattle.fab_commit.specs.declared.run.owner.Owner.{Owner}
 use Rattle.fab_commit.specs.declared.run.swaps.Accepted.{Accepted}
 use Rattle.fab_commit.specs.Serial.{Run, Standing, accepted_among, from, judged_here, moves_left}
 use Rattle.fab_commit.specs.Run.ByTurns.{IsByTurns, LeadsByTurns}
-use Rattle.fab_commit.specs.Run.Commits.{AnnealOf, IsSameRun, IsSound, run_of, standing_of, world_of}
+use Rattle.fab_commit.specs.Run.Commits.{AnnealOf, IsSameRun, run_of, standing_of, world_of}
 use Rattle.fab_commit.specs.Run.Noted.{noted, noted_more}
 use Rattle.fab_commit.specs.Run.Owners.{IsOwned, since}
 use Rattle.fab_commit.specs.declared.run.pipeline.Pipeline.{Pipeline}
@@ -113,8 +113,8 @@ LeadsTo r batch x y old new = (z : Standing) (before : List Reading) → HasShow
 abbrev pub EndsAt : Run → ℕ → Standing → Standing → List Reading → List Reading → Type 0
 EndsAt r batch x y old new = (z : Standing) (before : List Reading) → HasShown r batch z before x old → new ≡ before ++ readings r z batch (y.done - z.done)
 
--- an owner made `count` moves alone, in turns of this batch, of which the last may be shorter; or memory ran out after some turns. Nothing
--- counts as judged ahead
+-- an owner made `count` moves, alone or beside a crew, in turns of this batch, of which the last may be shorter; or memory ran out after some
+-- turns. Nothing counts as judged ahead
 pub record AreMadeAlone {A : Type 0} (r : Run) (batch count : ℕ) (o : Owner) (ahead : Ahead) (now : Owner) (due : Ahead) (answer : Result A AllocError) (old new : List Reading) : Type 0 where
   pub none : due.moves ≡ 0
   pub ended : OnOk answer ((t : LastTurn) → IsAlone r t o ahead → HaveEnded r batch t o count now due)
@@ -123,10 +123,8 @@ pub record AreMadeAlone {A : Type 0} (r : Run) (batch count : ℕ) (o : Owner) (
   pub ends : OnOk answer (EndsAt r batch (standing_of o.state) (standing_of now.state) old new)
   pub cut : OnErr answer (LeadsTo r batch (standing_of o.state) (standing_of now.state) old new)
 
--- the older placement is the live one again, and nothing is judged ahead
-pub record IsFollowed (r : Run) (now : Pipeline) (due : Ahead) : Type 0 where
-  pub older : IsSound r (arc_value now.older)
-  pub same : standing_of (arc_value now.older) ≡ standing_of now.owner.state
+-- nothing is judged ahead
+pub record IsUnjudged (now : Pipeline) (due : Ahead) : Type 0 where
   pub base : now.base ≡ due.base
   pub ahead : now.ahead.items ≡ []
 
@@ -135,8 +133,8 @@ abbrev pub redone_in : Run → World → List ℕ → ℕ
 redone_in r w [] = 0
 redone_in r w (batch ∷ batches) = count_by is_redone_way (ways r w (turn_events r batch w)) + redone_in r (turn r batch w) batches
 
--- an annealer made `count` moves of its stage alone, in turns of this batch, of which the last may be shorter, and showed each turn; or memory
--- ran out after some turns
+-- an annealer made `count` moves of its stage, alone or beside a crew, in turns of this batch, of which the last may be shorter, and showed
+-- each turn; or memory ran out after some turns
 pub record IsMadeAlone {W A : Type 0} (moves : W → ℕ → List ℕ) (batch count : ℕ) (a b : AnnealOf W) (answer : Result A AllocError) (old new : List Reading) : Type 0 where
   -- What the run is given stays the same.
   pub same : IsSameRun a b

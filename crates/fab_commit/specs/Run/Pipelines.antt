@@ -1,14 +1,13 @@
 -- What an annealer that judges ahead keeps, as contracts see it (our own).
 use Rattle.std.specs.Prelude.{ℕ, ◌≡◌, ◌+◌, ◌-◌, ◌<◌, ◌≤◌, min, List, [], length, map, Result, OnOk, OnErr}
 use Rattle.std.specs.declared.alloc.AllocError.{AllocError}
-use Rattle.std.specs.Arc.{arc_value}
 use Rattle.std.specs.List.{count_by, filter, range_with_len}
 use Rattle.fab_sched.specs.Annealing.{IsLawful}
 use Rattle.fab_move.specs.declared.verdicts.Verdict.{Verdict as Answer}
 use Rattle.fab_commit.specs.declared.run.pipeline.Pipeline.{Pipeline}
 use Rattle.fab_commit.specs.declared.run.swaps.Accepted.{Accepted}
 use Rattle.fab_commit.specs.Serial.{Run, Standing, accepted_among, moves_left}
-use Rattle.fab_commit.specs.Run.Commits.{IsSound, standing_of}
+use Rattle.fab_commit.specs.Run.Commits.{standing_of}
 use Rattle.fab_commit.specs.Model.History.{accepted_from}
 use Rattle.fab_commit.specs.Run.Noted.{noted, noted_more}
 use Rattle.fab_commit.specs.Run.Owners.{AreAnswers, IsOwned, KeepsKind, since, verdict_of}
@@ -22,14 +21,12 @@ pub record IsAnswer (r : Run) (x : Standing) (k : ℕ) (a : Answer) : Type 0 whe
   pub is : verdict_of x.done a ≡ verdict_on r x k
   pub kind : KeepsKind r.problem.grid a
 
--- what is kept after turn t: both placements are where it led, the moves after it were judged ahead on the placement at its start,
--- and the stamps are those of a list of accepted moves whose part from the turn's start on is the turn's
+-- what is kept after turn t: the placement is where it led, the moves after it were judged ahead on the placement at its start, and the
+-- stamps are those of a list of accepted moves whose part from the turn's start on is the turn's
 pub record IsBehind (r : Run) (t : LastTurn) (s : Pipeline) : Type 0 where
   pub plan : IsLawful r.plan
   pub stage : IsOfAStage r t
   pub owned : IsOwned r s.owner
-  pub older : IsSound r (arc_value s.older)
-  pub same : standing_of (arc_value s.older) ≡ standing_of s.owner.state
   pub here : standing_of s.owner.state ≡ stands r t
   pub done_is : s.owner.state.done ≡ t.start.done + t.made
   pub base_is : s.base ≡ t.start.done

@@ -12,18 +12,18 @@ ghost use Rattle.fab_commit.specs.Run.Alone.{IsMadeAlone};
 ghost use Rattle.fab_commit.specs.Run.Commits.{IsSound, run, run_for, run_of, standing_of, turn_of};
 ghost use Rattle.fab_commit.specs.Run.Noted.{noted};
 ghost use Rattle.fab_commit.specs.Run.Points.{IsPoint, TellsPoint, going_on, standing_at};
-ghost use Rattle.fab_commit.specs.Run.Readings.{IsShown, reading_at};
-ghost use Rattle.fab_commit.specs.Run.Turned.{IsTurned};
+ghost use Rattle.fab_commit.specs.Run.Readings.{reading_at};
 
-use crate::run::alone::{AlonePlan, finish_alone, is_short};
+use crate::run::behind::Behind;
+use crate::run::beside::{StagePlan, finish_beside};
 use crate::run::keeping::{Keeping, KeepsNumbers};
-use crate::run::pipeline::{Pipeline, first_pipeline, make_turn};
+use crate::run::pipeline::{Pipeline, first_pipeline};
 use crate::run::point::{Point, point_of};
+use crate::run::stage::{MovesPlan, finish_alone};
 use crate::run::state::{Given, State, first_state, moves_left, running, state_at};
 use crate::run::turn::Turn;
-use crate::run::workers::Workers;
 use fab_arch::Grid;
-use fab_board::{Gate, Naming};
+use fab_board::Gate;
 use fab_cost::WireCost;
 use fab_dial::{Dial, Reading, Shower};
 use fab_move::Verdict;
@@ -31,7 +31,7 @@ use fab_net::Design;
 use fab_sched::{Schedule, Stage};
 use fab_site::{Fixed, Placement, Words};
 use std::alloc::{AllocError, Global};
-use std::marker::{Model, PhantomData};
+use std::marker::{Brand, Model, PhantomData};
 use std::snapshot::Snapshot;
 use std::sync::{Arc, Wait};
 use std::thread::Threads;
@@ -383,36 +383,47 @@ impl<'a, W: Words + Drop, K: Keeping> Anneal<'a, W, K> {
         ensures dial { shower.new.dial ≡ shower.old.dial }
     {
         let given: &Given<'_, W> = &self.given;
-        let plan = AlonePlan {
+        let plan = MovesPlan {
             batch,
             count,
-            each: is_short(given, count),
             gate,
             dial,
         };
-        finish_alone(rt, given, &mut self.pipeline, &plan, shower)
+        finish_alone::<W, G, Behind<'_, '_, W, G>, Brand, R>(
+            rt,
+            given,
+            &mut self.pipeline,
+            &plan,
+            shower,
+        )
     }
 }
 
-impl<'a, W: Words + Sync + Drop, K: Keeping> Anneal<'a, W, K> {
-    /// Makes a turn as [`Anneal::turn_shown`] does, with workers that stay for the next turn.
-    pub fn turn_shown_by<'g, G: Gate, J: Naming, R: Threads + Wait + Sync>(
+impl<'a, W: Words + Send + Sync + Drop, K: Keeping> Anneal<'a, W, K> {
+    /// Makes the next `count` moves of the running stage as [`Anneal::make_alone`] does, while the plan's workers, from 1 to 64, judge moves
+    /// ahead, up to a batch of the stage behind the last of these. They are founded for these moves, each with a copy of the placement and its
+    /// boxes, and have ended when this returns. If there is no memory for them and the gate says that it does nothing, or if the system starts
+    /// no thread, the calling thread makes the moves alone. By contract the shower is one of the plan's dial.
+    ///
+    /// The gate is called before and after the first judgement of each move, by whichever thread judges it, and before its commit, which comes
+    /// before a move is judged again. If the gate says that it does nothing, a worker judges some moves in a row; else it judges one, and asks
+    /// for its words between the calls before and after the judgement, and then takes another. For want of memory for the workers no move is
+    /// made then, and this answers that memory ran out. A gate that waits in one call for another waits for ever where one thread makes both
+    /// calls: where no thread starts, and for moves that [`Anneal::turn`] judged ahead.
+    pub fn make_beside<G: Gate, R: Threads + Wait + Sync>(
         &mut self,
         rt: &R,
-        batch: u64,
-        workers: &mut Workers<'a, 'g, W, G, J>,
-        dial: &Dial,
+        count: u64,
+        plan: &StagePlan<'_, G>,
         shower: &mut Shower,
-    ) -> Result<Turn, AllocError>
-        requires batch { (1 ≤ batch) × (batch ≤ 4096) }
-        requires own { shower.old.dial ≡ dial.now }
-        ensures turned { IsTurned W.moves batch self.old self.new result }
+    ) -> Result<(), AllocError>
+        requires some { (count ≤ moves_left (run_of W.moves self.old) self.old.standing) × (0 < moves_left (run_of W.moves self.old) self.old.standing) }
+        requires batch { (1 ≤ plan.now.batch) × (plan.now.batch ≤ 4096) }
+        requires workers { (1 ≤ plan.now.workers) × (plan.now.workers ≤ 64) }
+        requires own { shower.old.dial ≡ plan.now.dial.now }
+        ensures made { IsMadeAlone W.moves plan.now.batch count self.old self.new result shower.old.shown shower.new.shown }
         ensures dial { shower.new.dial ≡ shower.old.dial }
-        ensures shown { IsShown W.moves self.old self.new result shower.old.shown shower.new.shown }
     {
-        let before = self.done();
-        make_turn(rt, &self.given, &mut self.pipeline, batch, workers)?;
-        self.show_since(rt, before, dial, shower);
-        Ok(self.left())
+        finish_beside(rt, &self.given, &mut self.pipeline, plan, count, shower)
     }
 }

@@ -78,6 +78,30 @@ pub(crate) fn stamp<W: Words>(
     }
 }
 
+/// Makes a move that is decided: notes its swap, stamps what it touches, commits it, and counts it if it is judged again. Allocates nothing.
+pub(crate) fn make_one<W: Words>(
+    given: &Given<'_, W>,
+    owner: &mut Owner,
+    decision: &Decision,
+    again: bool,
+)
+    requires plan { IsLawful given.now.schedule }
+    requires owned { IsOwned (run_for W.moves given.now) owner.old }
+    requires going { owner.old.state.ended ≡ false }
+    requires room { HasRoom owner.old 1 }
+    requires lawful { (s : Swap) → decision.now.swap ≡ Some s → IsSwapOf given.now.grid.now owner.old.state.placement.sites s }
+    requires decides { IsDecision decision.now (judged_here (run_for W.moves given.now) (standing_of owner.old.state) owner.old.state.done) }
+    ensures made { HasMade (run_for W.moves given.now) owner.old 1 owner.new }
+    ensures redone { owner.new.redone ≡ owner.old.redone + one_if again }
+    ensures room { (n : ℕ) → HasRoom owner.old (n + 1) → HasRoom owner.new n }
+{
+    let number = owner.state.done;
+    enter(&mut owner.swaps, number, decision);
+    stamp(given, &mut owner.stamps, number, decision);
+    commit(given, &mut owner.state, decision);
+    owner.redone += u64::from(again);
+}
+
 /// Decides the next move, whose verdict was judged on the placement after `base` moves. Returns the decision, and whether the move was
 /// judged again: it is, on the live placement, if a move accepted since has touched what the verdict rests on. Otherwise the verdict is
 /// taken. Allocates nothing.

@@ -105,6 +105,7 @@ impl Stamps {
         marks.iter().any(|mark| base < self.of(grid, *mark))
     }
 
+    #[inline(always)]
     /// Whether what a proposal rests on was touched by move `base` or a later one.
     pub(crate) fn is_touched(
         &self,

@@ -3,12 +3,16 @@ use Rattle.fab_commit.specs.Serial.{from, moves_left}
 use Rattle.fab_commit.specs.Run.Commits.{run_of}
 use Rattle.fab_cost.specs.Cost.{cost_of}
 use Rattle.fab_run.specs.Piece.{cost_at}
-use Rattle.fab_run.proofs.Pieces.{left_is, total_grows, told_line, told_cost}
+use Rattle.fab_run.proofs.Pieces.{left_is, left_there, total_grows, told_line, told_cost}
 use Rattle.fab_run.proofs.stages.end_stage.Goals as goal
 
 pub make_rest-requires-clause-left : goal.make_rest-requires-clause-left
 make_rest-requires-clause-left g c κs within =
-    left_is (run_of g.V.Words.moves c.args.anneal.now) c.args.anneal.now.standing c.args.stage c.args.moves c.requires.stage c.requires.moves
+    let r = run_of g.V.Words.moves c.args.anneal.now in
+    let x = c.args.anneal.now.standing in
+    let left = left_is r x c.args.stage c.args.moves c.requires.stage c.requires.moves in
+    let some = left_there r x c.args.stage c.requires.stage (subst (λ m. 1 ≤ m) c.requires.moves c.requires.some) in
+    (left, omega (arith, left, some))
 
 pub overflow_sub-accepted : goal.overflow_sub-accepted
 overflow_sub-accepted g c =

@@ -10,7 +10,7 @@ pub returns-clause-cut : goal.returns-clause-cut
 returns-clause-cut g c = λ t b.
     let r = run_for g.W.Words.moves c.args._given.now in
     let s = c.args.pipeline.now in
-    let now : Pipeline = record { owner = record s.owner { swaps = c.clear.new.self }; older = s.older; ahead = c.clear-2.new.self; base = s.owner.state.done } in
+    let now : Pipeline = record { owner = record s.owner { swaps = c.clear.new.self }; ahead = c.clear-2.new.self; base = s.owner.state.done } in
     let owned = owned_cleared r s.owner now.owner b.owned refl refl refl in
     turned r t s now now.owner 0 0 0 [] b (record {
       state = refl;
@@ -18,8 +18,6 @@ returns-clause-cut g c = λ t b.
       stamps = refl;
       redone = refl;
       made = none_made r now.owner owned;
-      older = b.older;
-      same = b.same;
       base_is = refl;
       many = ap length c.clear-2.ensures.items;
       answers_are = no_answers r (standing_of s.owner.state) s.owner.state.done _ c.clear-2.ensures.items;

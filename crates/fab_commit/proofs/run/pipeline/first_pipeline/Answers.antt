@@ -10,8 +10,6 @@ returns-clause-behind g c =
       plan = c.requires.plan;
       stage = omega arith;
       owned = record { sound = c.requires.sound; table = c.in_ok-stamps.ensures.table; counted = omega arith };
-      older = c.in_ok-older.ensures.sound r c.requires.sound;
-      same = c.in_ok-older.ensures.stands;
       here = refl;
       done_is = omega arith;
       base_is = refl;

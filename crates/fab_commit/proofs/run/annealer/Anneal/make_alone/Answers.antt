@@ -2,7 +2,7 @@ use Rattle.std.proofs.Common.{length, refl, subst}
 use Rattle.std.specs.Arc.{arc_value}
 use Rattle.fab_commit.specs.declared.run.alone.Ahead.{Ahead}
 use Rattle.fab_commit.specs.declared.run.state.Given.{Given}
-use Rattle.fab_commit.specs.Run.Alone.{AreMadeAlone, IsFollowed, IsMadeAlone}
+use Rattle.fab_commit.specs.Run.Alone.{AreMadeAlone, IsUnjudged, IsMadeAlone}
 use Rattle.fab_commit.specs.Run.Commits.{run_for, standing_of}
 use Rattle.fab_commit.specs.Run.Pipelines.{HasTurn}
 use Rattle.fab_commit.proofs.RunLemmas.Alone.{alone_behind}
@@ -25,7 +25,7 @@ invariant_of-self g c =
     let answer = c.finish_alone.result in
     let b = c.self.invariant.0 in
     let ahead : Ahead = record { base = s.base; moves = length s.ahead.items } in
-    let made = subst (λ (v : Given g.row.W.Denot). (due : Ahead) × IsFollowed (run_for moves v) now due × AreMadeAlone (run_for moves v) batch count s.owner ahead now.owner due answer old new) c.deref-given.ensures c.finish_alone.ensures.made in
+    let made = subst (λ (v : Given g.row.W.Denot). (due : Ahead) × IsUnjudged now due × AreMadeAlone (run_for moves v) batch count s.owner ahead now.owner due answer old new) c.deref-given.ensures c.finish_alone.ensures.made in
     let alone = alone_behind (run_for moves given) b.0 s ahead b.1 refl refl in
     (subst (λ (v : Given g.row.W.Denot). HasTurn (run_for moves v) now) c.deref-given.ensures c.finish_alone.ensures.left, since_alone (run_for moves given) g.K.Keeping.numbers a.before (standing_of a.began.value) batch count b.0 s.owner ahead now.owner made.0 answer old new alone made.2 c.self.invariant.1)
 
@@ -45,6 +45,6 @@ returns-clause-made g c =
     let since = c.self.invariant.1 in
     let x = standing_of a.began.value in
     let ahead : Ahead = record { base = s.base; moves = length s.ahead.items } in
-    let made = subst (λ (v : Given g.row.W.Denot). (due : Ahead) × IsFollowed (run_for moves v) now due × AreMadeAlone (run_for moves v) batch count s.owner ahead now.owner due answer old new) c.deref-given.ensures c.finish_alone.ensures.made in
+    let made = subst (λ (v : Given g.row.W.Denot). (due : Ahead) × IsUnjudged now due × AreMadeAlone (run_for moves v) batch count s.owner ahead now.owner due answer old new) c.deref-given.ensures c.finish_alone.ensures.made in
     subst (λ m. IsMadeAlone moves batch count m (seen moves given x now) answer old new) c.self.view_is
     (made_alone moves given x batch count s now b.0 ahead made.0 answer old new b.1 since.after since.here (alone_behind (run_for moves given) b.0 s ahead b.1 refl refl) made.2 made.1)

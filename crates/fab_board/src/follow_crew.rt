@@ -1,0 +1,680 @@
+//! The threads of a crew. Each worker has a state of its own, follows what the owner posts, and judges units of numbers that it claims on the
+//! board.
+
+ghost use Rattle.std.specs.Prelude.{All, ◌≡◌, ℕ, ◌+◌, ◌<◌, ◌≤◌, List, [], length, true, Some, IfOk, IfSome, IsPermutation, vec_len};
+ghost use Rattle.std.specs.List.{range_with_len};
+ghost use Rattle.std.specs.Fn.{CalledAtMut};
+ghost use Rattle.std.specs.Thread.{IsSync};
+ghost use Rattle.fab_board.specs.Views.{all_numbers};
+
+use crate::board::{Board, ClaimSeat, Claims};
+use crate::book::{Book, Front, Naming};
+use crate::claimer::{Boarding, Claimer, Desk};
+use crate::follow::{Follow, Follower, Origin, Posted, Sheet, judge_unit};
+use crate::plan::Plan;
+use crate::waiting::{Lone, look_past, wait_past};
+use std::alloc::{AllocError, Global};
+use std::marker::Model;
+use std::sync::atomic::{AtomicU64, Ordering};
+use std::sync::{Arc, Mutex, RwLock, Wait};
+use std::thread::{Threads, join_mut};
+use std::{mem, thread};
+
+/// Where a judged unit waits for the owner, and the used sheet of an earlier one for a worker.
+#[derive(Drop)]
+pub(crate) struct Place<S: Follow<E, T>, E: Drop, T: Drop, J: Naming + Boarding + Origin<S>> {
+    /// Which unit was taken here last, and whether it is judged. It only grows.
+    word: AtomicU64,
+    sheet: Mutex<Sheet<S, E, T, J>>,
+    room: [u64; 8],
+}
+
+/// What a worker begins with.
+#[derive(Drop)]
+struct Kit<S: Follow<E, T>, E: Drop, T: Drop, J: Naming + Boarding + Origin<S>> {
+    follower: Follower<S, E, T, J>,
+    sheet: Sheet<S, E, T, J>,
+    claimer: Claimer<J>,
+}
+
+/// A worker's place in the crew.
+#[derive(Drop)]
+struct Seat<S: Follow<E, T>, E: Drop, T: Drop, J: Naming + Boarding + Origin<S>> {
+    /// What the worker begins with, until it does.
+    start: Mutex<Option<Kit<S, E, T, J>>>,
+    /// The same, once the worker has ended.
+    end: Mutex<Option<Kit<S, E, T, J>>>,
+    /// How many posts the worker has followed.
+    followed: Lone,
+}
+
+/// What the threads of a crew share.
+#[derive(Drop)]
+pub struct Shared<S: Follow<E, T>, E: Drop, T: Drop, J: Naming + Boarding + Origin<S>> {
+    pub(crate) book: Book<E, J>,
+    desk: Desk<J>,
+    pub(crate) plan: Plan,
+    posts: Vec<RwLock<Option<Posted<S, E, T, J>>>>,
+    places: Vec<Place<S, E, T, J>>,
+    seats: Vec<Seat<S, E, T, J>>,
+    /// Room for the seats of the claim board, once the workers have ended. Threads do not share seats, so it has a lock.
+    room: Mutex<Vec<ClaimSeat>>,
+    /// How many posts there are.
+    posted: Lone,
+    /// So many claims were made at least.
+    claimed: Lone,
+    asleep: Lone,
+    owner_asleep: Lone,
+    stop: Lone,
+}
+
+impl<S: Follow<E, T>, E: Drop, T: Drop, J: Naming + Boarding + Origin<S>> Model
+    for Shared<S, E, T, J> {
+    ghost use Rattle.std.specs.Prelude.{ℕ, length};
+
+    /// How many workers it has.
+    ghost Value = { ℕ };
+
+    ghost view = { λ c. length c.seats.items };
+}
+
+/// What the owner finds where it looks for a unit.
+#[derive(Clone, Copy, PartialEq, Eq)]
+pub(crate) enum Fetched {
+    /// Its sheet.
+    Here,
+    /// Somebody judges it.
+    Taken,
+    /// Nobody had taken it: it is the owner's.
+    Mine,
+}
+
+/// The word of a place whose unit somebody has taken.
+fn taken(unit: u64) -> u64 {
+    unit.min(1 << 61) * 2 + 1
+}
+
+/// The word of a place whose unit is judged, or is judged by the owner.
+fn ready(unit: u64) -> u64 {
+    unit.min(1 << 61) * 2 + 2
+}
+
+/// A worker that is gone has followed so many posts. Who sleeps on a word compares its low 32 bits, so these are not those of a number of posts.
+const GONE: u64 = u64::MAX;
+
+/// How many posts may wait for a worker that is late.
+const POSTS: u64 = 64;
+
+/// Of how many turns there are places.
+const TURNS: u64 = 4;
+
+impl<S: Follow<E, T>, E: Drop, T: Drop, J: Naming + Boarding + Origin<S>> Shared<S, E, T, J> {
+    /// The place of a unit.
+    fn place_of(&self, unit: u64) -> Option<&Place<S, E, T, J>> {
+        let ring = self.plan.units().saturating_mul(TURNS).max(1);
+        self.places.get((unit % ring) as usize)
+    }
+
+    /// Takes the next post of the ring. Returns whether it could.
+    fn follow_next<R: Wait>(&self, rt: &R, by: &mut Follower<S, E, T, J>) -> bool
+        ensures { result ≡ true → length by.new ≡ length by.old + 1 }
+    {
+        let Some(slot) = self.posts.get((by.len() % POSTS) as usize) else {
+            return false;
+        };
+        let guard = slot.read(rt);
+        match &*guard {
+            Some(posted) => by.follow(posted),
+            None => false,
+        }
+    }
+
+    /// Follows posts until it has followed so many. Returns whether it could.
+    pub(crate) fn follow_to<R: Wait>(
+        &self,
+        rt: &R,
+        by: &mut Follower<S, E, T, J>,
+        goal: u64,
+    ) -> bool {
+        let from = by.len();
+        for _ in from..goal {
+            if !self.follow_next(rt, by) {
+                return false;
+            }
+        }
+        true
+    }
+
+    /// Judges a unit whose turn's post was followed last.
+    pub(crate) fn judge_unit(
+        &self,
+        by: &mut Follower<S, E, T, J>,
+        sheet: &mut Sheet<S, E, T, J>,
+        unit: u64,
+    )
+        ensures { by.new ≡ by.old }
+    {
+        let begin = self.plan.begin_of(unit);
+        judge_unit(
+            by,
+            by.first().saturating_add(begin),
+            self.count_of(by, unit),
+            sheet,
+        );
+    }
+
+    /// How many numbers a unit has, whose turn's post was followed last.
+    pub(crate) fn count_of(&self, by: &Follower<S, E, T, J>, unit: u64) -> u64 {
+        by.count()
+            .saturating_sub(self.plan.begin_of(unit))
+            .min(self.plan.size())
+    }
+
+    /// Takes a unit. Returns whether it could: not if somebody has taken it before.
+    pub(crate) fn take(&self, unit: u64) -> bool {
+        let Some(place) = self.place_of(unit) else {
+            return false;
+        };
+        let seen = place.word.load(Ordering::SeqCst);
+        if seen >= taken(unit) {
+            return false;
+        }
+        place
+            .word
+            .compare_exchange(seen, taken(unit), Ordering::SeqCst, Ordering::SeqCst)
+            .is_ok()
+    }
+
+    /// Hands a sheet over for a used one.
+    pub(crate) fn hand_over<R: Wait>(&self, rt: &R, sheet: &mut Sheet<S, E, T, J>, unit: u64) {
+        if let Some(place) = self.place_of(unit) {
+            mem::swap(&mut *place.sheet.lock(rt), sheet);
+            place.word.store(ready(unit), Ordering::SeqCst);
+            if self.owner_asleep.load() != 0 {
+                place.word.wake_all();
+            }
+        }
+    }
+
+    /// Waits until the turn of a unit is posted, and follows its post: that of the unit which the worker has claimed, or else of the next one
+    /// that nobody has claimed. Returns whether it is: not if the crew is sent home.
+    ///
+    /// A worker that waits has followed all that is posted. The owner may wait for that, before it posts again.
+    fn is_posted<R: Wait>(
+        &self,
+        rt: &R,
+        followed: &Lone,
+        by: &mut Follower<S, E, T, J>,
+        unit: Option<u64>,
+    ) -> bool {
+        for _ in rt.forever() {
+            let posted = self.posted.load();
+            if self.stop.load() != 0 {
+                return false;
+            }
+            let turn = self.plan.turn_of(unit.unwrap_or(self.claimed.load()));
+            let goal = turn.saturating_add(1).min(posted);
+            if by.len() < goal {
+                if !self.follow_to(rt, by, goal) {
+                    return false;
+                }
+                self.tell_followed(followed, by.len());
+            }
+            if turn < posted {
+                return true;
+            }
+            wait_past(rt, &self.posted.word, &self.asleep, posted);
+        }
+        unreachable!()
+    }
+
+    /// Claims units and judges them, until the crew is sent home.
+    fn work_on<R: Wait>(&self, rt: &R, followed: &Lone, kit: &mut Kit<S, E, T, J>) {
+        for _ in rt.forever() {
+            if !self.is_posted(rt, followed, &mut kit.follower, None) {
+                return;
+            }
+            let Some(unit) = self.desk.claim(&mut kit.claimer) else {
+                return;
+            };
+            self.claimed.add_one();
+            if !self.is_posted(rt, followed, &mut kit.follower, Some(unit)) {
+                return;
+            }
+            // The last units of a short turn are empty.
+            if self.count_of(&kit.follower, unit) > 0 && self.take(unit) {
+                self.judge_unit(&mut kit.follower, &mut kit.sheet, unit);
+                self.hand_over(rt, &mut kit.sheet, unit);
+            }
+        }
+    }
+
+    /// Tells the owner how many posts a worker has followed. It may sleep until some are.
+    fn tell_followed(&self, followed: &Lone, posts: u64) {
+        followed.store(posts);
+        if self.owner_asleep.load() != 0 {
+            followed.word.wake_all();
+        }
+    }
+
+    /// A worker's life.
+    fn work<R: Wait>(&self, rt: &R, me: usize) {
+        let Some(seat) = self.seats.get(me) else {
+            return;
+        };
+        let taken = seat.start.lock(rt).take();
+        if let Some(mut kit) = taken {
+            self.work_on(rt, &seat.followed, &mut kit);
+            *seat.end.lock(rt) = Some(kit);
+        }
+        self.tell_followed(&seat.followed, GONE);
+    }
+
+    /// How many posts each worker has followed at least.
+    pub(crate) fn followed_by_all(&self) -> u64 {
+        let mut least = GONE;
+        for seat in &self.seats {
+            least = least.min(seat.followed.load());
+        }
+        least
+    }
+
+    /// Waits until each worker has followed so many posts. A worker that has not begun by then, since the system is slow to start its thread
+    /// or refuses to, is left out. All together get the time of one to begin.
+    pub(crate) fn wait_for_all<R: Wait>(&self, rt: &R, goal: u64) {
+        let mut has_time = true;
+        for seat in &self.seats {
+            if seat.followed.load() == 0 {
+                has_time = has_time && look_past(&seat.followed.word, 0) != 0;
+                if !has_time {
+                    self.leave_out(rt, seat);
+                }
+            }
+            self.wait_for_one(rt, &seat.followed, goal);
+        }
+    }
+
+    /// Takes what a worker begins with, if it has not begun, so that it never begins.
+    fn leave_out<R: Wait>(&self, rt: &R, seat: &Seat<S, E, T, J>) {
+        let taken = seat.start.lock(rt).take();
+        if let Some(kit) = taken {
+            *seat.end.lock(rt) = Some(kit);
+            self.tell_followed(&seat.followed, GONE);
+        }
+    }
+
+    /// Leaves a worker out that was not started.
+    fn go_without<R: Wait>(&self, rt: &R, me: usize) {
+        if let Some(seat) = self.seats.get(me) {
+            self.leave_out(rt, seat);
+        }
+    }
+
+    /// Waits until a worker has followed so many posts.
+    fn wait_for_one<R: Wait>(&self, rt: &R, followed: &Lone, goal: u64) {
+        let mut seen = followed.load();
+        for _ in rt.forever() {
+            if seen >= goal {
+                return;
+            }
+            seen = wait_past(rt, &followed.word, &self.owner_asleep, seen);
+        }
+    }
+
+    /// Puts a post into the ring, and gives back the one whose slot it takes.
+    pub(crate) fn put<R: Wait>(
+        &self,
+        rt: &R,
+        number: u64,
+        posted: Posted<S, E, T, J>,
+    ) -> Option<E> {
+        let mut old = Some(posted);
+        if let Some(slot) = self.posts.get((number % POSTS) as usize) {
+            mem::swap(&mut *slot.write(rt), &mut old);
+        }
+        self.posted.store(number.saturating_add(1));
+        if self.asleep.load() != 0 {
+            self.posted.word.wake_all();
+        }
+        match old {
+            Some(posted) => Some(posted.into_post()),
+            None => None,
+        }
+    }
+
+    /// Brings the sheet of a judged unit for a used one. If nobody has taken the unit, takes it for the owner.
+    pub(crate) fn fetch<R: Wait>(
+        &self,
+        rt: &R,
+        unit: u64,
+        sheet: &mut Sheet<S, E, T, J>,
+    ) -> Fetched {
+        let Some(place) = self.place_of(unit) else {
+            return Fetched::Mine;
+        };
+        let seen = place.word.load(Ordering::SeqCst);
+        if seen >= ready(unit) {
+            mem::swap(&mut *place.sheet.lock(rt), sheet);
+            return Fetched::Here;
+        }
+        if seen == taken(unit) {
+            return Fetched::Taken;
+        }
+        let mine = place
+            .word
+            .compare_exchange(seen, ready(unit), Ordering::SeqCst, Ordering::SeqCst);
+        match mine {
+            Ok(_) => Fetched::Mine,
+            Err(_) => Fetched::Taken,
+        }
+    }
+
+    /// Waits until a unit that somebody has taken is judged.
+    pub(crate) fn wait_for<R: Wait>(&self, rt: &R, unit: u64) {
+        if let Some(place) = self.place_of(unit) {
+            wait_past(rt, &place.word, &self.owner_asleep, taken(unit));
+        }
+    }
+
+    /// Whether post `number` has a slot, where each worker has followed so many posts.
+    pub(crate) fn is_room(&self, followed: u64, number: u64) -> bool {
+        followed.saturating_add(POSTS) > number
+    }
+
+    /// So many posts have to be followed by all before post `number` has a slot.
+    pub(crate) fn goal_for(&self, number: u64) -> u64 {
+        number.saturating_sub(POSTS).saturating_add(1)
+    }
+
+    /// Sends the crew home.
+    pub(crate) fn send_home(&self) {
+        self.stop.store(1);
+        self.posted.add_one();
+        self.posted.word.wake_all();
+    }
+}
+
+/// The ring of places, each with a sheet.
+fn all_places<S: Follow<E, T>, E: Drop, T: Drop, J: Naming + Boarding + Origin<S>>(
+    alloc: Global,
+    by: &Follower<S, E, T, J>,
+    front: &Front<E, J>,
+    plan: Plan,
+) -> Result<Vec<Place<S, E, T, J>>, AllocError> {
+    let mut places = Vec::new(alloc);
+    for _ in 0..plan.units().saturating_mul(TURNS) {
+        places.push(Place {
+            word: AtomicU64::new(0),
+            sheet: Mutex::new(Sheet::new(front.again(), by.places(alloc, plan.size())?)),
+            room: [0; 8],
+        })?;
+    }
+    Ok(places)
+}
+
+fn all_posts<S: Follow<E, T>, E: Drop, T: Drop, J: Naming + Boarding + Origin<S>>(
+    alloc: Global,
+) -> Result<Vec<RwLock<Option<Posted<S, E, T, J>>>>, AllocError> {
+    let mut posts = Vec::new(alloc);
+    for _ in 0..POSTS {
+        posts.push(RwLock::new(None))?;
+    }
+    Ok(posts)
+}
+
+fn new_seat<S: Follow<E, T>, E: Drop, T: Drop, J: Naming + Boarding + Origin<S>>(
+    alloc: Global,
+    state: S,
+    seat: ClaimSeat,
+    front: &Front<E, J>,
+    plan: Plan,
+) -> Result<Seat<S, E, T, J>, AllocError>
+    requires start { J.start ≡ Some state }
+    requires seat { seat.board ≡ J.board }
+    requires empty { front.now ≡ [] }
+{
+    let follower = Follower::new(state, front.again());
+    let sheet = Sheet::new(front.again(), follower.places(alloc, plan.size())?);
+    Ok(Seat {
+        start: Mutex::new(Some(Kit {
+            follower,
+            sheet,
+            claimer: Claimer::new(seat),
+        })),
+        end: Mutex::new(None),
+        followed: Lone::new(0),
+    })
+}
+
+/// A worker's place for each state, and the list of the board's seats, which is empty now and has room for them.
+fn all_seats<S: Follow<E, T>, E: Drop, T: Drop, J: Naming + Boarding + Origin<S>>(
+    alloc: Global,
+    mut states: Vec<S>,
+    mut claims: Vec<ClaimSeat>,
+    front: &Front<E, J>,
+    plan: Plan,
+) -> Result<(Vec<Seat<S, E, T, J>>, Vec<ClaimSeat>), AllocError>
+    requires start { All (λ s. J.start ≡ Some s) states.items }
+    requires claims { All (λ s. s.board ≡ J.board) claims.items }
+    requires many { length claims.items ≡ length states.items }
+    requires empty { front.now ≡ [] }
+    ensures many { IfOk result (λ r. length r.0.items ≡ length states.items) }
+{
+    let mut seats = Vec::new(alloc);
+    while let Some(state) = states.pop() {
+        let Some(claim) = claims.pop() else {
+            unreachable!()
+        };
+        seats.push(new_seat(alloc, state, claim, front, plan)?)?;
+    }
+    Ok((seats, claims))
+}
+
+/// What the threads of a crew share before any has joined: a worker for each of the states, with a seat of the board.
+pub(crate) fn new_shared<S: Follow<E, T>, E: Drop, T: Drop, J: Naming + Boarding + Origin<S>>(
+    alloc: Global,
+    book: Book<E, J>,
+    board: Board,
+    claims: Vec<ClaimSeat>,
+    states: Vec<S>,
+    by: &Follower<S, E, T, J>,
+    front: &Front<E, J>,
+    plan: Plan,
+) -> Result<Shared<S, E, T, J>, AllocError>
+    requires board { board.name ≡ J.board }
+    requires claims { All (λ s. s.board ≡ J.board) claims.items }
+    requires starts { All (λ s. J.start ≡ Some s) states.items }
+    requires many { length claims.items ≡ length states.items }
+    requires empty { front.now ≡ [] }
+    ensures many { IfOk result (λ c. c ≡ length states.items) }
+{
+    let posts = all_posts(alloc)?;
+    let places = all_places(alloc, by, front, plan)?;
+    let (seats, room) = all_seats(alloc, states, claims, front, plan)?;
+    Ok(Shared {
+        book,
+        desk: Desk::new(board),
+        plan,
+        posts,
+        places,
+        seats,
+        room: Mutex::new(room),
+        posted: Lone::new(0),
+        claimed: Lone::new(0),
+        asleep: Lone::new(0),
+        owner_asleep: Lone::new(0),
+        stop: Lone::new(0),
+    })
+}
+
+/// Runs the workers of a crew: one in this thread, and each other one in its own. Returns when the crew was sent home and all have ended.
+/// A worker that the system refuses to start leaves its work to the others.
+fn work_all<
+    S: Follow<E, T> + Send,
+    E: Drop + Send + Sync,
+    T: Drop + Send,
+    J: Naming + Boarding + Origin<S> + Send + Sync,
+    R: Threads + Wait + Sync,
+>(rt: &R, crew: &Shared<S, E, T, J>) {
+    let workers = crew.seats.len();
+    thread::scope(thread::scope_env(), rt, |scope| {
+        for me in 1..workers {
+            if scope.spawn(move || crew.work(rt, me)).is_err() {
+                crew.go_without(rt, me);
+            }
+        }
+        crew.work(rt, 0);
+    });
+}
+
+// A closure that calls another one with a borrowed argument cannot be proved; this function can.
+fn called<O, X, F: FnMut(&mut O) -> X>(make: &mut F, owner: &mut O) -> X
+    requires { (x : _) → x.now ≡ owner.old → F.pre make.old x }
+    ensures { CalledAtMut F.FnMut make.old owner.old result make.new owner.new }
+{
+    make(owner)
+}
+
+/// Runs `make` on the owner while the workers of the crew work, each in a thread of its own, then sends the crew home, and returns when all
+/// workers have ended. So it returns if `make` and the judgements of the workers do. Where the system starts no thread, the owner judges
+/// alone.
+// The owner's type is a parameter, since the threads' closures do not support a type that both borrows and has parameters.
+pub fn beside<
+    S: Follow<E, T> + Send,
+    E: Drop + Send + Sync,
+    T: Drop + Send,
+    J: Naming + Boarding + Origin<S> + Send + Sync,
+    O,
+    X,
+    F: FnMut(&mut O) -> X,
+    R: Threads + Wait + Sync,
+>(rt: &R, crew: &Shared<S, E, T, J>, owner: &mut O, make: &mut F) -> X
+    requires { (x : _) → x.now ≡ owner.old → F.pre make.old x }
+    ensures { CalledAtMut F.FnMut make.old owner.old result make.new owner.new }
+{
+    let (_, made) = join_mut(
+        rt,
+        &mut || -> ()
+            requires { IsSync R.row }
+        { work_all(rt, crew) },
+        &mut || -> X
+            requires { (x : _) → x.now ≡ owner.now → F.pre make.now x }
+            ensures { CalledAtMut F.FnMut make.entry.now owner.entry.now result make.exit.now owner.exit.now }
+        {
+            let made = called(make, owner);
+            crew.send_home();
+            made
+        },
+    );
+    made
+}
+
+/// The claim board of a crew that has ended, with the seats of all its workers. Contracts see the numbers that these claimed.
+pub struct Retired {
+    board: Board,
+    seats: Vec<ClaimSeat>,
+}
+
+impl Model for Retired {
+    ghost use Rattle.std.specs.Prelude.{◌≡◌, All, List, ℕ, length};
+    ghost use Rattle.fab_board.specs.Views.{all_numbers};
+
+    ghost Value = { List ℕ };
+
+    ghost view = { λ r. all_numbers r.seats.items };
+
+    ghost invariant = { λ r. (length r.seats.items ≡ r.board.seats) × All (λ s. s.board ≡ r.board.name) r.seats.items };
+}
+
+impl Retired {
+    /// Closes the board, and returns how many units of work were claimed: those of all workers together are the units below that number,
+    /// each claimed once.
+    pub fn close(self) -> Claims
+        ensures { IsPermutation (range_with_len 0 result.taken) self }
+    {
+        let Retired { board, seats } = self;
+        board.close(seats)
+    }
+}
+
+/// The claim board of a crew with the seats of all its workers, which have ended. `None` if one of them is still at work.
+pub fn retire<S: Follow<E, T>, E: Drop, T: Drop, J: Naming + Boarding + Origin<S>>(
+    crew: Arc<Shared<S, E, T, J>>,
+) -> Option<Retired> {
+    let Ok(crew) = Arc::try_unwrap(crew) else {
+        return None;
+    };
+    let (desk, seats, room) = crew.into_parts();
+    let board = desk.into_board();
+    let seats = seats_of(seats, room)?;
+    if seats.len() as u64 != board.seats() {
+        return None;
+    }
+    Some(Retired { board, seats })
+}
+
+/// Closes the claim board of a crew that has ended. Returns how many units of work its workers claimed; `None` if one of them is still at work.
+pub fn close_board<S: Follow<E, T>, E: Drop, T: Drop, J: Naming + Boarding + Origin<S>>(
+    crew: Arc<Shared<S, E, T, J>>,
+) -> Option<Claims> {
+    Some(retire(crew)?.close())
+}
+
+/// The seats of the claim board that the workers have given back. `None` if one has not.
+fn seats_of<S: Follow<E, T>, E: Drop, T: Drop, J: Naming + Boarding + Origin<S>>(
+    mut seats: Vec<Seat<S, E, T, J>>,
+    mut room: Vec<ClaimSeat>,
+) -> Option<Vec<ClaimSeat>>
+    ensures { IfSome result (λ v. All (λ s. s.board ≡ J.board) v.items) }
+{
+    room.clear();
+    while let Some(seat) = seats.pop() {
+        let claimer = claimer_of(seat)?;
+        let Ok(()) = room.push(claimer.into_seat()) else {
+            return None;
+        };
+    }
+    Some(room)
+}
+
+/// A worker's right to claim, which it has given back.
+fn claimer_of<S: Follow<E, T>, E: Drop, T: Drop, J: Naming + Boarding + Origin<S>>(
+    seat: Seat<S, E, T, J>,
+) -> Option<Claimer<J>> {
+    let Seat {
+        start,
+        end,
+        followed: _,
+    } = seat;
+    let kit = match end.into_inner() {
+        Some(kit) => Some(kit),
+        None => start.into_inner(),
+    };
+    let Kit {
+        follower: _,
+        sheet: _,
+        claimer,
+    } = kit?;
+    Some(claimer)
+}
+
+impl<S: Follow<E, T>, E: Drop, T: Drop, J: Naming + Boarding + Origin<S>> Shared<S, E, T, J> {
+    /// What is left of a crew that has ended: its claim board, its workers' places, and room for the board's seats.
+    fn into_parts(self) -> (Desk<J>, Vec<Seat<S, E, T, J>>, Vec<ClaimSeat>) {
+        let Shared {
+            book: _,
+            desk,
+            plan: _,
+            posts: _,
+            places: _,
+            seats,
+            room,
+            posted: _,
+            claimed: _,
+            asleep: _,
+            owner_asleep: _,
+            stop: _,
+        } = self;
+        (desk, seats, room.into_inner())
+    }
+}

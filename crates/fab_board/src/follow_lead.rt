@@ -1,0 +1,265 @@
+//! The owner's end of a crew: it posts, and takes the answers in order of number.
+
+ghost use Rattle.std.specs.Prelude.{All, ◌≡◌, ℕ, ◌+◌, ◌-◌, ◌<◌, ◌≤◌, List, ◌++◌, ◌∷◌, [], length, true, Some, IfOk, OnOk, OnErr, IfSome};
+ghost use Rattle.std.specs.Arc.{arc_value};
+ghost use Rattle.fab_board.specs.Follows.{MayNow, IsAnswerAfter};
+
+use crate::board::{Board, ClaimSeat};
+use crate::book::{Front, Naming, Opened};
+use crate::claimer::Boarding;
+use crate::follow::{Follow, Follower, Origin, Posted, Sheet, judge_unit};
+use crate::follow_crew::{Fetched, Shared, new_shared};
+use crate::plan::Plan;
+use std::alloc::{AllocError, Global};
+use std::marker::Model;
+use std::mem;
+use std::sync::{Arc, Wait};
+
+/// The owner's end of a crew. Contracts see it as all that it posted, and those posts on which the answers of this turn are judged: all but
+/// the last.
+pub struct Lead<S: Follow<E, T>, E: Drop, T: Drop, J: Naming + Boarding + Origin<S>> {
+    shared: Arc<Shared<S, E, T, J>>,
+    front: Front<E, J>,
+    base: Front<E, J>,
+    mine: Follower<S, E, T, J>,
+    /// What the last post asks for: the first number, and how many.
+    asked: (u64, u64),
+    /// What the post before it asks for.
+    due: (u64, u64),
+    /// How many posts each worker had followed when that was looked at.
+    followed: u64,
+    /// The owner has looked at the units before this one, whether it can help with them.
+    helped: u64,
+    /// A sheet for a unit that the owner helps with.
+    spare: Sheet<S, E, T, J>,
+}
+
+impl<S: Follow<E, T>, E: Drop, T: Drop, J: Naming + Boarding + Origin<S>> Model
+    for Lead<S, E, T, J> {
+    ghost use Rattle.std.specs.Prelude.{List};
+
+    ghost Value = { List E × List E };
+
+    ghost view = { λ l. (l.front, l.base) };
+}
+
+impl<S: Follow<E, T>, E: Drop, T: Drop, J: Naming + Boarding + Origin<S>> Lead<S, E, T, J> {
+    #[tactic(auto, using(crate::proofs::Placing::latest_push, crate::proofs::Steps::may_push))]
+    /// Posts, and gives an older post back, which may be filled anew. An error gives this one back: the crew was not given it.
+    pub fn post<R: Wait>(&mut self, rt: &R, post: E) -> Result<Option<E>, E>
+        requires may { MayNow S.may S.after J.start self.old.0 post }
+        ensures posts { OnOk result (self.new.0 ≡ self.old.0 ++ post ∷ []) }
+        ensures base { OnOk result (self.new.1 ≡ self.old.0) }
+        ensures same { OnErr result (self.new ≡ self.old) }
+    {
+        let mut front = self.front.again();
+        if !front.enter(&self.shared.book, &post) {
+            return Err(post);
+        }
+        let number = self.front.len();
+        self.make_room(rt, number);
+        self.due = self.asked;
+        self.asked = self.mine.asked(&post);
+        let old = self
+            .shared
+            .put(rt, number, Posted::new(post, front.again()));
+        self.base = mem::replace(&mut self.front, front);
+        Ok(old)
+    }
+
+    /// Waits until nobody needs the post whose slot this one takes.
+    fn make_room<R: Wait>(&mut self, rt: &R, number: u64)
+        ensures { self.new ≡ self.old }
+    {
+        if self.shared.is_room(self.followed, number) {
+            return;
+        }
+        self.shared.follow_to(rt, &mut self.mine, number);
+        self.shared.wait_for_all(rt, self.shared.goal_for(number));
+        self.followed = self.shared.followed_by_all();
+    }
+
+    /// Brings the sheet with the number's answer, judged on the state after the posts of this turn's base, and leaves a used one.
+    /// False if the number must be judged here and memory runs out.
+    pub fn seek<R: Wait>(&mut self, rt: &R, number: u64, sheet: &mut Sheet<S, E, T, J>) -> bool
+        ensures same { self.new ≡ self.old }
+        ensures after { result ≡ true → sheet.new.0 ≡ self.old.1 }
+        ensures has { result ≡ true → (sheet.new.1 ≤ number) × (number - sheet.new.1 < sheet.new.2) }
+    {
+        if sheet.has(number) && sheet.is_after(&self.base) {
+            return true;
+        }
+        self.fetch(rt, number, sheet);
+        if sheet.has(number) && sheet.is_after(&self.base) {
+            return true;
+        }
+        self.judge_here(rt, number, sheet);
+        sheet.has(number) && sheet.is_after(&self.base)
+    }
+
+    /// The answer for the number, if the sheet has one that was judged on the state after the posts of this turn's base.
+    pub fn answer<'s>(&self, number: u64, sheet: &'s Sheet<S, E, T, J>) -> Option<&'s T>
+        ensures { IfSome result (λ x. IsAnswerAfter S.after S.answer J.start self.now.1 number x.now) }
+    {
+        if !sheet.has(number) || !sheet.is_after(&self.base) {
+            return None;
+        }
+        Some(sheet.at(number))
+    }
+
+    /// Takes the answer for the number out of the sheet, if it has one that was judged on the state after the posts of this turn's base, and
+    /// leaves another value in its place. The sheet's answers for later numbers are wiped.
+    pub fn take(&self, number: u64, sheet: &mut Sheet<S, E, T, J>, other: T) -> Option<T>
+        ensures { IfSome result (λ x. IsAnswerAfter S.after S.answer J.start self.now.1 number x) }
+    {
+        if !(sheet.has(number) && sheet.is_after(&self.base)) {
+            return None;
+        }
+        Some(sheet.take(number, other))
+    }
+
+    /// Brings the sheet of the number's unit: from whoever has taken it, or judged here if nobody has. While somebody judges it, later units
+    /// of the turn are judged here that nobody has taken.
+    fn fetch<R: Wait>(&mut self, rt: &R, number: u64, sheet: &mut Sheet<S, E, T, J>)
+        ensures { self.new ≡ self.old }
+    {
+        let begin = number.saturating_sub(self.due.0);
+        let plan = self.shared.plan;
+        if number < self.due.0
+            || begin >= self.due.1
+            || begin >= plan.units().saturating_mul(plan.size())
+        {
+            return;
+        }
+        let turn = self.base.len().saturating_sub(1);
+        let unit = plan.unit_of(turn, begin);
+        let end = plan
+            .unit_of(turn, self.due.1.saturating_sub(1))
+            .saturating_add(1);
+        for _ in rt.forever() {
+            match self.shared.fetch(rt, unit, sheet) {
+                Fetched::Here => break,
+                Fetched::Mine => {
+                    self.judge_own(rt, unit, sheet);
+                    break;
+                }
+                Fetched::Taken => self.pass_time(rt, unit, end),
+            }
+        }
+    }
+
+    /// While somebody judges a unit, judges a later one before `end` that nobody has taken, or waits if there is none.
+    fn pass_time<R: Wait>(&mut self, rt: &R, unit: u64, end: u64)
+        ensures { self.new ≡ self.old }
+    {
+        let from = self.helped.max(unit.saturating_add(1));
+        for other in from..end {
+            if self.shared.take(other) {
+                self.helped = other.saturating_add(1);
+                self.judge_other(rt, other);
+                return;
+            }
+        }
+        self.helped = from.max(end);
+        self.shared.wait_for(rt, unit);
+    }
+
+    /// Judges a unit into the sheet.
+    fn judge_own<R: Wait>(&mut self, rt: &R, unit: u64, sheet: &mut Sheet<S, E, T, J>)
+        ensures { self.new ≡ self.old }
+    {
+        let goal = self.base.len();
+        if self.shared.follow_to(rt, &mut self.mine, goal) && self.mine.len() == goal {
+            self.shared.judge_unit(&mut self.mine, sheet, unit);
+        }
+    }
+
+    /// Judges a unit that is taken, and puts it into its place.
+    fn judge_other<R: Wait>(&mut self, rt: &R, unit: u64)
+        ensures { self.new ≡ self.old }
+    {
+        let goal = self.base.len();
+        if self.shared.follow_to(rt, &mut self.mine, goal) && self.mine.len() == goal {
+            self.shared
+                .judge_unit(&mut self.mine, &mut self.spare, unit);
+        }
+        self.shared.hand_over(rt, &mut self.spare, unit);
+    }
+
+    /// Judges one number here.
+    fn judge_here<R: Wait>(&mut self, rt: &R, number: u64, sheet: &mut Sheet<S, E, T, J>)
+        ensures { self.new ≡ self.old }
+    {
+        let goal = self.base.len();
+        self.shared.follow_to(rt, &mut self.mine, goal);
+        judge_unit(&mut self.mine, number, 1, sheet);
+    }
+
+    /// A sheet with no answer, to begin with.
+    pub fn sheet(&self, alloc: Global) -> Result<Sheet<S, E, T, J>, AllocError> {
+        let places = self.mine.places(alloc, self.shared.plan.size())?;
+        Ok(Sheet::new(self.front.again(), places))
+    }
+}
+
+impl<S: Follow<E, T>, E: Drop, T: Drop, J: Naming + Boarding + Origin<S>> Drop
+    for Lead<S, E, T, J> {
+    /// Sends the crew home.
+    fn drop(self) {
+        let Lead {
+            shared,
+            front: _,
+            base: _,
+            mine: _,
+            asked: _,
+            due: _,
+            followed: _,
+            helped: _,
+            spare: _,
+        } = self;
+        shared.send_home();
+    }
+}
+
+/// Creates a crew that no worker has joined yet, with a worker for each of the states, and its owner's end. An error means that memory ran
+/// out.
+pub fn new_crew<S: Follow<E, T>, E: Drop, T: Drop, J: Naming + Boarding + Origin<S>>(
+    alloc: Global,
+    opened: Opened<E>,
+    board: Board,
+    claims: Vec<ClaimSeat>,
+    state: S,
+    states: Vec<S>,
+    plan: Plan,
+) -> Result<(Arc<Shared<S, E, T, J>>, Lead<S, E, T, J>), AllocError>
+    requires book { opened ≡ J.book }
+    requires board { board.name ≡ J.board }
+    requires claims { All (λ s. s.board ≡ J.board) claims.items }
+    requires start { J.start ≡ Some state }
+    requires starts { All (λ s. J.start ≡ Some s) states.items }
+    requires many { length claims.items ≡ length states.items }
+    ensures lead { IfOk result (λ r. r.1 ≡ ([], [])) }
+    ensures many { IfOk result (λ r. arc_value r.0 ≡ length states.items) }
+{
+    let (book, front) = opened.named::<J>();
+    let mine = Follower::new(state, front.again());
+    let made = new_shared(alloc, book, board, claims, states, &mine, &front, plan)?;
+    let Ok(crew) = Arc::new(alloc, made) else {
+        return Err(AllocError);
+    };
+    let shared = Arc::try_clone(&crew)?;
+    let base = front.again();
+    let spare = Sheet::new(front.again(), mine.places(alloc, plan.size())?);
+    let lead = Lead {
+        shared,
+        front,
+        base,
+        mine,
+        asked: (0, 0),
+        due: (0, 0),
+        followed: 0,
+        helped: 0,
+        spare,
+    };
+    Ok((crew, lead))
+}

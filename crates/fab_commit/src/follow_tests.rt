@@ -1,0 +1,316 @@
+// A crew of fab_board whose workers have states of this test's own: an owner that gets far ahead of late workers, and one that keeps its end of
+// a crew that has ended.
+ghost use Rattle.std.specs.Prelude.{All, ◌≡◌, ◌<◌, ◌≤◌, Some, IfOk, length};
+ghost use Rattle.std.specs.Thread.{IsSync};
+
+use crate::crew_tests::hold;
+use crate::in_time::in_time;
+use fab_board::follow_crew::{beside, retire};
+use fab_board::follow_lead::{Lead, new_crew};
+use fab_board::{Board, Boarding, ClaimSeat, Follow, Naming, Opened, Origin, Plan, Sheet};
+use std::alloc::{AllocError, Global};
+use std::marker::{Brand, Model};
+use std::sync::Wait;
+use std::sync::atomic::{AtomicU64, Ordering};
+use std::test::*;
+use std::thread;
+use std::thread::Threads;
+use std::time::Duration;
+
+// More posts than the ring of posts has slots.
+const POSTS: u64 = 70;
+
+// What is posted: a number to judge.
+#[derive(Clone, Copy)]
+struct Step {
+    number: u64,
+}
+
+// How many workers have begun, how many numbers they have judged, and whether one of these was waited for in vain.
+#[derive(Drop)]
+struct Watch<'a> {
+    rt: &'a HostRuntime,
+    begun: AtomicU64,
+    judged: AtomicU64,
+    failed: AtomicU64,
+}
+
+// Counts the posts that it has followed, and answers with that count. A worker's takes a second over its first post. Contracts see nothing of
+// it.
+#[derive(Drop)]
+struct Counted<'a> {
+    watch: &'a Watch<'a>,
+    is_late: bool,
+    posts: u64,
+}
+
+impl<'a> Model for Counted<'a> {
+    ghost use Rattle.std.specs.Prelude.{ℕ};
+
+    ghost Value = { ℕ };
+
+    ghost view = { λ s. 0 };
+}
+
+impl<'a> Counted<'a> {
+    fn new(watch: &'a Watch<'a>, is_late: bool) -> Counted<'a>
+        ensures { result ≡ 0 }
+    {
+        Counted {
+            watch,
+            is_late,
+            posts: 0,
+        }
+    }
+}
+
+impl<'a> Follow<Step, u64> for Counted<'a> {
+    ghost use Rattle.std.specs.Prelude.{◌≡◌};
+
+    ghost may = { λ s e. e ≡ e };
+
+    ghost after = { λ s e. s };
+
+    ghost answer = { λ s k x. x ≡ x };
+
+    fn first(&self, post: &Step) -> u64 {
+        post.number
+    }
+
+    fn count(&self, _post: &Step) -> u64 {
+        1
+    }
+
+    fn blank(&self) -> u64 {
+        0
+    }
+
+    fn follow(&mut self, _post: &Step) {
+        if self.is_late && self.posts == 0 {
+            self.watch.begun.fetch_add(1, Ordering::SeqCst);
+            thread::sleep(self.watch.rt, Duration::from_millis(1000));
+        }
+        self.posts = self.posts.saturating_add(1);
+    }
+
+    // A unit has one number.
+    fn judge(&mut self, _first: u64, count: u64, places: &mut [u64]) -> bool {
+        if count == 0 {
+            return false;
+        }
+        places[0] = self.posts;
+        if self.is_late {
+            self.watch.judged.fetch_add(1, Ordering::SeqCst);
+        }
+        count == 1
+    }
+}
+
+// What a crew is made of.
+struct Founded<S> {
+    board: Board,
+    claims: Vec<ClaimSeat>,
+    first: S,
+    others: Vec<S>,
+}
+
+// What a crew of so many late workers is made of.
+fn found<'a>(
+    alloc: Global,
+    watch: &'a Watch<'a>,
+    workers: u64,
+) -> Result<Founded<Counted<'a>>, AllocError>
+    requires workers { (0 < workers) × (workers ≤ 64) }
+    ensures claims { IfOk result (λ f. All (λ s. s.board ≡ f.board.name) f.claims.items) }
+    ensures first { IfOk result (λ f. f.first ≡ 0) }
+    ensures others { IfOk result (λ f. All (λ s. s ≡ 0) f.others.items) }
+    ensures many { IfOk result (λ f. (length f.claims.items ≡ workers) × (length f.others.items ≡ workers)) }
+{
+    let mut others = Vec::new(alloc);
+    for _worker in 0..workers {
+        others.push(Counted::new(watch, true))?;
+    }
+    let (board, claims) = Board::new(alloc, 1 << 62, workers)?;
+    Ok(Founded {
+        board,
+        claims,
+        first: Counted::new(watch, false),
+        others,
+    })
+}
+
+// The owner's end of a crew, and the sheet that it reads.
+#[derive(Drop)]
+struct Desk<S: Follow<Step, u64>, J: Naming + Boarding + Origin<S>> {
+    lead: Lead<S, Step, u64, J>,
+    sheet: Sheet<S, Step, u64, J>,
+}
+
+// Posts these numbers.
+fn post_each<S: Follow<Step, u64>, J: Naming + Boarding + Origin<S>, R: Wait>(
+    rt: &R,
+    desk: &mut Desk<S, J>,
+    first: u64,
+    past: u64,
+)
+    requires may { (s : S) (e : Step) → S.may s e }
+{
+    for number in first..past {
+        let _ = desk.lead.post(rt, Step { number });
+    }
+}
+
+// Posts beside late workers and asks for nothing: once, and when each of them has begun with that post, more often than the ring has slots. So
+// the owner has to wait for them, for longer than it looks, and is woken by the last one. Then the workers judge; a number is passed by where
+// its worker is slow to take it.
+fn run_ahead<S: Follow<Step, u64>, J: Naming + Boarding + Origin<S>, R: Wait>(
+    rt: &R,
+    desk: &mut Desk<S, J>,
+    watch: &Watch<'_>,
+    workers: u64,
+)
+    requires may { (s : S) (e : Step) → S.may s e }
+{
+    post_each(rt, desk, 0, 1);
+    hold(watch.rt, &watch.begun, workers, &watch.failed);
+    post_each(rt, desk, 1, POSTS);
+    hold(watch.rt, &watch.judged, POSTS / 2, &watch.failed);
+}
+
+// Posts as often again, and asks for each number when it is due. Returns how many answers are right: as many posts as there were up to the
+// number's own.
+fn go_on<S: Follow<Step, u64>, J: Naming + Boarding + Origin<S>, R: Wait>(
+    rt: &R,
+    desk: &mut Desk<S, J>,
+) -> u64
+    requires may { (s : S) (e : Step) → S.may s e }
+{
+    let mut right = 0u64;
+    for number in POSTS..2 * POSTS {
+        let _ = desk.lead.post(rt, Step { number });
+        let due = number.saturating_sub(1);
+        desk.lead.seek(rt, due, &mut desk.sheet);
+        if let Some(posts) = desk.lead.answer(due, &desk.sheet) {
+            if *posts == number {
+                right = right.saturating_add(1);
+            }
+        }
+    }
+    right
+}
+
+// Runs ahead of a crew of this name, and goes on where it has ended. Returns how many answers were right then, and how many units were claimed,
+// if all workers have ended.
+fn posted_by<
+    S: Follow<Step, u64> + Send,
+    J: Naming + Boarding + Origin<S> + Send + Sync,
+    R: Threads + Wait + Sync,
+>(
+    rt: &R,
+    alloc: Global,
+    opened: Opened<Step>,
+    founded: Founded<S>,
+    watch: &Watch<'_>,
+    workers: u64,
+) -> Result<(u64, Option<u64>), AllocError>
+    requires book { opened ≡ J.book }
+    requires board { founded.board.name ≡ J.board }
+    requires claims { All (λ s. s.board ≡ J.board) founded.claims.items }
+    requires start { J.start ≡ Some founded.first }
+    requires starts { All (λ s. J.start ≡ Some s) founded.others.items }
+    requires many { length founded.claims.items ≡ length founded.others.items }
+    requires may { (s : S) (e : Step) → S.may s e }
+{
+    let Founded {
+        board,
+        claims,
+        first,
+        others,
+    } = founded;
+    let (crew, lead) = new_crew::<S, Step, u64, J>(
+        alloc,
+        opened,
+        board,
+        claims,
+        first,
+        others,
+        Plan::single(1),
+    )?;
+    let sheet = lead.sheet(alloc)?;
+    let mut desk = Desk { lead, sheet };
+    beside(
+        rt,
+        &crew,
+        &mut desk,
+        &mut |d: &mut Desk<S, J>| -> ()
+            requires { IsSync R.row × ((s : S) (e : Step) → S.may s e) }
+        { run_ahead(rt, d, watch, workers) },
+    );
+    let right = go_on(rt, &mut desk);
+    drop(desk);
+    let Some(retired) = retire(crew) else {
+        return Ok((right, None));
+    };
+    Ok((right, Some(retired.close().taken)))
+}
+
+// What came of a crew.
+#[derive(Clone, Copy)]
+struct Told {
+    failed: u64,
+    judged: u64,
+    right: u64,
+    taken: Option<u64>,
+}
+
+// What comes of a crew of so many workers.
+fn late_run<R: Threads + Wait + Sync>(
+    rt: &R,
+    alloc: Global,
+    clock: &HostRuntime,
+    workers: u64,
+) -> Result<Told, AllocError>
+    requires { (0 < workers) × (workers ≤ 64) }
+{
+    let watch = Watch {
+        rt: clock,
+        begun: AtomicU64::new(0),
+        judged: AtomicU64::new(0),
+        failed: AtomicU64::new(0),
+    };
+    let founded = found(alloc, &watch, workers)?;
+    let (right, taken) = posted_by::<Counted<'_>, Brand, R>(
+        rt,
+        alloc,
+        Opened::new(),
+        founded,
+        &watch,
+        workers,
+    )?;
+    Ok(Told {
+        failed: watch.failed.load(Ordering::SeqCst),
+        judged: watch.judged.load(Ordering::SeqCst),
+        right,
+        taken,
+    })
+}
+
+// Each number that a worker judged it claimed. Each worker may hold a number more, which was not posted yet.
+#[test]
+fn an_owner_waits_for_late_workers_and_outlives_its_crew(rt: HostRuntime) -> Result<(), Fail> {
+    in_time(
+        &rt,
+        &mut || -> Result<(), Fail> {
+            for workers in 1..3u64 {
+                let told = late_run(&rt, rt.alloc(), &rt, workers)?;
+                assert_eq!(rt; (told.failed, told.right), (0, POSTS), "{workers} workers");
+                let Some(taken) = told.taken else {
+                    return Err(Fail::from("a worker has not ended"));
+                };
+                assert!(rt; told.judged <= taken, "{workers} workers");
+                assert!(rt; taken <= POSTS + workers, "{workers} workers");
+            }
+            Ok(())
+        },
+    )
+}

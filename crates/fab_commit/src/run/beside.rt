@@ -1,0 +1,247 @@
+//! Moves of a stage that are made beside a crew, which judges them ahead. The crew lives for these moves.
+
+ghost use Rattle.std.specs.Prelude.{All, ◌≡◌, ◌<◌, ◌≤◌, length, Some, IfOk, IfSome};
+ghost use Rattle.std.specs.Arc.{arc_value};
+ghost use Rattle.std.specs.Thread.{IsSync};
+ghost use Rattle.fab_commit.specs.declared.run.alone.Ahead.{Ahead as IsAhead};
+ghost use Rattle.fab_commit.specs.Serial.{moves_left};
+ghost use Rattle.fab_commit.specs.Run.Alone.{AreMadeAlone, IsUnjudged};
+ghost use Rattle.fab_commit.specs.Run.Commits.{IsSound, run_for, standing_of};
+ghost use Rattle.fab_commit.specs.Run.Followed.{IsTied};
+ghost use Rattle.fab_commit.specs.Run.Pipelines.{HasTurn};
+
+use crate::run::behind::{Behind, Pursue};
+use crate::run::followed::Followers;
+use crate::run::foreseen::Foreseen;
+use crate::run::pipeline::Pipeline;
+use crate::run::post::Post;
+use crate::run::stage::{MovesPlan, finish, finish_alone, refuse};
+use crate::run::state::{Given, State, copy_of};
+use fab_board::follow_crew::{beside, close_board};
+use fab_board::follow_lead::new_crew;
+use fab_board::{Board, Boarding, ClaimSeat, Gate, Naming, Opened, Origin, Plan};
+use fab_dial::{Dial, Shower};
+use fab_site::Words;
+use std::alloc::AllocError;
+use std::marker::Brand;
+use std::sync::{Arc, Wait};
+use std::thread::Threads;
+
+/// How moves of a stage are made beside a crew.
+#[derive(Drop)]
+pub struct StagePlan<'g, G: Gate> {
+    /// How many moves a turn has at most, from 1 to 4,096.
+    pub batch: u64,
+    /// How many workers judge moves ahead, from 1 to 64.
+    pub workers: u64,
+    /// The gate of the judgements and the commits.
+    pub gate: &'g G,
+    /// The dial that shows each turn.
+    pub dial: &'g Dial,
+}
+
+/// What a crew is made of: a claim board with the seats of its workers, and a state for the owner and one for each worker.
+pub(crate) struct Founded<S> {
+    pub(crate) board: Board,
+    pub(crate) claims: Vec<ClaimSeat>,
+    pub(crate) first: S,
+    pub(crate) others: Vec<S>,
+    pub(crate) units: Plan,
+}
+
+/// Makes the plan's moves of the running stage where there is no memory for a crew. With a gate that does nothing the owner makes them alone.
+/// Another gate may wait in one call for another, for ever if one thread makes all calls, so with it this makes no move.
+fn without_crew<W: Words, G: Gate, S: Pursue, J: Naming + Boarding + Origin<S>, R: Wait>(
+    rt: &R,
+    given: &Given<'_, W>,
+    state: &mut Pipeline,
+    plan: &MovesPlan<'_, G>,
+    shower: &mut Shower,
+) -> Result<(), AllocError>
+    requires behind { HasTurn (run_for W.moves given.now) state.old }
+    requires some { (plan.now.count ≤ moves_left (run_for W.moves given.now) (standing_of state.old.owner.state)) × (0 < moves_left (run_for W.moves given.now) (standing_of state.old.owner.state)) }
+    requires batch { (1 ≤ plan.now.batch) × (plan.now.batch ≤ 4096) }
+    requires own { shower.old.dial ≡ plan.now.dial.now }
+    ensures left { HasTurn (run_for W.moves given.now) state.new }
+    ensures made { (due : IsAhead) × IsUnjudged state.new due × AreMadeAlone (run_for W.moves given.now) plan.now.batch plan.now.count state.old.owner (record { base = state.old.base; moves = length state.old.ahead.items }) state.new.owner due result shower.old.shown shower.new.shown }
+    ensures dial { shower.new.dial ≡ shower.old.dial }
+{
+    if plan.gate.does_nothing() {
+        finish_alone::<W, G, S, J, R>(rt, given, state, plan, shower)
+    } else {
+        refuse(given, state, plan, shower)
+    }
+}
+
+/// Makes the plan's moves of the running stage beside a crew of this name.
+fn made_beside<
+    W: Words + Sync,
+    G: Gate,
+    S: Pursue + Send,
+    J: Naming + Boarding + Origin<S> + Send + Sync,
+    R: Threads + Wait + Sync,
+>(
+    rt: &R,
+    opened: Opened<Post>,
+    founded: Founded<S>,
+    given: &Given<'_, W>,
+    state: &mut Pipeline,
+    plan: &MovesPlan<'_, G>,
+    shower: &mut Shower,
+) -> Result<(), AllocError>
+    requires book { opened ≡ J.book }
+    requires board { founded.board.name ≡ J.board }
+    requires claims { All (λ s. s.board ≡ J.board) founded.claims.items }
+    requires start { J.start ≡ Some founded.first }
+    requires starts { All (λ s. J.start ≡ Some s) founded.others.items }
+    requires many { length founded.claims.items ≡ length founded.others.items }
+    requires run { S.run founded.first ≡ (run_for W.moves given.now) }
+    requires stands { S.standing founded.first ≡ standing_of state.old.owner.state }
+    requires behind { HasTurn (run_for W.moves given.now) state.old }
+    requires some { (plan.now.count ≤ moves_left (run_for W.moves given.now) (standing_of state.old.owner.state)) × (0 < moves_left (run_for W.moves given.now) (standing_of state.old.owner.state)) }
+    requires batch { (1 ≤ plan.now.batch) × (plan.now.batch ≤ 4096) }
+    requires own { shower.old.dial ≡ plan.now.dial.now }
+    ensures left { HasTurn (run_for W.moves given.now) state.new }
+    ensures made { (due : IsAhead) × IsUnjudged state.new due × AreMadeAlone (run_for W.moves given.now) plan.now.batch plan.now.count state.old.owner (record { base = state.old.base; moves = length state.old.ahead.items }) state.new.owner due result shower.old.shown shower.new.shown }
+    ensures dial { shower.new.dial ≡ shower.old.dial }
+{
+    let Founded {
+        board,
+        claims,
+        first,
+        others,
+        units,
+    } = founded;
+    let alloc = given.alloc;
+    let Ok((crew, lead)) = new_crew::<S, Post, Foreseen, J>(
+        alloc, opened, board, claims, first, others, units,
+    ) else {
+        return without_crew::<W, G, S, J, R>(rt, given, state, plan, shower);
+    };
+    let Ok(followers) = Followers::new(alloc, lead) else {
+        return without_crew::<W, G, S, J, R>(rt, given, state, plan, shower);
+    };
+    let mut followers = Some(followers);
+    let made = beside(
+        rt,
+        &crew,
+        &mut followers,
+        &mut |f: &mut Option<Followers<S, J>>| -> Result<(), AllocError>
+            requires { IsSync R.row × HasTurn (run_for W.moves given.now) state.now × IfSome f.old (λ p. IsTied S.run S.standing S.after J.start p.0 (run_for W.moves given.now) (standing_of state.now.owner.state)) × ((plan.now.count ≤ moves_left (run_for W.moves given.now) (standing_of state.now.owner.state)) × (0 < moves_left (run_for W.moves given.now) (standing_of state.now.owner.state))) × ((1 ≤ plan.now.batch) × (plan.now.batch ≤ 4096)) × (shower.now.dial ≡ plan.now.dial.now) }
+            ensures left { HasTurn (run_for W.moves given.entry.now) state.exit.now }
+            ensures made { (due : IsAhead) × IsUnjudged state.exit.now due × AreMadeAlone (run_for W.moves given.entry.now) plan.entry.now.batch plan.entry.now.count state.entry.now.owner (record { base = state.entry.now.base; moves = length state.entry.now.ahead.items }) state.exit.now.owner due result shower.entry.now.shown shower.exit.now.shown }
+            ensures dial { shower.exit.now.dial ≡ shower.entry.now.dial }
+        { finish(rt, given, state, f, plan, shower) },
+    );
+    drop(followers);
+    close_board(crew);
+    made
+}
+
+/// A state that stands where this one does, to follow the owner.
+fn behind<'a, 'g, W: Words + Drop, G: Gate>(
+    given: &Arc<Given<'a, W>>,
+    state: &State,
+    gate: &'g G,
+) -> Result<Behind<'a, 'g, W, G>, AllocError>
+    requires sound { IsSound (run_for W.moves (arc_value given.now)) state.now }
+    ensures { IfOk result (λ b. b ≡ record { given = arc_value given.now; standing = standing_of state.now }) }
+{
+    let copy = copy_of(state)?;
+    Ok(Behind::new(Arc::try_clone(given)?, copy, gate))
+}
+
+/// How the moves of a turn are shared out. A gate may hold one judgement until another begins, so with one that does something a worker has
+/// single moves, of which none waits for another of its own.
+fn units_of<G: Gate>(batch: u64, workers: u64, gate: &G) -> Plan {
+    if gate.does_nothing() {
+        Plan::of(batch, workers)
+    } else {
+        Plan::single(batch)
+    }
+}
+
+/// What a crew of so many workers is made of, whose states stand where this one does, for turns of at most `batch` moves. An error means that
+/// memory ran out.
+pub(crate) fn found<'a, 'g, W: Words + Drop, G: Gate>(
+    given: &Arc<Given<'a, W>>,
+    state: &State,
+    batch: u64,
+    workers: u64,
+    gate: &'g G,
+) -> Result<Founded<Behind<'a, 'g, W, G>>, AllocError>
+    requires sound { IsSound (run_for W.moves (arc_value given.now)) state.now }
+    requires workers { (1 ≤ workers) × (workers ≤ 64) }
+    ensures claims { IfOk result (λ f. All (λ s. s.board ≡ f.board.name) f.claims.items) }
+    ensures first { IfOk result (λ f. f.first ≡ record { given = arc_value given.now; standing = standing_of state.now }) }
+    ensures others { IfOk result (λ f. All (λ s. s ≡ record { given = arc_value given.now; standing = standing_of state.now }) f.others.items) }
+    ensures many { IfOk result (λ f. (length f.claims.items ≡ workers) × (length f.others.items ≡ workers)) }
+{
+    let alloc = given.alloc;
+    let first = behind(given, state, gate)?;
+    let mut others = Vec::new(alloc);
+    for _worker in 0..workers {
+        others.push(behind(given, state, gate)?)?;
+    }
+    let (board, claims) = Board::new(alloc, 1 << 62, workers)?;
+    Ok(Founded {
+        board,
+        claims,
+        first,
+        others,
+        units: units_of(batch, workers, gate),
+    })
+}
+
+/// Makes `count` moves of the running stage beside a crew of so many workers as the plan says, which is founded for them.
+pub(crate) fn finish_beside<
+    'a,
+    'g,
+    W: Words + Send + Sync + Drop,
+    G: Gate,
+    R: Threads + Wait + Sync,
+>(
+    rt: &R,
+    given: &Arc<Given<'a, W>>,
+    state: &mut Pipeline,
+    plan: &StagePlan<'g, G>,
+    count: u64,
+    shower: &mut Shower,
+) -> Result<(), AllocError>
+    requires behind { HasTurn (run_for W.moves (arc_value given.now)) state.old }
+    requires some { (count ≤ moves_left (run_for W.moves (arc_value given.now)) (standing_of state.old.owner.state)) × (0 < moves_left (run_for W.moves (arc_value given.now)) (standing_of state.old.owner.state)) }
+    requires batch { (1 ≤ plan.now.batch) × (plan.now.batch ≤ 4096) }
+    requires workers { (1 ≤ plan.now.workers) × (plan.now.workers ≤ 64) }
+    requires own { shower.old.dial ≡ plan.now.dial.now }
+    ensures left { HasTurn (run_for W.moves (arc_value given.now)) state.new }
+    ensures made { (due : IsAhead) × IsUnjudged state.new due × AreMadeAlone (run_for W.moves (arc_value given.now)) plan.now.batch count state.old.owner (record { base = state.old.base; moves = length state.old.ahead.items }) state.new.owner due result shower.old.shown shower.new.shown }
+    ensures dial { shower.new.dial ≡ shower.old.dial }
+{
+    let lent: &Given<'a, W> = given;
+    let moves = MovesPlan {
+        batch: plan.batch,
+        count,
+        gate: plan.gate,
+        dial: plan.dial,
+    };
+    let Ok(founded) = found(
+        given,
+        &state.owner.state,
+        plan.batch,
+        plan.workers,
+        plan.gate,
+    ) else {
+        return without_crew::<W, G, Behind<'a, 'g, W, G>, Brand, R>(
+            rt, lent, state, &moves, shower,
+        );
+    };
+    made_beside::<W, G, Behind<'a, 'g, W, G>, Brand, R>(
+        rt,
+        Opened::new(),
+        founded,
+        lent,
+        state,
+        &moves,
+        shower,
+    )
+}

@@ -1,0 +1,385 @@
+//! Stages whose moves a crew judges ahead: each worker follows the owner on a state of its own.
+
+ghost use Rattle.std.specs.Prelude.{◌≡◌, ℕ, ◌+◌, ◌<◌, ◌≤◌, ◌++◌, ◌∷◌, [], List, false, true, length, Some, Option, IfOk, IfSome, MatchResult, OnOk};
+ghost use Rattle.std.specs.List.{count_by, range_with_len};
+ghost use Rattle.fab_sched.specs.Annealing.{IsLawful};
+ghost use Rattle.fab_site.specs.Placement.{IsSwapOf};
+ghost use Rattle.fab_move.specs.Judge.{IsDecision};
+ghost use Rattle.fab_commit.specs.Serial.{Run, Standing, judged_here};
+ghost use Rattle.fab_commit.specs.Run.Alone.{AreOpen, HasGone, IsAlone, is_touched_here};
+ghost use Rattle.fab_commit.specs.Run.Behind.{MayBeFollowed, after_post};
+ghost use Rattle.fab_commit.specs.Run.Commits.{run_for, standing_of};
+ghost use Rattle.fab_commit.specs.Run.Owners.{HasMade, HasRoom, IsOwned, Leads};
+ghost use Rattle.fab_commit.specs.Run.Foreseen.{IsForeseen};
+ghost use Rattle.fab_commit.specs.Run.Followed.{IsTied};
+ghost use Rattle.fab_commit.specs.Model.History.{is_redone};
+ghost use Rattle.fab_commit.specs.Model.TurnEvents.{LastTurn, next_turn};
+
+use crate::run::alone::{AT_ONCE, Ahead, commit_alone, decided_alone};
+use crate::run::behind::Pursue;
+use crate::run::foreseen::Foreseen;
+use crate::run::owner::{Owner, make_one};
+use crate::run::pipeline::reserve;
+use crate::run::post::{Post, Share};
+use crate::run::state::{Given, State, decide_on, moves_left};
+use crate::run::swaps::Accepted;
+use fab_board::follow_lead::Lead;
+use fab_board::{Boarding, Gate, Naming, Origin, Sheet};
+use fab_move::Decision;
+use fab_site::{Swap, Words};
+use std::alloc::{AllocError, Global};
+use std::marker::Model;
+use std::mem;
+use std::sync::Wait;
+
+/// The owner's end of a crew that follows it, and the sheet that it reads. Contracts see what was posted, and the posts on which this turn's
+/// answers are judged.
+#[derive(Drop)]
+pub(crate) struct Followers<S: Pursue, J: Naming + Boarding + Origin<S>> {
+    lead: Lead<S, Post, Foreseen, J>,
+    sheet: Sheet<S, Post, Foreseen, J>,
+    /// The swaps of an older post, to be filled anew.
+    spare: Vec<Accepted>,
+}
+
+impl<S: Pursue, J: Naming + Boarding + Origin<S>> Model for Followers<S, J> {
+    ghost use Rattle.std.specs.Prelude.{List};
+    ghost use Rattle.fab_commit.specs.declared.run.post.Post.{Post as IsPost};
+
+    ghost Value = { List IsPost × List IsPost };
+
+    ghost view = { λ f. f.lead };
+}
+
+impl<S: Pursue, J: Naming + Boarding + Origin<S>> Followers<S, J> {
+    /// The owner's end of a crew, and a sheet. An error means that memory ran out.
+    pub(crate) fn new(
+        alloc: Global,
+        lead: Lead<S, Post, Foreseen, J>,
+    ) -> Result<Followers<S, J>, AllocError>
+        ensures { IfOk result (λ f. f ≡ lead) }
+    {
+        let sheet = lead.sheet(alloc)?;
+        Ok(Followers {
+            lead,
+            sheet,
+            spare: Vec::new(alloc),
+        })
+    }
+
+    /// Has ready what is foreseen of a move, on the placement of this turn's base. False if there is nothing.
+    pub(crate) fn seek<R: Wait>(&mut self, rt: &R, number: u64) -> bool
+        ensures { self.new ≡ self.old }
+    {
+        self.lead.seek(rt, number, &mut self.sheet)
+    }
+
+    /// What is foreseen of a move, if it is ready.
+    pub(crate) fn foreseen(&self, number: u64) -> Option<&Foreseen>
+        ensures { IfSome result (λ v. (r : Run) (x : Standing) → IsTied S.run S.standing S.after J.start self.now.1 r x → IsForeseen r x number v.now) }
+    {
+        self.lead.answer(number, &self.sheet)
+    }
+
+    /// An empty list for the swaps of the next turn.
+    pub(crate) fn fresh(&mut self) -> Vec<Accepted>
+        ensures same { self.new ≡ self.old }
+        ensures empty { result.items ≡ [] }
+    {
+        let alloc = *self.spare.allocator();
+        let mut fresh = mem::replace(&mut self.spare, Vec::new(alloc));
+        fresh.clear();
+        fresh
+    }
+
+    /// Posts what the owner made. False if the crew was not given it, since there were too many posts.
+    pub(crate) fn post<R: Wait>(&mut self, rt: &R, post: Post) -> bool
+        requires may { (r : Run) × (x : Standing) × IsTied S.run S.standing S.after J.start self.old.0 r x × MayBeFollowed r x post }
+        ensures base { result ≡ true → self.new.1 ≡ self.old.0 }
+        ensures tied { (r : Run) (x : Standing) → IsTied S.run S.standing S.after J.start self.old.0 r x → result ≡ true → IsTied S.run S.standing S.after J.start self.new.0 r (after_post x post) }
+    {
+        match self.lead.post(rt, post) {
+            Ok(Some(older)) => {
+                self.spare = older.swaps;
+                true
+            }
+            Ok(None) => true,
+            Err(_) => false,
+        }
+    }
+}
+
+/// Decides the next move, which was not foreseen since memory ran out. Returns the decision, and whether a judgement on the placement after
+/// `base` moves was spoilt.
+fn decided_here<W: Words, G: Gate>(
+    given: &Given<'_, W>,
+    owner: &Owner,
+    base: u64,
+    gate: &G,
+) -> (Decision, bool)
+    requires owned { IsOwned (run_for W.moves given.now) owner.now }
+    requires going { owner.now.state.ended ≡ false }
+    ensures again { result.1 ≡ is_touched_here (run_for W.moves given.now) owner.now base }
+    ensures lawful { (s : Swap) → result.0.swap ≡ Some s → IsSwapOf given.now.grid.now owner.now.state.placement.sites s }
+    ensures decides { IsDecision result.0 (judged_here (run_for W.moves given.now) (standing_of owner.now.state) owner.now.state.done) }
+{
+    let number = owner.state.done;
+    gate.before_judge(number);
+    let words = given.words.move_words(number);
+    let decided = decided_alone(given, owner, base, words);
+    gate.after_judge(number);
+    decided
+}
+
+/// Decides the next move: as it was foreseen on the placement after `base` moves, unless a move accepted since has touched what that rests on,
+/// or there is nothing. Returns the decision, and whether a judgement on that placement was spoilt. The gate has the call before the commit
+/// behind the first judgement, and before the move is judged again. Allocates nothing.
+fn decided_followed<W: Words, G: Gate>(
+    given: &Given<'_, W>,
+    owner: &Owner,
+    base: u64,
+    foreseen: Option<&Foreseen>,
+    gate: &G,
+) -> (Decision, bool)
+    requires plan { IsLawful given.now.schedule }
+    requires owned { IsOwned (run_for W.moves given.now) owner.now }
+    requires going { owner.now.state.ended ≡ false }
+    requires due { (due : AreOpen (run_for W.moves given.now) owner.now base 1) × IfSome foreseen (λ v. IsForeseen (run_for W.moves given.now) due.start owner.now.state.done v.now) }
+    ensures again { result.1 ≡ is_touched_here (run_for W.moves given.now) owner.now base }
+    ensures lawful { (s : Swap) → result.0.swap ≡ Some s → IsSwapOf given.now.grid.now owner.now.state.placement.sites s }
+    ensures decides { IsDecision result.0 (judged_here (run_for W.moves given.now) (standing_of owner.now.state) owner.now.state.done) }
+{
+    let number = owner.state.done;
+    let Some(foreseen) = foreseen else {
+        let decided = decided_here(given, owner, base, gate);
+        gate.before_commit(number);
+        return decided;
+    };
+    gate.before_commit(number);
+    let again = owner
+        .stamps
+        .is_touched(given.design, given.grid, base, foreseen.proposal);
+    if again {
+        (decide_on(given, &owner.state, owner.state.done), true)
+    } else {
+        (foreseen.decision(), false)
+    }
+}
+
+/// Makes the next moves of the running stage, which the crew judges on the placement after as many moves as the share's first. Allocates
+/// nothing of its own.
+pub(crate) fn commit_followed<
+    W: Words,
+    G: Gate,
+    S: Pursue,
+    J: Naming + Boarding + Origin<S>,
+    R: Wait,
+>(
+    rt: &R,
+    given: &Given<'_, W>,
+    owner: &mut Owner,
+    followers: &mut Followers<S, J>,
+    share: Share,
+    gate: &G,
+)
+    requires plan { IsLawful given.now.schedule }
+    requires owned { IsOwned (run_for W.moves given.now) owner.old }
+    requires room { HasRoom owner.old share.moves }
+    requires due { (due : AreOpen (run_for W.moves given.now) owner.old share.first share.moves) × IsTied S.run S.standing S.after J.start followers.old.1 (run_for W.moves given.now) due.start }
+    ensures same { followers.new ≡ followers.old }
+    ensures made { HasMade (run_for W.moves given.now) owner.old share.moves owner.new }
+    ensures redone { (due : AreOpen (run_for W.moves given.now) owner.old share.first share.moves) → owner.new.redone ≡ owner.old.redone + count_by (is_redone (run_for W.moves given.now) due.start share.first) (range_with_len owner.old.state.done share.moves) }
+    ensures room { (n : ℕ) → HasRoom owner.old (share.moves + n) → HasRoom owner.new n }
+{
+    'moves: for _i in 0..share.moves {
+        let number = owner.state.done;
+        followers.seek(rt, number);
+        let foreseen = followers.foreseen(number);
+        let (decision, again) = decided_followed(given, owner, share.first, foreseen, gate);
+        make_one(given, owner, &decision, again);
+    }
+}
+
+/// Makes the next moves of the running stage, beside the crew if there is one. The share's first tells on the placement after how many moves
+/// they count as judged. `words` is room for the words of some moves.
+fn commit_by<W: Words, G: Gate, S: Pursue, J: Naming + Boarding + Origin<S>, R: Wait>(
+    rt: &R,
+    given: &Given<'_, W>,
+    owner: &mut Owner,
+    followers: &mut Option<Followers<S, J>>,
+    share: Share,
+    gate: &G,
+    words: &mut [[u32; 4]; AT_ONCE],
+)
+    requires plan { IsLawful given.now.schedule }
+    requires owned { IsOwned (run_for W.moves given.now) owner.old }
+    requires room { HasRoom owner.old share.moves }
+    requires due { (due : AreOpen (run_for W.moves given.now) owner.old share.first share.moves) × IfSome followers.old (λ f. IsTied S.run S.standing S.after J.start f.1 (run_for W.moves given.now) due.start) }
+    ensures same { followers.new ≡ followers.old }
+    ensures made { HasMade (run_for W.moves given.now) owner.old share.moves owner.new }
+    ensures redone { (due : AreOpen (run_for W.moves given.now) owner.old share.first share.moves) → owner.new.redone ≡ owner.old.redone + count_by (is_redone (run_for W.moves given.now) due.start share.first) (range_with_len owner.old.state.done share.moves) }
+    ensures room { (n : ℕ) → HasRoom owner.old (share.moves + n) → HasRoom owner.new n }
+{
+    match followers {
+        Some(crew) => commit_followed(rt, given, owner, crew, share, gate),
+        None => commit_alone(given, owner, share.moves, share.first, gate, words),
+    }
+}
+
+/// How a turn is made.
+#[derive(Drop)]
+pub(crate) struct TurnPlan<'g, G: Gate> {
+    /// How many moves it has at most.
+    pub(crate) batch: u64,
+    /// The gate of the judgements and the commits.
+    pub(crate) gate: &'g G,
+}
+
+/// What the owner made since its last post, and which moves it asks for.
+pub(crate) fn post_of(state: &State, swaps: Vec<Accepted>, share: Share) -> Post
+    ensures swaps { result.swaps.items ≡ swaps.items }
+    ensures stage { result.stage ≡ state.now.stage }
+    ensures rest { (result.ended ≡ state.now.ended) × (result.done ≡ state.now.done) × (result.total ≡ state.now.total) }
+{
+    Post {
+        swaps,
+        stage: state.stage,
+        ended: state.ended,
+        done: state.done,
+        total: state.total,
+        first: share.first,
+        count: share.moves,
+    }
+}
+
+/// An empty list for swaps.
+fn fresh_list<S: Pursue, J: Naming + Boarding + Origin<S>>(
+    alloc: Global,
+    followers: &mut Option<Followers<S, J>>,
+) -> Vec<Accepted>
+    ensures same { followers.new ≡ followers.old }
+    ensures empty { result.items ≡ [] }
+{
+    match followers {
+        Some(crew) => crew.fresh(),
+        None => Vec::new(alloc),
+    }
+}
+
+/// Posts for the crew, if there is one. A crew that was not given the post, since there were too many, is let go.
+fn tell<S: Pursue, J: Naming + Boarding + Origin<S>, R: Wait>(
+    rt: &R,
+    followers: &mut Option<Followers<S, J>>,
+    post: Post,
+)
+    requires may { IfSome followers.old (λ f. (r : Run) × (x : Standing) × IsTied S.run S.standing S.after J.start f.0 r x × MayBeFollowed r x post) }
+    ensures base { (r : Run) (x : Standing) → IfSome followers.old (λ f. IsTied S.run S.standing S.after J.start f.0 r x) → IfSome followers.new (λ f. IsTied S.run S.standing S.after J.start f.1 r x) }
+    ensures tied { (r : Run) (x : Standing) → IfSome followers.old (λ f. IsTied S.run S.standing S.after J.start f.0 r x) → IfSome followers.new (λ f. IsTied S.run S.standing S.after J.start f.0 r (after_post x post)) }
+{
+    let told = match followers {
+        Some(crew) => crew.post(rt, post),
+        None => true,
+    };
+    if !told {
+        *followers = None;
+    }
+}
+
+/// Makes a turn of at most a batch of moves of the running stage: posts the swaps of the turn before, and asks for the moves after this
+/// turn; then makes the moves, of which the crew has judged the first ones. Returns the moves after it that are judged ahead. An error
+/// means that memory ran out; then no move was made. If the crew is let go, the owner makes all moves alone.
+pub(crate) fn turn_followed<
+    W: Words,
+    G: Gate,
+    S: Pursue,
+    J: Naming + Boarding + Origin<S>,
+    R: Wait,
+>(
+    rt: &R,
+    given: &Given<'_, W>,
+    owner: &mut Owner,
+    followers: &mut Option<Followers<S, J>>,
+    ahead: Ahead,
+    plan: &TurnPlan<'_, G>,
+    words: &mut [[u32; 4]; AT_ONCE],
+) -> Result<Ahead, AllocError>
+    requires alone { (t : LastTurn) × IsAlone (run_for W.moves given.now) t owner.old ahead × IfSome followers.old (λ f. IsTied S.run S.standing S.after J.start f.0 (run_for W.moves given.now) t.start) × Leads given.now.grid.now t.start.sites owner.old.swaps.items owner.old.state.placement.sites }
+    requires batch { (1 ≤ plan.now.batch) × (plan.now.batch ≤ 4096) }
+    ensures ok { MatchResult result (λ due. (t : LastTurn) → IsAlone (run_for W.moves given.now) t owner.old ahead → HasGone (run_for W.moves given.now) t owner.old (next_turn (run_for W.moves given.now) plan.now.batch t).made (next_turn (run_for W.moves given.now) plan.now.batch t).ahead owner.new due) (λ _. (t : LastTurn) → IsAlone (run_for W.moves given.now) t owner.old ahead → HasGone (run_for W.moves given.now) t owner.old 0 0 owner.new (record { base = owner.old.state.done; moves = 0 })) }
+    ensures leads { OnOk result (Leads given.now.grid.now owner.old.state.placement.sites owner.new.swaps.items owner.new.state.placement.sites) }
+    ensures tied { OnOk result (IfSome followers.new (λ f. IsTied S.run S.standing S.after J.start f.0 (run_for W.moves given.now) (standing_of owner.old.state))) }
+{
+    let start = owner.state.done;
+    let left = moves_left(&given.schedule, &owner.state);
+    let moves = plan.batch.min(left);
+    let swaps = mem::replace(&mut owner.swaps, fresh_list(given.alloc, followers));
+    reserve(owner, moves)?;
+    let next = Share {
+        first: start + moves,
+        moves: plan.batch.min(left - moves),
+    };
+    tell(rt, followers, post_of(&owner.state, swaps, next));
+    let kept = Share {
+        first: ahead.base,
+        moves: ahead.moves.min(moves),
+    };
+    commit_by(rt, given, owner, followers, kept, plan.gate, words);
+    commit_alone(given, owner, moves - kept.moves, start, plan.gate, words);
+    Ok(Ahead {
+        base: start,
+        moves: next.moves,
+    })
+}
+
+/// Makes the first turn of a crew, which stands where the owner does: what counts as judged ahead is judged by the owner, and the crew
+/// judges the other moves of the turn, and the moves after it. If the crew is let go, the owner makes all moves alone.
+pub(crate) fn begin_followed<
+    W: Words,
+    G: Gate,
+    S: Pursue,
+    J: Naming + Boarding + Origin<S>,
+    R: Wait,
+>(
+    rt: &R,
+    given: &Given<'_, W>,
+    owner: &mut Owner,
+    followers: &mut Option<Followers<S, J>>,
+    ahead: Ahead,
+    plan: &TurnPlan<'_, G>,
+    words: &mut [[u32; 4]; AT_ONCE],
+) -> Result<Ahead, AllocError>
+    requires alone { (t : LastTurn) × IsAlone (run_for W.moves given.now) t owner.old ahead × IfSome followers.old (λ f. IsTied S.run S.standing S.after J.start f.0 (run_for W.moves given.now) (standing_of owner.old.state)) }
+    requires batch { (1 ≤ plan.now.batch) × (plan.now.batch ≤ 4096) }
+    ensures ok { MatchResult result (λ due. (t : LastTurn) → IsAlone (run_for W.moves given.now) t owner.old ahead → HasGone (run_for W.moves given.now) t owner.old (next_turn (run_for W.moves given.now) plan.now.batch t).made (next_turn (run_for W.moves given.now) plan.now.batch t).ahead owner.new due) (λ _. (t : LastTurn) → IsAlone (run_for W.moves given.now) t owner.old ahead → HasGone (run_for W.moves given.now) t owner.old 0 0 owner.new (record { base = owner.old.state.done; moves = 0 })) }
+    ensures leads { OnOk result (Leads given.now.grid.now owner.old.state.placement.sites owner.new.swaps.items owner.new.state.placement.sites) }
+    ensures tied { OnOk result (IfSome followers.new (λ f. IsTied S.run S.standing S.after J.start f.0 (run_for W.moves given.now) (standing_of owner.old.state))) }
+{
+    let start = owner.state.done;
+    let left = moves_left(&given.schedule, &owner.state);
+    let moves = plan.batch.min(left);
+    owner.swaps.clear();
+    reserve(owner, moves)?;
+    let kept = ahead.moves.min(moves);
+    let now = Share {
+        first: start + kept,
+        moves: moves - kept,
+    };
+    let next = Share {
+        first: start + moves,
+        moves: plan.batch.min(left - moves),
+    };
+    let none = fresh_list(given.alloc, followers);
+    tell(rt, followers, post_of(&owner.state, none, now));
+    let none = fresh_list(given.alloc, followers);
+    tell(rt, followers, post_of(&owner.state, none, next));
+    commit_alone(given, owner, kept, ahead.base, plan.gate, words);
+    let rest = Share {
+        first: start,
+        moves: now.moves,
+    };
+    commit_by(rt, given, owner, followers, rest, plan.gate, words);
+    Ok(Ahead {
+        base: start,
+        moves: next.moves,
+    })
+}
