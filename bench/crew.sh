@@ -348,7 +348,7 @@ struct Founded {
     others: Vec<Row>,
 }
 
-fn founded(alloc: Global, workers: u64) -> Result<Founded, AllocError>
+fn found_for(alloc: Global, workers: u64) -> Result<Founded, AllocError>
     requires workers { (0 < workers) × (workers ≤ 64) }
     ensures claims { IfOk result (λ f. All (λ s. s.board ≡ f.board.name) f.claims.items) }
     ensures first { IfOk result (λ f. f.first ≡ 0) }
@@ -411,12 +411,12 @@ pub fn run_ours<R: Threads + Wait + Clock + Sync>(
 ) -> Result<Times, AllocError>
     requires workers { (0 < workers) × (workers ≤ 64) }
 {
-    let founded = founded(alloc, workers)?;
+    let founded = found_for(alloc, workers)?;
     let plan = Plan::of(batch, workers);
     run_as::<Brand, R>(rt, alloc, Opened::new(), founded, plan, turns, batch)
 }
 OURS
-mkdir -p "$crate/proofs/ours/judge_all" "$crate/proofs/ours/run_ours" "$crate/proofs/ours/founded"
+mkdir -p "$crate/proofs/ours/judge_all" "$crate/proofs/ours/run_ours" "$crate/proofs/ours/found_for"
 cat > "$crate/proofs/ours/judge_all/Invariants.antt" <<'ALL'
 use Rattle.std.proofs.Common.{◌≡◌, length}
 use Rattle.bench_crew.proofs.ours.judge_all.Given as goal
@@ -437,11 +437,11 @@ ghosts-run_as-J-Boarding g a = record { board = a.founded.board.name }
 abbrev pub ghosts-run_as-J-Origin : goal.ghosts-run_as-J-Origin
 ghosts-run_as-J-Origin g a = record { start = Some a.founded.first }
 RUN
-cat > "$crate/proofs/ours/founded/Answers.antt" <<'FOUNDED'
-use Rattle.bench_crew.proofs.ours.founded.Goals as goal
+cat > "$crate/proofs/ours/found_for/Answers.antt" <<'FOUNDED'
+use Rattle.bench_crew.proofs.ours.found_for.Goals as goal
 
 pub returns-clause-claims : goal.returns-clause-claims
-returns-clause-claims g c k d l = (c.in_ok-board.ensures.seats.1 k d l).0
+returns-clause-claims c k d l = (c.in_ok-board.ensures.seats.1 k d l).0
 FOUNDED
 if [ -n "${PROTOTYPE-}" ]; then
     cp -r "$PROTOTYPE/follow" "$work/repo/crates/follow"
