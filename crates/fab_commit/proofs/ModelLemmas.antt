@@ -3,6 +3,7 @@ pub mod Happening
 pub mod History
 pub mod Noninterference
 pub mod Backwards
+pub mod Fewer
 pub mod Schedules
 pub mod Listing
 pub mod Marked

@@ -21,3 +21,5 @@ pub mod Parts
 pub mod Ended
 pub mod Followed
 pub mod Foreseeing
+pub mod Larger
+pub mod Further

@@ -13,3 +13,4 @@ pub mod StampTables
 pub mod Turned
 pub mod ByTurns
 pub mod Alone
+pub mod Uncounted

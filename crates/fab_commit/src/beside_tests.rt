@@ -51,6 +51,24 @@ pub(crate) fn random_net_of(alloc: Global, seed: u64, blocks: u64) -> Result<Str
     Ok(text)
 }
 
+// So many logic blocks, each with an input from one of three nets, one from a random net, and an output of its own. So three nets have many
+// terminals.
+pub(crate) fn random_hubs(alloc: Global, seed: u64, blocks: u64) -> Result<String, AllocError> {
+    let mut text = String::new(alloc);
+    let mut drawn = seed;
+    let nets = blocks.max(1);
+    for block in 0..blocks {
+        drawn = drawn
+            .wrapping_mul(6_364_136_223_846_793_005)
+            .wrapping_add(1_442_695_040_888_963_407);
+        let (hub, other) = ((drawn >> 33) % 3, (drawn >> 45) % nets);
+        text.push_str(format!(in alloc;
+            ".clb b{block}\npinlist: n{hub} n{other} n{block}\n"
+        )?.as_str())?;
+    }
+    Ok(text)
+}
+
 // Who makes the moves of a run.
 #[derive(Clone, Copy)]
 pub(crate) enum By {

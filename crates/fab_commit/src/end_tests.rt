@@ -2,7 +2,9 @@
 ghost use Rattle.std.specs.Prelude.{◌≡◌, IfOk};
 
 use crate::Anneal;
-use crate::beside_tests::{By, make_part, put_here, random, random_net, random_net_of};
+use crate::beside_tests::{
+    By, make_part, put_here, random, random_hubs, random_net, random_net_of,
+};
 use crate::in_time::in_time;
 use crate::tests::{Pace, Setting, annealer, read_setting, turned};
 use crate::turn_tables::{ENDS, End};
@@ -124,6 +126,44 @@ fn runs_of_random_designs_are_made_as_by_one_thread(rt: HostRuntime) -> Result<(
                 for workers in [1, 2, 3, 7] {
                     let pace = Pace { batch, workers };
                     let beside = random_end(&rt, rt.alloc(), seed, Maker::Stages, pace, &NoGate)?;
+                    assert_eq!(rt;
+                        beside.as_str(),
+                        alone.as_str(),
+                        "seed {seed} by {workers} workers"
+                    );
+                }
+            }
+            Ok(())
+        },
+    )
+}
+
+// The same of a design with three nets of some twenty terminals.
+fn hubs_end<R: Threads + Wait + Sync>(
+    rt: &R,
+    alloc: Global,
+    seed: u64,
+    maker: Maker,
+    pace: Pace,
+) -> Result<String, Fail> {
+    let net = random_hubs(alloc, seed, 60)?;
+    let of = read_setting(alloc, ARCH, net.as_bytes())?;
+    let mut anneal = random(alloc, &of, StreamWords::new(seed))?;
+    ended(rt, alloc, &mut anneal, maker, pace, &NoGate)
+}
+
+// Where a move touched nets with many terminals alone, only these are looked at again. That is so for most moves here.
+#[test]
+fn runs_with_large_nets_are_made_as_by_one_thread(rt: HostRuntime) -> Result<(), Fail> {
+    in_time(
+        &rt,
+        &mut || -> Result<(), Fail> {
+            for (seed, batch) in [(0, 4), (1, 16), (2, 64), (3, 256), (4, 16), (5, 64)] {
+                let pace = Pace { batch, workers: 1 };
+                let alone = hubs_end(&rt, rt.alloc(), seed, Maker::Alone, pace)?;
+                for workers in [1, 3] {
+                    let pace = Pace { batch, workers };
+                    let beside = hubs_end(&rt, rt.alloc(), seed, Maker::Stages, pace)?;
                     assert_eq!(rt;
                         beside.as_str(),
                         alone.as_str(),

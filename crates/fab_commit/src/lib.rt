@@ -28,6 +28,8 @@ mod turn_tables;
 #[cfg(test)]
 mod turn_tests;
 #[cfg(test)]
+mod uncounted_tests;
+#[cfg(test)]
 mod world_tables;
 #[cfg(test)]
 mod world_tests;

@@ -20,4 +20,5 @@ mod stamps;
 pub(crate) mod state;
 pub(crate) mod swaps;
 pub mod turn;
+mod uncounted;
 mod verdicts;

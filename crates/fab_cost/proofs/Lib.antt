@@ -20,6 +20,7 @@ pub mod Steps
 pub mod Packs
 pub mod Listings
 pub mod Large
+pub mod Few
 pub mod Over
 pub mod Kept
 pub mod Alike

@@ -202,6 +202,10 @@ pub record AreListed (d : Netlist) (n : ℕ) (entries : List (ℕ × ℕ)) : Typ
 abbrev pub large_of : Netlist → Netlist
 large_of d = record d { globals = map (λ n. not (is_large d n) || (net_at d n).global) (range_with_len 0 (length d.terminals)) }
 
+-- the design whose counting nets are those with few terminals: all others are global
+abbrev pub few_of : Netlist → Netlist
+few_of d = record d { globals = map (λ n. is_large d n || (net_at d n).global) (range_with_len 0 (length d.terminals)) }
+
 abbrev pub no_position : Position
 no_position = record { x = 0; y = 0 }
 

@@ -23,4 +23,5 @@ pub use crossings::cross;
 pub use edge_boxes::EdgeBoxes;
 pub use net_box::NetBox;
 pub use net_boxes::Boxes;
+pub use runs::has_many_terminals;
 pub use wire::WireCost;

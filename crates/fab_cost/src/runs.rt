@@ -6,7 +6,7 @@ ghost use Rattle.std.specs.List.{All};
 ghost use Rattle.fab_net.specs.Netlist.{block_on, has_number, nets_of};
 ghost use Rattle.fab_cost.specs.Cost.{cross_of};
 ghost use Rattle.fab_cost.specs.Boxes.{Counts};
-ghost use Rattle.fab_cost.specs.Runs.{AreLarger, AreListed, ArePacked, HasLarge, HasRecords, HasRows};
+ghost use Rattle.fab_cost.specs.Runs.{AreLarger, AreListed, ArePacked, HasLarge, HasRecords, HasRows, is_large};
 ghost use Rattle.fab_cost.specs.Swapping.{counted_blocks};
 
 use crate::block_nets::{count_of_nets, net_of};
@@ -44,6 +44,14 @@ const SMALL: usize = 4;
 const MIDDLE: usize = 8;
 /// Nets of up to this many terminals are looked at by the positions of their blocks; of larger ones the box is kept.
 pub(crate) const WIDE: usize = 16;
+
+/// Whether a net has more than 16 terminals.
+pub fn has_many_terminals(design: &Design, net: NetId) -> bool
+    requires { net.0 < length design.now.terminals }
+    ensures { result ≡ is_large design.now net.0 }
+{
+    WIDE < design.terminals(net).len()
+}
 
 #[tactic(auto, using(crate::proofs::Packs::filled_none, crate::proofs::Packs::filled_own, crate::proofs::Packs::filled_other, crate::proofs::Packs::place_within, crate::proofs::Packs::filled_all, crate::proofs::Packs::small_cross))]
 /// The record of a net of a block; `none` is the number past the last block.
@@ -246,19 +254,4 @@ pub(crate) fn runs_of(alloc: Global, design: &Design) -> Result<Runs, AllocError
         large: large_nets(alloc, design)?,
         terminals: blocks_by_net(alloc, design)?,
     })
-}
-
-impl Runs {
-    /// A copy.
-    pub(crate) fn copy(&self) -> Result<Runs, AllocError>
-        ensures { IfOk result (λ runs. runs ≡ self.now) }
-    {
-        Ok(Runs {
-            small: self.small.copy()?,
-            middle: self.middle.copy()?,
-            wide: self.wide.copy()?,
-            large: self.large.copy()?,
-            terminals: self.terminals.copy()?,
-        })
-    }
 }

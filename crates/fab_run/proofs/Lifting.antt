@@ -35,9 +35,10 @@ pub by_count : (Is : Answer → Type 0) (keeps : Bool) (e : Ended) (o : CountedO
 by_count Is keeps e o ending placement accepted costs told =
     (told.0, accepted ∙ told.1.count, subst Is (λ i. record { ending = sym ending i; placement = sym placement i; accepted = told.0; costs = (sym costs i).items }) told.2)
 
-pub redone_asked : (Asked : Piece → Type 0) (p : Piece) (batch : ℕ) (r : Answered) → Asked p → IfOk r (λ out. AreRedone p batch out.redone) → IfOk r (λ out. (q : Piece) × Asked q × AreRedone q batch out.redone)
-redone_asked Asked p batch (Ok out) asked redone = (p, asked, redone)
-redone_asked Asked p batch (Err e) asked redone = tt
+pub redone_asked : (again : Bool) (Asked : Piece → Type 0) (p : Piece) (batch : ℕ) (r : Answered) → Asked p → IfOk r (λ out. again ≡ true → AreRedone p batch out.redone)
+    → IfOk r (λ out. (q : Piece) × Asked q × (again ≡ true → AreRedone q batch out.redone))
+redone_asked again Asked p batch (Ok out) asked redone = (p, asked, redone)
+redone_asked again Asked p batch (Err e) asked redone = tt
 
 pub cut_asked : (Asked : Piece → Type 0) (p : Piece) (r : Answered) (old new : Option (List ℕ)) → Asked p → OnErr r (IsReportOf p old new) → OnErr r ((new ≡ old) ⊎ IsReportBegun Asked old new)
 cut_asked Asked p (Ok out) old new asked cut = tt

@@ -118,14 +118,14 @@ end_there : (a b : AnnealOf ℕ) (n : ℕ) → IsSameRun a b → b.standing ≡ 
 end_there a b n same stands = λ i. end_line (same_run stream_moves a b same i) (stands i)
 
 -- what an annealer answers that made its piece, and its report
-pub told_piece : (keeps : Bool) (a b : AnnealOf ℕ) (head : List ℕ) (stop : Option ℕ) (batch cost : ℕ) (costs0 costs : List ℕ) (old mid more new : Option (List ℕ))
-    → IsNew a → IsSameRun a b → AreMade stream_moves stop batch a b costs0 costs mid more → cost ≡ cost_of a.design a.grid a.standing.sites → costs0 ≡ cost ∷ [] → Appends old mid head
+pub told_piece : (keeps again : Bool) (a b : AnnealOf ℕ) (head : List ℕ) (stop : Option ℕ) (batch cost : ℕ) (costs0 costs : List ℕ) (old mid more new : Option (List ℕ))
+    → IsNew a → IsSameRun a b → AreMade stream_moves again stop batch a b costs0 costs mid more → cost ≡ cost_of a.design a.grid a.standing.sites → costs0 ≡ cost ∷ [] → Appends old mid head
     → (r : Result Ended RunFault) → IfOk r (λ out. EndsAs (run_of stream_moves b) b.standing out.ending) → IfOk r (λ out. out.placement.grid ≡ b.grid) → IfOk r (λ out. out.placement.sites ≡ b.standing.sites)
     → IfOk r (λ out. IsLegal b.design b.grid b.fixed out.placement.sites) → IfOk r (TellsMoves keeps b.accepted) → IfOk r (λ out. out.costs.items ≡ costs)
     → OnOk r (Appends more new (end_line (run_of stream_moves b) b.standing))
     → IfOk r (λ out. Answers keeps out (λ w. IsToldPiece (piece_of stream_moves a head stop) w old new))
-told_piece keeps a b head stop batch cost costs0 costs old mid more new fresh same made value first told (Err f) ending array sites legal accepted values last = tt
-told_piece keeps a b head stop batch cost costs0 costs old mid more new fresh same made value first told (Ok out) ending array sites legal accepted values last =
+told_piece keeps again a b head stop batch cost costs0 costs old mid more new fresh same made value first told (Err f) ending array sites legal accepted values last = tt
+told_piece keeps again a b head stop batch cost costs0 costs old mid more new fresh same made value first told (Ok out) ending array sites legal accepted values last =
     let r = same_run stream_moves a b same in
     let x = a.standing in
     let n = made.count in
@@ -149,23 +149,24 @@ told_piece keeps a b head stop batch cost costs0 costs old mid more new fresh sa
     )
 
 -- where the last line did not go out whole, a beginning of the report did
-pub cut_piece : (a b : AnnealOf ℕ) (head : List ℕ) (stop : Option ℕ) (batch : ℕ) (costs0 costs : List ℕ) (old mid more new : Option (List ℕ)) → IsSameRun a b → AreMade stream_moves stop batch a b costs0 costs mid more → Appends old mid head
+pub cut_piece : (again : Bool) (a b : AnnealOf ℕ) (head : List ℕ) (stop : Option ℕ) (batch : ℕ) (costs0 costs : List ℕ) (old mid more new : Option (List ℕ)) → IsSameRun a b → AreMade stream_moves again stop batch a b costs0 costs mid more → Appends old mid head
     → (r : Result Ended RunFault) → OnErr r (IsBegun more new (end_line (run_of stream_moves b) b.standing)) → OnErr r (IsReportOf (piece_of stream_moves a head stop) old new)
-cut_piece a b head stop batch costs0 costs old mid more new same made told (Ok out) cut = tt
-cut_piece a b head stop batch costs0 costs old mid more new same made told (Err f) cut =
+cut_piece again a b head stop batch costs0 costs old mid more new same made told (Ok out) cut = tt
+cut_piece again a b head stop batch costs0 costs old mid more new same made told (Err f) cut =
     cut_last (piece_of stream_moves a head stop) old mid more new made.count (within_by (run_of stream_moves a) a.standing stop made.count made.piece) told made.told (subst (λ l. IsBegun more new l) (end_there a b made.count same made.stands) cut)
 
-pub short_piece : (a b : AnnealOf ℕ) (head : List ℕ) (stop : Option ℕ) (batch : ℕ) (costs0 costs : List ℕ) (old mid more new : Option (List ℕ)) → IsSameRun a b → AreMade stream_moves stop batch a b costs0 costs mid more → Appends old mid head
+pub short_piece : (again : Bool) (a b : AnnealOf ℕ) (head : List ℕ) (stop : Option ℕ) (batch : ℕ) (costs0 costs : List ℕ) (old mid more new : Option (List ℕ)) → IsSameRun a b → AreMade stream_moves again stop batch a b costs0 costs mid more → Appends old mid head
     → (r : Result Ended RunFault) → IfErr r (λ e. e ≡ Report → IsCut (end_line (run_of stream_moves b) b.standing) more new) → IfErr r (λ e. e ≡ Report → IsReportCutOf (piece_of stream_moves a head stop) old new)
-short_piece a b head stop batch costs0 costs old mid more new same made told (Ok out) cut = tt
-short_piece a b head stop batch costs0 costs old mid more new same made told (Err f) cut = λ q.
+short_piece again a b head stop batch costs0 costs old mid more new same made told (Ok out) cut = tt
+short_piece again a b head stop batch costs0 costs old mid more new same made told (Err f) cut = λ q.
     short_last (piece_of stream_moves a head stop) old mid more new made.count (within_by (run_of stream_moves a) a.standing stop made.count made.piece) told made.told (subst (λ l. IsCut l more new) (end_there a b made.count same made.stands) (cut q))
 
 -- the moves that were judged again
-pub redone_piece : (a b : AnnealOf ℕ) (head : List ℕ) (stop : Option ℕ) (batch : ℕ) (costs0 costs : List ℕ) (mid more : Option (List ℕ)) → IsNew a → AreMade stream_moves stop batch a b costs0 costs mid more
-    → (r : Result Ended RunFault) → IfOk r (λ out. out.redone ≡ b.redone) → IfOk r (λ out. AreRedone (piece_of stream_moves a head stop) batch out.redone)
-redone_piece a b head stop batch costs0 costs mid more fresh made (Err f) count = tt
-redone_piece a b head stop batch costs0 costs mid more fresh made (Ok out) count =
+pub redone_piece : (again : Bool) (a b : AnnealOf ℕ) (head : List ℕ) (stop : Option ℕ) (batch : ℕ) (costs0 costs : List ℕ) (mid more : Option (List ℕ)) → IsNew a → AreMade stream_moves again stop batch a b costs0 costs mid more
+    → (r : Result Ended RunFault) → IfOk r (λ out. out.redone ≡ b.redone) → IfOk r (λ out. again ≡ true → AreRedone (piece_of stream_moves a head stop) batch out.redone)
+redone_piece again a b head stop batch costs0 costs mid more fresh made (Err f) count = tt
+redone_piece again a b head stop batch costs0 costs mid more fresh made (Ok out) count =
+    λ e.
     let r = run_of stream_moves a in
     let done = made.done in
     let all : b.standing.done - a.standing.done ≡ made.count = omega (arith, done) in
@@ -173,7 +174,7 @@ redone_piece a b head stop batch costs0 costs mid more fresh made (Ok out) count
       moves = made.count;
       piece = made.piece;
       made = ap (λ (y : Standing). y.done) (sym made.stands) ∙ done;
-      count = count ∙ made.counted.on a.standing (by_no_turn r batch a fresh.ahead fresh.swaps fresh.redone) ∙ ap (redone_in_run r a.standing batch) all;
+      count = count ∙ (made.counted e).on a.standing (by_no_turn r batch a fresh.ahead fresh.swaps fresh.redone) ∙ ap (redone_in_run r a.standing batch) all;
     }
 
 -- a fault of only the report leaves the writer of the place text as it was

@@ -1,5 +1,5 @@
 -- How the stages of a piece of a run are made and reported (our own).
-use Rattle.std.specs.Prelude.{ℕ, ◌≡◌, ◌+◌, ◌-◌, ◌++◌, List, [], Option, take}
+use Rattle.std.specs.Prelude.{ℕ, ◌≡◌, ◌+◌, ◌-◌, ◌++◌, Bool, true, List, [], Option, take}
 use Rattle.std.specs.Io.KnownBytes.{Appends}
 use Rattle.fab_file.specs.Written.{IsCut}
 use Rattle.fab_commit.specs.Serial.{Run, Standing, accepted_among, from}
@@ -24,8 +24,8 @@ pub record AreCountedOn {W : Type 0} (r : Run) (batch : ℕ) (a b : AnnealOf W) 
   pub on : (x : Standing) → IsByTurns r x batch a → b.redone ≡ redone_in_run r x batch (b.standing.done - x.done)
 
 -- an annealer made the moves of a piece, in turns of this batch; the costs at the ends of the stages were appended, and the line of each
--- stage was written
-pub record AreMade {W : Type 0} (moves : W → ℕ → List ℕ) (stop : Option ℕ) (batch : ℕ) (a b : AnnealOf W) (costs0 costs1 : List ℕ) (old new : Option (List ℕ)) : Type 0 where
+-- stage was written; `again` tells whether moves judged again are counted
+pub record AreMade {W : Type 0} (moves : W → ℕ → List ℕ) (again : Bool) (stop : Option ℕ) (batch : ℕ) (a b : AnnealOf W) (costs0 costs1 : List ℕ) (old new : Option (List ℕ)) : Type 0 where
   pub count : ℕ
   pub done : b.standing.done ≡ a.standing.done + count
   pub piece : IsPiece (run_of moves a) a.standing stop count
@@ -33,7 +33,7 @@ pub record AreMade {W : Type 0} (moves : W → ℕ → List ℕ) (stop : Option 
   pub accepted : b.accepted ≡ a.accepted ++ accepted_among (run_of moves a) a.standing count
   pub costs : costs1 ≡ costs0 ++ stage_costs (run_of moves a) a.standing count
   pub told : Appends old new (stage_lines (run_of moves a) a.standing count)
-  pub counted : AreCountedOn (run_of moves a) batch a b
+  pub counted : again ≡ true → AreCountedOn (run_of moves a) batch a b
 
 -- a beginning of the lines of some moves up to the stop was written; if the writer of the report failed, not all of them were
 pub record AreCut (r : Run) (x : Standing) (stop : Option ℕ) (old new : Option (List ℕ)) (e : RunFault) : Type 0 where

@@ -38,6 +38,7 @@ fn run_with<V: Words + Send + Sync + Drop, G: Gate, R: AllocGlobal + Threads + W
         moves: schedule.moves(),
         batch: options.batch,
         workers: options.workers,
+        helpers: options.workers,
         side: u64::from(grid.nx().max(grid.ny())),
         stop: options.stop,
     };
@@ -293,6 +294,7 @@ fn the_standing_and_the_options_tell_which_way_a_stage_goes(rt: HostRuntime) -> 
             moves: 1,
             batch: 1,
             workers: *workers,
+            helpers: *workers,
             side: 200,
             stop: None,
         };

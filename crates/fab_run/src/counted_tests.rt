@@ -28,7 +28,6 @@ fn told_of(
         Ok(outcome) => {
             push_all(&mut told, b"accepted", &[outcome.accepted])?;
             push_all(&mut told, b"costs", &outcome.costs)?;
-            push_all(&mut told, b"redone", &[outcome.redone])?;
             push_ending(&mut told, &outcome.ending)?;
         }
         Err(fault) => {
@@ -94,7 +93,6 @@ z\t2\t2\t0\t#5
 w\t1\t1\t0\t#6
 accepted 10
 costs 230000 200000 230000 230000 230000
-redone 11
 ";
     let options = Options { seed: 0, ..SHORT };
     assert_eq!(rt; counted(&rt, &SEVEN, &options)?.as_slice(), wanted);
@@ -108,7 +106,6 @@ start cost 24.0000
 stage 0 t 2.0000 range 3.000 moves 8 accepted 3 cost 24.0000
 accepted 8
 costs 240000 240000
-redone 6
 stage 1 10000 2805
 moves 5 5 8
 ";
@@ -131,7 +128,6 @@ z\t2\t2\t0\t#5
 w\t1\t1\t0\t#6
 accepted 6
 costs 220000 230000 220000 210000
-redone 6
 ";
     let options = Options {
         seed: 1,

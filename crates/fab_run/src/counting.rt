@@ -1,10 +1,10 @@
 //! Runs that count the moves that they accept, and keep no number of them: what they need does not grow with their moves. Each is the same
-//! run as the one that answers the numbers, and its contract says the same of all else.
+//! run as the one that answers the numbers. They do not answer how many moves turns of the batch judge again, so what a move rests on is looked
+//! at only where a crew judged it ahead. The contract says the same of all else.
 
 ghost use Rattle.std.specs.Prelude.{◌≡◌, ◌≢◌, ◌⊎◌, OnOk, OnErr, IfOk, IfErr};
 ghost use Rattle.fab_run.specs.Check.{report_failed_with};
 ghost use Rattle.fab_run.specs.Counted.{Counts};
-ghost use Rattle.fab_run.specs.Ends.{AreRedone, Piece as PieceAsked};
 ghost use Rattle.fab_run.specs.Going.{Going, IsGoing, IsGoingFault};
 ghost use Rattle.fab_run.specs.Setting.{IsSetting, Setting, texts_of};
 ghost use Rattle.fab_run.specs.RunChecks.{IsRefusal, IsRunFault, place_failed_with};
@@ -41,8 +41,6 @@ pub fn place_run_counted_shown<G: Gate, R: AllocGlobal + Threads + Wait + Sync, 
     requires own { shower.old.dial ≡ dial.now }
     // The headline: placement, number of accepted moves, costs, report, ending and place text are those of annealing one move at a time.
     ensures headline { IfOk result (λ out. Counts out (λ a. IsPlaced (AskFor (texts_of inputs.now) options.now) (texts_of inputs.now) a (W.contents report.old) (W.contents report.new) (P.contents place.old) (P.contents place.new))) }
-    // Setting, seed, stop and batch determine how many moves were judged again; the number of workers does not.
-    ensures redone { IfOk result (λ out. (p : PieceAsked) × AskFor (texts_of inputs.now) options.now p × AreRedone p options.now.batch out.redone) }
     // If no check fails, the run succeeds unless memory runs out or a writer fails.
     ensures only { (s : Setting) → IsSetting (texts_of inputs.now) options.now s → IfErr result (λ e. ¬ IsRefusal e) }
     // An error is the first check that fails, a lack of memory, or the failure of a writer.
@@ -83,8 +81,6 @@ pub fn place_run_counted<R: AllocGlobal + Threads + Wait + Sync, W: Sink, P: Sin
 ) -> Result<CountedOutcome, RunFault>
     // The headline: placement, number of accepted moves, costs, report, ending and place text are those of annealing one move at a time.
     ensures headline { IfOk result (λ out. Counts out (λ a. IsPlaced (AskFor (texts_of inputs.now) options.now) (texts_of inputs.now) a (W.contents report.old) (W.contents report.new) (P.contents place.old) (P.contents place.new))) }
-    // Setting, seed, stop and batch determine how many moves were judged again; the number of workers does not.
-    ensures redone { IfOk result (λ out. (p : PieceAsked) × AskFor (texts_of inputs.now) options.now p × AreRedone p options.now.batch out.redone) }
     // If no check fails, the run succeeds unless memory runs out or a writer fails.
     ensures only { (s : Setting) → IsSetting (texts_of inputs.now) options.now s → IfErr result (λ e. ¬ IsRefusal e) }
     // An error is the first check that fails, a lack of memory, or the failure of a writer.
@@ -128,8 +124,6 @@ pub fn resume_run_counted<R: AllocGlobal + Threads + Wait + Sync, W: Sink, P: Si
 ) -> Result<CountedOutcome, RunFault>
     // The headline, from the point on.
     ensures headline { IfOk result (λ out. Counts out (λ a. IsPlaced (AskToGoOn (texts_of inputs.now) point.now batch workers stop) (texts_of inputs.now) a (W.contents report.old) (W.contents report.new) (P.contents place.old) (P.contents place.new))) }
-    // The texts, the stop and the batch determine how many moves were judged again; the number of workers does not.
-    ensures redone { IfOk result (λ out. (p : PieceAsked) × AskToGoOn (texts_of inputs.now) point.now batch workers stop p × AreRedone p batch out.redone) }
     // If no check fails, the run succeeds unless memory runs out or a writer fails.
     ensures only { (s : Going) → IsGoing (texts_of inputs.now) point.now batch workers s → IfErr result (λ e. ¬ IsRefusal e) }
     // An error is the first check that fails, a lack of memory, or the failure of a writer.

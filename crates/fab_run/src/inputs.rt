@@ -77,7 +77,8 @@ pub struct Outcome {
     pub redone: u64,
 }
 
-/// What a run answers that counts the moves that it accepts, and keeps no number of them. So its memory does not grow with its moves.
+/// What a run answers that counts the moves that it accepts, and keeps no number of them. So its memory does not grow with its moves. It does
+/// not count the moves that turns judge again.
 #[derive(Drop)]
 pub struct CountedOutcome {
     pub ending: Ending,
@@ -87,6 +88,4 @@ pub struct CountedOutcome {
     pub accepted: u64,
     /// The cost before the first move of the piece, and after each stage that ended in it, in ten-thousandths.
     pub costs: Vec<u64>,
-    /// How many moves turns of the batch judge again, as in [`Outcome`].
-    pub redone: u64,
 }

@@ -160,7 +160,7 @@ fn anneal_told<K: Keeping, G: Gate, W: Sink, P: Sink, R: Threads + Wait + Sync>(
     requires moves { piece.now.pace.moves ≡ anneal.plan.moves }
     requires plan { IsLawful anneal.plan }
     requires limits { (1 ≤ piece.now.pace.batch) × (piece.now.pace.batch ≤ 4096) × (1 ≤ piece.now.pace.workers) × (piece.now.pace.workers ≤ 64) }
-    ensures redone { IfOk result (λ out. AreRedone (piece_of stream_moves anneal.entry piece.now.head.items piece.now.pace.stop) piece.now.pace.batch out.redone) }
+    ensures redone { IfOk result (λ out. K.again ≡ true → AreRedone (piece_of stream_moves anneal.entry piece.now.head.items piece.now.pace.stop) piece.now.pace.batch out.redone) }
     ensures annealed { IfOk result (λ out. Answers K.numbers out (λ a. IsToldPiece (piece_of stream_moves anneal.entry piece.now.head.items piece.now.pace.stop) a (W.contents report.old) (W.contents report.new))) }
     ensures cut { OnErr result (IsReportOf (piece_of stream_moves anneal.entry piece.now.head.items piece.now.pace.stop) (W.contents report.old) (W.contents report.new)) }
     ensures short { IfErr result (λ e. e ≡ Report → IsReportCutOf (piece_of stream_moves anneal.entry piece.now.head.items piece.now.pace.stop) (W.contents report.old) (W.contents report.new)) }
@@ -243,7 +243,7 @@ pub(crate) fn run_piece<
     requires plan { IsLawful anneal.plan }
     requires limits { (1 ≤ piece.now.pace.batch) × (piece.now.pace.batch ≤ 4096) × (1 ≤ piece.now.pace.workers) × (piece.now.pace.workers ≤ 64) }
     ensures made { IfOk result (λ out. Answers K.numbers out (λ a. IsMade (texts_of inputs.now) (piece_of stream_moves anneal.entry piece.now.head.items piece.now.pace.stop) a (W.contents report.old) (W.contents report.new) (P.contents place.old) (P.contents place.new))) }
-    ensures redone { IfOk result (λ out. AreRedone (piece_of stream_moves anneal.entry piece.now.head.items piece.now.pace.stop) piece.now.pace.batch out.redone) }
+    ensures redone { IfOk result (λ out. K.again ≡ true → AreRedone (piece_of stream_moves anneal.entry piece.now.head.items piece.now.pace.stop) piece.now.pace.batch out.redone) }
     ensures cut { OnErr result (IsReportOf (piece_of stream_moves anneal.entry piece.now.head.items piece.now.pace.stop) (W.contents report.old) (W.contents report.new)) }
     ensures report_cut { IfErr result (λ e. e ≡ Report → IsReportCutOf (piece_of stream_moves anneal.entry piece.now.head.items piece.now.pace.stop) (W.contents report.old) (W.contents report.new)) }
     ensures unplaced { IfErr result (λ e. e ≢ Place Write → P.contents place.new ≡ P.contents place.old) }

@@ -1,6 +1,6 @@
 //! A run from its start placement: from texts and numbers to a placement, or to a point where it stops.
 
-ghost use Rattle.std.specs.Prelude.{◌≡◌, ◌≢◌, ◌⊎◌, [], OnOk, OnErr, IfOk, IfErr};
+ghost use Rattle.std.specs.Prelude.{◌≡◌, ◌≢◌, ◌⊎◌, true, [], OnOk, OnErr, IfOk, IfErr};
 ghost use Rattle.fab_arch.specs.Grid.{Holds};
 ghost use Rattle.fab_net.specs.Netlist.{logic_count, pad_count};
 ghost use Rattle.fab_site.specs.Pins.{ArePins};
@@ -20,7 +20,7 @@ use crate::inputs::{Inputs, Options, Outcome};
 use crate::piece::{Piece, run_piece, unwatched};
 use crate::report::head_lines;
 use crate::setting::read_setting;
-use crate::stages::Pace;
+use crate::stages::{Pace, helpers_of};
 use fab_arch::Grid;
 use fab_board::{Gate, NoGate};
 use fab_commit::{Anneal, Keeping, KeepsNumbers};
@@ -91,7 +91,7 @@ pub(crate) fn place_ended<
 ) -> Result<Ended, RunFault>
     requires own { shower.old.dial ≡ dial.now }
     ensures headline { IfOk result (λ out. Answers K.numbers out (λ a. IsPlaced (AskFor (texts_of inputs.now) options.now) (texts_of inputs.now) a (W.contents report.old) (W.contents report.new) (P.contents place.old) (P.contents place.new))) }
-    ensures redone { IfOk result (λ out. (p : PieceAsked) × AskFor (texts_of inputs.now) options.now p × AreRedone p options.now.batch out.redone) }
+    ensures redone { IfOk result (λ out. (p : PieceAsked) × AskFor (texts_of inputs.now) options.now p × (K.again ≡ true → AreRedone p options.now.batch out.redone)) }
     ensures only { (s : Setting) → IsSetting (texts_of inputs.now) options.now s → IfErr result (λ e. ¬ IsRefusal e) }
     ensures fault { IfErr result (IsRunFault (texts_of inputs.now) options.now) }
     ensures silent { IfErr result (λ e. IsRefusal e → W.contents report.new ≡ W.contents report.old) }
@@ -112,6 +112,7 @@ pub(crate) fn place_ended<
         moves: schedule.moves(),
         batch: options.batch,
         workers: options.workers,
+        helpers: helpers_of(rt, options.workers, design.blocks()),
         side: u64::from(grid.nx().max(grid.ny())),
         stop: options.stop,
     };

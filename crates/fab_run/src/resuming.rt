@@ -20,7 +20,7 @@ use crate::inputs::{Inputs, Outcome};
 use crate::piece::{Piece, run_piece, unwatched};
 use crate::point_reading::point_for;
 use crate::setting::check_threads;
-use crate::stages::Pace;
+use crate::stages::{Pace, helpers_of};
 use fab_arch::Grid;
 use fab_board::{Gate, NoGate};
 use fab_commit::{Anneal, Keeping, KeepsNumbers, Point};
@@ -103,7 +103,7 @@ pub(crate) fn resume_ended<
 ) -> Result<Ended, RunFault>
     requires own { shower.old.dial ≡ dial.now }
     ensures headline { IfOk result (λ out. Answers K.numbers out (λ a. IsPlaced (AskToGoOn (texts_of inputs.now) point.now batch workers stop) (texts_of inputs.now) a (W.contents report.old) (W.contents report.new) (P.contents place.old) (P.contents place.new))) }
-    ensures redone { IfOk result (λ out. (p : PieceAsked) × AskToGoOn (texts_of inputs.now) point.now batch workers stop p × AreRedone p batch out.redone) }
+    ensures redone { IfOk result (λ out. (p : PieceAsked) × AskToGoOn (texts_of inputs.now) point.now batch workers stop p × (K.again ≡ true → AreRedone p batch out.redone)) }
     ensures only { (s : Going) → IsGoing (texts_of inputs.now) point.now batch workers s → IfErr result (λ e. ¬ IsRefusal e) }
     ensures fault { IfErr result (IsGoingFault (texts_of inputs.now) point.now batch workers) }
     ensures silent { IfErr result (λ e. IsRefusal e → W.contents report.new ≡ W.contents report.old) }
@@ -124,6 +124,7 @@ pub(crate) fn resume_ended<
         moves: point.schedule.moves(),
         batch,
         workers,
+        helpers: helpers_of(rt, workers, design.blocks()),
         side: u64::from(grid.nx().max(grid.ny())),
         stop,
     };

@@ -1,11 +1,12 @@
 //! Makes the stages of a run one after another, and reports each as it ends.
 
-ghost use Rattle.std.specs.Prelude.{◌≡◌, ℕ, ◌+◌, ◌-◌, ◌<◌, ◌≤◌, ◌++◌, Some, OnOk, OnErr, IfOk, IfErr, MatchOption};
+ghost use Rattle.std.specs.Prelude.{◌≡◌, ℕ, ◌+◌, ◌-◌, ◌<◌, ◌≤◌, ◌++◌, true, Some, OnOk, OnErr, IfOk, IfErr, MatchOption};
 ghost use Rattle.fab_sched.specs.Annealing.{IsLawful};
 ghost use Rattle.fab_commit.specs.Serial.{accepted_among, from, moves_left, stage_of};
 ghost use Rattle.fab_commit.specs.Run.Alone.{IsMadeAlone};
 ghost use Rattle.fab_commit.specs.Run.ByTurns.{LeadsByTurns};
 ghost use Rattle.fab_commit.specs.Run.Commits.{IsSameRun, run_of};
+ghost use Rattle.fab_commit.specs.Run.Uncounted.{IsMade};
 ghost use Rattle.fab_commit.specs.Run.Readings.{readings};
 ghost use Rattle.fab_run.specs.Piece.{stage_costs, stage_lines};
 ghost use Rattle.fab_run.specs.Placed.{IsReportFault};
@@ -22,6 +23,7 @@ use fab_site::Words;
 use fab_text::{Sink, write_whole};
 use std::alloc::{AllocError, Global};
 use std::sync::Wait;
+use std::thread;
 use std::thread::Threads;
 
 /// How a piece of a run is made.
@@ -33,6 +35,8 @@ pub(crate) struct Pace {
     pub(crate) batch: u64,
     /// How many workers judge ahead.
     pub(crate) workers: u64,
+    /// How many of them find a processor beside the one of the calling thread.
+    pub(crate) helpers: u64,
     /// The columns or the rows of the array, whichever are more.
     pub(crate) side: u64,
     /// After how many moves of the run it stops.
@@ -57,6 +61,18 @@ fn moves_before(stop: Option<u64>, done: u64, left: u64) -> Option<u64>
     Some(rest)
 }
 
+/// How many of so many workers find a processor beside the one of the calling thread; none if the system does not tell how many there are, or
+/// if the design has so few blocks that no crew is asked.
+pub(crate) fn helpers_of<R: Threads>(rt: &R, workers: u64, blocks: usize) -> u64 {
+    if blocks < LARGE_DESIGN {
+        return 0;
+    }
+    match thread::available_parallelism(rt) {
+        Ok(processors) => workers.min(processors.get() as u64 - 1),
+        Err(_) => 0,
+    }
+}
+
 /// In a design of fewer blocks a crew costs as much time as it saves, or more, in each stage. That and the next bound were measured with the
 /// crew before this one (bench/stages.py, 27 November 2026).
 const LARGE_DESIGN: usize = 40_000;
@@ -68,9 +84,10 @@ const VERY_LARGE_DESIGN: usize = 50_000;
 const LEAST_RANGE: u64 = 1000;
 
 /// Whether the moves of a stage are judged ahead by the crew; else the owner judges each when its turn comes. A crew saves time where few
-/// moves are accepted, the design is large, and it has more than one worker. How few are accepted is told by the range: it falls where fewer
-/// than 44 of 100 are. All that decides is told by the standing and the options, so a run that goes on from a point decides as the unbroken
-/// run. A gate that does something sees which way a stage goes: with one that does not say that it does nothing, all moves are judged ahead.
+/// moves are accepted, the design is large, and it has more than one helper. How few are accepted is told by the range: it falls where fewer
+/// than 44 of 100 are. A worker helps where it has a processor of its own. All that decides is told by the standing, the options and the
+/// machine, so a run that goes on from a point on the same machine decides as the unbroken run. A gate that does something sees which way a
+/// stage goes: with one that does not say that it does nothing, all moves are judged ahead.
 pub(crate) fn is_judged_ahead(
     stage: &Stage,
     blocks: usize,
@@ -82,15 +99,15 @@ pub(crate) fn is_judged_ahead(
     }
     let is_cold = stage.frozen || stage.range <= LEAST_RANGE;
     let is_cooler = stage.range <= pace.side.saturating_mul(1000) / 2;
-    if is_cold && blocks >= LARGE_DESIGN && pace.workers >= 2 {
+    if is_cold && blocks >= LARGE_DESIGN && pace.helpers >= 2 {
         return true;
     }
-    is_cooler && blocks >= VERY_LARGE_DESIGN && pace.workers >= 3
+    is_cooler && blocks >= VERY_LARGE_DESIGN && pace.helpers >= 3
 }
 
 /// Makes the next `count` moves of the running stage, of which some are left and at least so many: in turns of one batch, and a shorter turn for
-/// the rest. They are judged ahead by a crew that lives for them, or by the owner; the moves, their costs and how many count as judged again are
-/// the same.
+/// the rest. They are judged ahead by a crew that lives for them, or by the owner; the moves, their costs and, if they are counted, how many are
+/// judged again are the same.
 fn make_moves<V: Words + Send + Sync + Drop, K: Keeping, G: Gate, R: Threads + Wait + Sync>(
     rt: &R,
     anneal: &mut Anneal<'_, V, K>,
@@ -102,7 +119,8 @@ fn make_moves<V: Words + Send + Sync + Drop, K: Keeping, G: Gate, R: Threads + W
     requires some { (count ≤ moves_left (run_of V.moves anneal.old) anneal.old.standing) × (0 < moves_left (run_of V.moves anneal.old) anneal.old.standing) }
     requires own { shower.old.dial ≡ plan.now.dial.now }
     requires limits { (1 ≤ plan.now.batch) × (plan.now.batch ≤ 4096) × (1 ≤ plan.now.workers) × (plan.now.workers ≤ 64) }
-    ensures made { IsMadeAlone V.moves plan.now.batch count anneal.old anneal.new result shower.old.shown shower.new.shown }
+    ensures made { IsMade V.moves plan.now.batch count anneal.old anneal.new result shower.old.shown shower.new.shown }
+    ensures counted { K.again ≡ true → IsMadeAlone V.moves plan.now.batch count anneal.old anneal.new result shower.old.shown shower.new.shown }
     ensures dial { shower.new.dial ≡ shower.old.dial }
 {
     if ahead && count > 0 {
@@ -132,7 +150,7 @@ pub(crate) fn make_part<
     ensures done { OnOk result (anneal.new.standing.done ≡ anneal.old.standing.done + count) }
     ensures stands { OnOk result (anneal.new.standing ≡ from (run_of V.moves anneal.old) anneal.old.standing count) }
     ensures accepted { OnOk result (anneal.new.accepted ≡ anneal.old.accepted ++ accepted_among (run_of V.moves anneal.old) anneal.old.standing count) }
-    ensures counted { OnOk result (AreCountedOn (run_of V.moves anneal.old) plan.now.batch anneal.old anneal.new) }
+    ensures counted { OnOk result (K.again ≡ true → AreCountedOn (run_of V.moves anneal.old) plan.now.batch anneal.old anneal.new) }
     ensures dial { shower.new.dial ≡ shower.old.dial }
     ensures shown { OnOk result (EndsShown (run_of V.moves anneal.old) plan.now.batch anneal.old.standing anneal.new.standing shower.old.shown shower.new.shown) }
     ensures shown_cut { OnErr result (LeadsShownWithin (run_of V.moves anneal.old) plan.now.batch anneal.old.standing count shower.old.shown shower.new.shown) }
@@ -158,7 +176,7 @@ pub(crate) fn make_rest<
     requires own { shower.old.dial ≡ plan.now.dial.now }
     requires limits { (1 ≤ plan.now.batch) × (plan.now.batch ≤ 4096) × (1 ≤ plan.now.workers) × (plan.now.workers ≤ 64) }
     ensures same { IsSameRun anneal.old anneal.new }
-    ensures turns { OnOk result (LeadsByTurns (run_of V.moves anneal.old) plan.now.batch anneal.old anneal.new) }
+    ensures turns { OnOk result (K.again ≡ true → LeadsByTurns (run_of V.moves anneal.old) plan.now.batch anneal.old anneal.new) }
     ensures stands { OnOk result (anneal.new.standing ≡ from (run_of V.moves anneal.old) anneal.old.standing left) }
     ensures done { OnOk result (anneal.new.standing.done ≡ anneal.old.standing.done + left) }
     ensures accepted { OnOk result (anneal.new.accepted ≡ anneal.old.accepted ++ accepted_among (run_of V.moves anneal.old) anneal.old.standing left) }
@@ -188,7 +206,7 @@ fn end_stage<V: Words + Send + Sync + Drop, K: Keeping, G: Gate, R: Threads + Wa
     requires own { shower.old.dial ≡ plan.now.dial.now }
     requires limits { (1 ≤ plan.now.batch) × (plan.now.batch ≤ 4096) × (1 ≤ plan.now.workers) × (plan.now.workers ≤ 64) }
     ensures same { IsSameRun anneal.old anneal.new }
-    ensures turns { OnOk result (LeadsByTurns (run_of V.moves anneal.old) plan.now.batch anneal.old anneal.new) }
+    ensures turns { OnOk result (K.again ≡ true → LeadsByTurns (run_of V.moves anneal.old) plan.now.batch anneal.old anneal.new) }
     ensures stands { OnOk result (anneal.new.standing ≡ from (run_of V.moves anneal.old) anneal.old.standing (moves_left (run_of V.moves anneal.old) anneal.old.standing)) }
     ensures done { OnOk result (anneal.new.standing.done ≡ anneal.old.standing.done + moves_left (run_of V.moves anneal.old) anneal.old.standing) }
     ensures accepted { OnOk result (anneal.new.accepted ≡ anneal.old.accepted ++ accepted_among (run_of V.moves anneal.old) anneal.old.standing (moves_left (run_of V.moves anneal.old) anneal.old.standing)) }
@@ -240,7 +258,7 @@ pub(crate) fn anneal_all<
     requires own { shower.old.dial ≡ dial.now }
     requires limits { (1 ≤ pace.now.batch) × (pace.now.batch ≤ 4096) × (1 ≤ pace.now.workers) × (pace.now.workers ≤ 64) }
     ensures same { IsSameRun anneal.old anneal.new }
-    ensures made { OnOk result (AreMade V.moves pace.now.stop pace.now.batch anneal.old anneal.new costs.old.items costs.new.items (W.contents report.old) (W.contents report.new)) }
+    ensures made { OnOk result (AreMade V.moves K.again pace.now.stop pace.now.batch anneal.old anneal.new costs.old.items costs.new.items (W.contents report.old) (W.contents report.new)) }
     ensures cut { IfErr result (AreCut (run_of V.moves anneal.old) anneal.old.standing pace.now.stop (W.contents report.old) (W.contents report.new)) }
     ensures sound { OnOk result (W.failed report.new ≡ W.failed report.old) }
     ensures fault { IfErr result (IsReportFault (W.failed report.old) (W.failed report.new)) }

@@ -150,7 +150,7 @@ proposal_can p sites range words all = by_choice (slice_get (movable p.design p.
         to_can p.fixed sites (record { 0 = b }) (site_of sites b) (target p.design p.grid b (site_of sites b) range words) (omega (arith, all, low)) refl
 
 -- the swap of a judgement
-judged_can : (p : Problem) (sites : List Site) (k t range : ℕ) (s : Swap) → length sites ≡ length p.design.kinds → (judged p sites k t range).swap ≡ Some s → IsReady sites s
+pub judged_can : (p : Problem) (sites : List Site) (k t range : ℕ) (s : Swap) → length sites ≡ length p.design.kinds → (judged p sites k t range).swap ≡ Some s → IsReady sites s
 unfolding judged
 judged_can p sites k t range s all e = by_proposal (proposal p.design p.grid p.fixed sites range (p.words k)) (proposal_can p sites range (p.words k) all) e
   where
@@ -180,7 +180,7 @@ moved_back p sites n base k t range true (Some s) low ready h =
     let free : touch ≡ false = ap (λ v. v && touch) (sym (le-leb base n low)) ∙ (or_parts (nat_le base n && touch) false h).0 in
     sym (judged_back p sites s k t range (ready s refl) free)
 
-clash-append : (d : Netlist) (xs ys : List Accepted) (base : ℕ) (marks : List Mark) → clash d (xs ++ ys) base marks ≡ (clash d xs base marks || clash d ys base marks)
+pub clash-append : (d : Netlist) (xs ys : List Accepted) (base : ℕ) (marks : List Mark) → clash d (xs ++ ys) base marks ≡ (clash d xs base marks || clash d ys base marks)
 clash-append d xs ys base marks = list_any-append (λ (a : Accepted). nat_le base a.number && meet (touched d a.swap) marks) xs ys
 
 -- a move within a stage keeps the temperature and the range
@@ -207,7 +207,7 @@ step_back r x k base all low l h =
     (λ s e. judged_can r.problem x.sites x.done (or_zero x.heat) x.range s all e) free
     ∙ sym after
 
-length_step : (r : Run) (x : Standing) → length (step r x).sites ≡ length x.sites
+pub length_step : (r : Run) (x : Standing) → length (step r x).sites ≡ length x.sites
 length_step r x = by_heat (is_some x.heat)
   where
     by_heat : (b : Bool) → length (cond b (after_move r x (judged_here r x x.done)) x).sites ≡ length x.sites

@@ -88,7 +88,7 @@ before_from r x (suc n) m l =
 pub before_on : (r : Run) (x : Standing) (log : List Accepted) (n : ℕ) → AreBefore x.done log → AreBefore (x.done + n) (log ++ accepted_from r x n)
 before_on r x log n h = before_append (x.done + n) log (accepted_from r x n) (before_weaker x.done (x.done + n) log (omega arith) h) (before_from r x n (x.done + n) (omega arith))
 
-none_since : (n : ℕ) (log : List Accepted) → AreBefore n log → filter (since n) log ≡ []
+pub none_since : (n : ℕ) (log : List Accepted) → AreBefore n log → filter (since n) log ≡ []
 none_since n [] h = refl
 none_since n (a ∷ log) h = (let e = lt-leb n a.number h.0 in rw e (none_since n log h.1))
 

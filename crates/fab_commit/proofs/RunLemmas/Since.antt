@@ -71,7 +71,7 @@ since_turn r keeps before x batch t s now (Ok a) b on = since_turned r keeps bef
 since_turn r keeps before x batch t s now (Err e) b on = since_turned r keeps before x t s now _ _ b (on.err t b)
 
 -- moves are made alone
-since_made : (r : Run) (keeps : Bool) (before : ℕ) (x : Standing) (s now : State) (made : ℕ) → now.done ≡ s.done + made → standing_of now ≡ from r (standing_of s) made
+pub since_made : (r : Run) (keeps : Bool) (before : ℕ) (x : Standing) (s now : State) (made : ℕ) → now.done ≡ s.done + made → standing_of now ≡ from r (standing_of s) made
     → noted now.accepted ≡ noted_more (noted s.accepted) (accepted_among r (standing_of s) made) → IsSince r keeps before x s → IsSince r keeps before x now
 since_made r keeps before x s now made done there numbers since =
     let some : made ≡ now.done - s.done = omega (arith, done) in

@@ -1,7 +1,7 @@
 -- The flat tables of stamps: what a swap touches, and what each mark's stamp is then.
-use Rattle.std.proofs.Common.{◌≡◌, ℕ, ◌<◌, Bool, true, false, cond, eqb, ◌||◌, ◌==◌, List, [], ◌∷◌, ◌++◌, length, set, map, Option, Some, None, refl, sym, ap, ◌∙◌, get_or, arith, inl, inr}
+use Rattle.std.proofs.Common.{◌≡◌, ℕ, ◌<◌, Bool, true, false, cond, eqb, ◌&&◌, ◌||◌, ◌==◌, not, List, [], ◌∷◌, ◌++◌, length, set, map, Option, Some, None, refl, sym, ap, ◌∙◌, get_or, arith, inl, inr}
 use Rattle.std.specs.Prelude.{nat_lt, slice_index}
-use Rattle.std.specs.List.{All, list_any}
+use Rattle.std.specs.List.{All, filter, list_any}
 use Rattle.std.proofs.lemmas.Bool.{cases_Bool, cases_eq, eq-eqb, ne_eqb, false≢true}
 use Rattle.std.proofs.lemmas.List.{get_or-set_same, get_or-set_other, length-map}
 use Rattle.fab_arch.specs.declared.array.Site.{Site}
@@ -13,6 +13,7 @@ use Rattle.fab_net.specs.Netlist.{Netlist, nets_of}
 use Rattle.fab_site.specs.Placement.{same_site}
 use Rattle.fab_site.specs.Index.{index_of}
 use Rattle.fab_site.specs.declared.pieces.Swap.{Swap}
+use Rattle.fab_cost.specs.Runs.{is_large}
 use Rattle.fab_cost.proofs.Nets.{net_counts}
 use Rattle.fab_site.proofs.Tables.{index_apart, same_is, itself}
 use Rattle.fab_move.specs.declared.marks.Mark.{Mark}
@@ -132,3 +133,26 @@ first_touched f m xs ys b low is took =
 pub later_touched : (f : Mark → Bool) (m : Mark) (xs ys : List Mark) (b c : Bool) → f m ≡ false → b ≡ list_any f xs → b ≡ false → c ≡ list_any f ys → c ≡ list_any f (m ∷ (xs ++ ys))
 later_touched f m xs ys b c low is none there =
     sym (rw low (any_append f xs ys ∙ ap (λ d. d || list_any f ys) (sym is ∙ none) ∙ sym there))
+
+-- the same without nets of many terminals
+
+and_true : (a : Bool) → (a && true) ≡ a
+and_true true = refl
+and_true false = refl
+
+and_false : (a : Bool) → (a && false) ≡ false
+and_false true = refl
+and_false false = refl
+
+by_size : (f : Mark → Bool) (n : ℕ) (few : List ℕ) (a b c : Bool) → f (Net (record { 0 = n })) ≡ a → c ≡ list_any f (map (λ n. Net (record { 0 = n })) few)
+    → ((a && b) || c) ≡ list_any f (map (λ n. Net (record { 0 = n })) (cond b (n ∷ few) few))
+by_size f n few a true c e rest = (λ i. and_true a i || rest i) ∙ ap (λ v. v || list_any f (map (λ n. Net (record { 0 = n })) few)) (sym e)
+by_size f n few a false c e rest = (λ i. and_false a i || rest i)
+
+pub nets_touched_in_few : (d : Netlist) (g : GridShape) (base : ℕ) (blocks places nets : List ℕ) (ns : List ℕ)
+    → list_any (λ (n : NetId). nat_lt base (slice_index nets n.0) && not (is_large d n.0)) (map net_id ns)
+    ≡ list_any (λ m. nat_lt base (stamp_in g blocks places nets m)) (map (λ n. Net (record { 0 = n })) (filter (λ n. not (is_large d n)) ns))
+nets_touched_in_few d g base blocks places nets [] = refl
+nets_touched_in_few d g base blocks places nets (n ∷ ns) =
+    by_size (λ m. nat_lt base (stamp_in g blocks places nets m)) n (filter (λ n. not (is_large d n)) ns) (nat_lt base (slice_index nets n)) (not (is_large d n)) _ refl
+    (nets_touched_in_few d g base blocks places nets ns)

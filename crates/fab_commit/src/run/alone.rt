@@ -113,7 +113,7 @@ pub(crate) const AT_ONCE: usize = 32;
 
 /// How many moves' words are made at once. A gate that notes its calls sees that the words of a move are asked for between the calls before
 /// and after its judgement, so with such a gate they are made by themselves.
-fn at_once<G: Gate>(gate: &G) -> usize
+pub(crate) fn at_once<G: Gate>(gate: &G) -> usize
     ensures { (1 ≤ result) × (result ≤ 32) }
 {
     if gate.does_nothing() { AT_ONCE } else { 1 }

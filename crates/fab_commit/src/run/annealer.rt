@@ -1,6 +1,6 @@
 //! An annealer: moves are judged ahead by workers, and committed in order of number.
 
-ghost use Rattle.std.specs.Prelude.{◌≡◌, ◌↔◌, ◌+◌, ◌-◌, ◌<◌, ◌≤◌, if◌then◌else◌, [], ◌∷◌, ◌++◌, length, map, min, Some, None, Ok, IfOk, IfSome};
+ghost use Rattle.std.specs.Prelude.{◌≡◌, ◌↔◌, ◌+◌, ◌-◌, ◌<◌, ◌≤◌, if◌then◌else◌, [], ◌∷◌, ◌++◌, length, map, min, true, false, Some, None, Ok, IfOk, IfSome};
 ghost use Rattle.std.specs.Arc.{arc_value};
 ghost use Rattle.fab_cost.specs.Cost.{cost_of};
 ghost use Rattle.fab_sched.specs.Annealing.{IsLawful};
@@ -13,6 +13,7 @@ ghost use Rattle.fab_commit.specs.Run.Commits.{IsSound, run, run_for, run_of, st
 ghost use Rattle.fab_commit.specs.Run.Noted.{noted};
 ghost use Rattle.fab_commit.specs.Run.Points.{IsPoint, TellsPoint, going_on, standing_at};
 ghost use Rattle.fab_commit.specs.Run.Readings.{reading_at};
+ghost use Rattle.fab_commit.specs.Run.Uncounted.{IsMade};
 
 use crate::run::behind::Behind;
 use crate::run::beside::{StagePlan, finish_beside};
@@ -22,6 +23,7 @@ use crate::run::point::{Point, point_of};
 use crate::run::stage::{MovesPlan, finish_alone};
 use crate::run::state::{Given, State, first_state, moves_left, running, state_at};
 use crate::run::turn::Turn;
+use crate::run::uncounted::finish_uncounted;
 use fab_arch::Grid;
 use fab_board::Gate;
 use fab_cost::WireCost;
@@ -293,7 +295,8 @@ impl<'a, W: Words + Drop, K: Keeping> Anneal<'a, W, K> {
     }
 
     /// How many moves this value judged again, because a move accepted before them had touched what their verdicts rested on. Where the
-    /// owner makes moves alone nothing is judged twice, and the number is that of the turns of the batch.
+    /// owner makes moves alone nothing is judged twice, and the number is that of the turns of the batch. Where such moves are not counted,
+    /// those made alone add nothing.
     pub fn redone(&self) -> u64
         ensures { result ≡ self.now.redone }
     {
@@ -348,7 +351,8 @@ impl<'a, W: Words + Drop, K: Keeping> Anneal<'a, W, K> {
         requires some { 0 < moves_left (run_of W.moves self.old) self.old.standing }
         requires batch { (1 ≤ batch) × (batch ≤ 4096) }
         requires own { shower.old.dial ≡ dial.now }
-        ensures finished { IsMadeAlone W.moves batch (moves_left (run_of W.moves self.old) self.old.standing) self.old self.new result shower.old.shown shower.new.shown }
+        ensures made { IsMade W.moves batch (moves_left (run_of W.moves self.old) self.old.standing) self.old self.new result shower.old.shown shower.new.shown }
+        ensures counted { K.again ≡ true → IsMadeAlone W.moves batch (moves_left (run_of W.moves self.old) self.old.standing) self.old self.new result shower.old.shown shower.new.shown }
         ensures dial { shower.new.dial ≡ shower.old.dial }
     {
         let left = moves_left(&self.given.schedule, &self.pipeline.owner.state);
@@ -358,8 +362,8 @@ impl<'a, W: Words + Drop, K: Keeping> Anneal<'a, W, K> {
     /// Makes the next `count` moves of the running stage, of which some are left, and at least so many. The calling thread judges each when its
     /// turn comes, on the live placement; no move is judged ahead. The moves are those of turns of `batch` moves, from 1 to 4,096, of which
     /// the last may be shorter. Each turn shows on the dial how far the run has come. The judgements ahead of these turns would have been
-    /// spoilt as often: `redone` grows by as many as they would have judged again, though nothing is judged twice. By contract the shower
-    /// is one of this dial.
+    /// spoilt as often: where moves judged again are counted, `redone` grows by as many as they would have judged again, though nothing is
+    /// judged twice. By contract the shower is one of this dial.
     ///
     /// The gate is called before and after the judgement of each move, and before its commit, all by the calling thread. So a gate that
     /// waits in one call for another waits for ever here. If the gate says that it does nothing, the words of some moves are asked for
@@ -379,7 +383,9 @@ impl<'a, W: Words + Drop, K: Keeping> Anneal<'a, W, K> {
         requires some { (count ≤ moves_left (run_of W.moves self.old) self.old.standing) × (0 < moves_left (run_of W.moves self.old) self.old.standing) }
         requires batch { (1 ≤ batch) × (batch ≤ 4096) }
         requires own { shower.old.dial ≡ dial.now }
-        ensures made { IsMadeAlone W.moves batch count self.old self.new result shower.old.shown shower.new.shown }
+        ensures made { IsMade W.moves batch count self.old self.new result shower.old.shown shower.new.shown }
+        ensures counted { K.again ≡ true → IsMadeAlone W.moves batch count self.old self.new result shower.old.shown shower.new.shown }
+        ensures uncounted { K.again ≡ false → self.new.redone ≡ self.old.redone }
         ensures dial { shower.new.dial ≡ shower.old.dial }
     {
         let given: &Given<'_, W> = &self.given;
@@ -389,6 +395,9 @@ impl<'a, W: Words + Drop, K: Keeping> Anneal<'a, W, K> {
             gate,
             dial,
         };
+        if !K::counts() {
+            return finish_uncounted(rt, given, &mut self.pipeline, &plan, shower);
+        }
         finish_alone::<W, G, Behind<'_, '_, W, G>, Brand, R>(
             rt,
             given,

@@ -1,6 +1,6 @@
 //! Stages whose moves a crew judges ahead: each worker follows the owner on a state of its own.
 
-ghost use Rattle.std.specs.Prelude.{◌≡◌, ℕ, ◌+◌, ◌<◌, ◌≤◌, ◌++◌, ◌∷◌, [], List, false, true, length, Some, Option, IfOk, IfSome, MatchResult, OnOk};
+ghost use Rattle.std.specs.Prelude.{◌≡◌, ℕ, ◌+◌, ◌<◌, ◌≤◌, ◌++◌, ◌∷◌, [], List, false, true, length, slice_index, Some, Option, IfOk, IfSome, MatchResult, OnOk};
 ghost use Rattle.std.specs.List.{count_by, range_with_len};
 ghost use Rattle.fab_sched.specs.Annealing.{IsLawful};
 ghost use Rattle.fab_site.specs.Placement.{IsSwapOf};
@@ -8,24 +8,24 @@ ghost use Rattle.fab_move.specs.Judge.{IsDecision};
 ghost use Rattle.fab_commit.specs.Serial.{Run, Standing, judged_here};
 ghost use Rattle.fab_commit.specs.Run.Alone.{AreOpen, HasGone, IsAlone, is_touched_here};
 ghost use Rattle.fab_commit.specs.Run.Behind.{MayBeFollowed, after_post};
-ghost use Rattle.fab_commit.specs.Run.Commits.{run_for, standing_of};
+ghost use Rattle.fab_commit.specs.Run.Commits.{IsSound, run_for, standing_of};
 ghost use Rattle.fab_commit.specs.Run.Owners.{HasMade, HasRoom, IsOwned, Leads};
-ghost use Rattle.fab_commit.specs.Run.Foreseen.{IsForeseen};
+ghost use Rattle.fab_commit.specs.Run.Foreseen.{IsForeseen, IsStill};
 ghost use Rattle.fab_commit.specs.Run.Followed.{IsTied};
 ghost use Rattle.fab_commit.specs.Model.History.{is_redone};
 ghost use Rattle.fab_commit.specs.Model.TurnEvents.{LastTurn, next_turn};
 
 use crate::run::alone::{AT_ONCE, Ahead, commit_alone, decided_alone};
 use crate::run::behind::Pursue;
-use crate::run::foreseen::Foreseen;
+use crate::run::foreseen::{Foreseen, foresee};
 use crate::run::owner::{Owner, make_one};
 use crate::run::pipeline::reserve;
 use crate::run::post::{Post, Share};
-use crate::run::state::{Given, State, decide_on, moves_left};
+use crate::run::state::{Given, State, moves_left};
 use crate::run::swaps::Accepted;
 use fab_board::follow_lead::Lead;
 use fab_board::{Boarding, Gate, Naming, Origin, Sheet};
-use fab_move::Decision;
+use fab_move::{Decision, Proposal, accepts};
 use fab_site::{Swap, Words};
 use std::alloc::{AllocError, Global};
 use std::marker::Model;
@@ -131,6 +131,60 @@ fn decided_here<W: Words, G: Gate>(
     decided
 }
 
+/// Decides the next move where it still proposes the swap that was foreseen, and the change of cost of nets with few terminals is still `few`.
+/// So only nets with many terminals are looked at. `word` decides whether the swap is accepted.
+fn decided_by_large<W: Words>(
+    given: &Given<'_, W>,
+    state: &State,
+    few: i64,
+    swap: Swap,
+    word: u32,
+) -> Decision
+    requires sound { IsSound (run_for W.moves given.now) state.now }
+    requires going { state.now.ended ≡ false }
+    requires word { word ≡ slice_index (W.moves given.now.words state.now.done) 3 }
+    requires still { IsStill (run_for W.moves given.now) (standing_of state.now) state.now.done few swap }
+    ensures lawful { (s : Swap) → result.swap ≡ Some s → IsSwapOf given.now.grid.now state.now.placement.sites s }
+    ensures decides { IsDecision result (judged_here (run_for W.moves given.now) (standing_of state.now) state.now.done) }
+{
+    let large = state
+        .cost
+        .delta_of_large(given.design, given.grid, &state.placement, &swap);
+    let delta = few + large;
+    Decision {
+        swap: Some(swap),
+        delta,
+        accepted: accepts(delta, state.stage.t, word),
+    }
+}
+
+/// Decides the next move on the live placement, of which is known what it was on the placement after `base` moves, where a move accepted since
+/// has touched what that rests on. If only nets with many terminals were touched, only these are looked at. The move's words count as asked
+/// for once more.
+fn decided_again<W: Words>(
+    given: &Given<'_, W>,
+    owner: &Owner,
+    base: u64,
+    foreseen: &Foreseen,
+) -> Decision
+    requires owned { IsOwned (run_for W.moves given.now) owner.now }
+    requires going { owner.now.state.ended ≡ false }
+    requires due { (due : AreOpen (run_for W.moves given.now) owner.now base 1) × IsForeseen (run_for W.moves given.now) due.start owner.now.state.done foreseen.now }
+    ensures lawful { (s : Swap) → result.swap ≡ Some s → IsSwapOf given.now.grid.now owner.now.state.placement.sites s }
+    ensures decides { IsDecision result (judged_here (run_for W.moves given.now) (standing_of owner.now.state) owner.now.state.done) }
+{
+    let state = &owner.state;
+    let words = given.words.words_again(state.done, foreseen.words);
+    if let Proposal::Move(swap) = foreseen.proposal {
+        let stamps = &owner.stamps;
+        if !stamps.is_swap_touched_in_few(given.design, given.grid, base, swap) {
+            return decided_by_large(given, state, foreseen.few, swap, words[3]);
+        }
+    }
+    let fresh = foresee(given, state, state.done, words);
+    fresh.decision()
+}
+
 /// Decides the next move: as it was foreseen on the placement after `base` moves, unless a move accepted since has touched what that rests on,
 /// or there is nothing. Returns the decision, and whether a judgement on that placement was spoilt. The gate has the call before the commit
 /// behind the first judgement, and before the move is judged again. Allocates nothing.
@@ -160,7 +214,7 @@ fn decided_followed<W: Words, G: Gate>(
         .stamps
         .is_touched(given.design, given.grid, base, foreseen.proposal);
     if again {
-        (decide_on(given, &owner.state, owner.state.done), true)
+        (decided_again(given, owner, base, foreseen), true)
     } else {
         (foreseen.decision(), false)
     }

@@ -1,30 +1,31 @@
 //! What is foreseen of a move by those who follow the owner.
 
-ghost use Rattle.std.specs.Prelude.{◌≡◌, false};
+ghost use Rattle.std.specs.Prelude.{◌≡◌, pos, false};
 ghost use Rattle.fab_commit.specs.Run.Commits.{IsSound, run_for, standing_of};
 ghost use Rattle.fab_commit.specs.Run.Foreseen.{IsForeseen, decision_in};
 
 use crate::run::state::{Given, State, view_of};
-use fab_move::{Decision, Proposal, propose, weigh};
+use fab_move::{Decision, Proposal, accepts, propose};
 use fab_site::Words;
 
-/// What a move would be on the placement of somebody who follows. What its decision rests on is what its proposal names.
+/// What a move would be on the placement of somebody who follows. What its decision rests on is what its proposal names. In this order its
+/// parts take 64 bytes.
 #[derive(Clone, Copy)]
 pub struct Foreseen {
     pub(crate) proposal: Proposal,
+    /// The move's words.
+    pub(crate) words: [u32; 4],
+    pub(crate) accepted: bool,
+    /// The change of cost of the nets with few terminals, in ten-thousandths; 0 without a swap.
+    pub(crate) few: i64,
     /// The change of cost in ten-thousandths; 0 without a swap.
     pub(crate) delta: i64,
-    pub(crate) accepted: bool,
 }
 
 impl Foreseen {
     /// What a place holds that nothing was written to.
     pub(crate) fn nothing() -> Foreseen {
-        Foreseen {
-            proposal: Proposal::Nothing,
-            delta: 0,
-            accepted: false,
-        }
+        without_swap(Proposal::Nothing, [0; 4])
     }
 
     /// The decision.
@@ -44,6 +45,20 @@ impl Foreseen {
     }
 }
 
+/// What is foreseen of a move that proposes no swap.
+fn without_swap(proposal: Proposal, words: [u32; 4]) -> Foreseen
+    ensures { result ≡ record { proposal = proposal; few = pos 0; delta = pos 0; words = words; accepted = false } }
+{
+    Foreseen {
+        proposal,
+        few: 0,
+        delta: 0,
+        words,
+        accepted: false,
+    }
+}
+
+#[inline(always)]
 /// Foresees a move of the running stage, by its words. Allocates nothing.
 pub(crate) fn foresee<W: Words>(
     given: &Given<'_, W>,
@@ -66,10 +81,21 @@ pub(crate) fn foresee<W: Words>(
         view.range,
         words,
     );
-    let decision = weigh(&view, proposal, words[3]);
-    Foreseen {
-        proposal,
-        delta: decision.delta,
-        accepted: decision.accepted,
+    match proposal {
+        Proposal::Nothing => without_swap(proposal, words),
+        Proposal::Void(_, _) => without_swap(proposal, words),
+        Proposal::Move(swap) => {
+            let (few, large) = view
+                .cost
+                .delta_parts(view.design, view.grid, view.placement, &swap);
+            let delta = few + large;
+            Foreseen {
+                proposal,
+                few,
+                delta,
+                words,
+                accepted: accepts(delta, view.t, words[3]),
+            }
+        }
     }
 }

@@ -1,8 +1,9 @@
 //! When each block, site and net was last touched.
 
-ghost use Rattle.std.specs.Prelude.{◌≡◌, ℕ, ◌<◌, ◌==◌, ◌∷◌, [], if◌then◌else◌, nat_lt, length, is_some, IfOk, Some, slice_index, true};
+ghost use Rattle.std.specs.Prelude.{◌≡◌, ℕ, ◌<◌, ◌==◌, ◌∷◌, [], if◌then◌else◌, nat_lt, ◌&&◌, not, length, is_some, IfOk, Some, slice_index, true};
 ghost use Rattle.std.specs.List.{All, list_any};
 ghost use Rattle.fab_net.specs.declared.pieces.NetId.{NetId};
+ghost use Rattle.fab_cost.specs.Runs.{few_of, is_large};
 ghost use Rattle.fab_site.specs.Index.{index_of};
 ghost use Rattle.fab_arch.specs.Grid.{GridShape};
 ghost use Rattle.fab_move.specs.declared.marks.Mark.{Mark as IsMark};
@@ -13,6 +14,7 @@ ghost use Rattle.fab_commit.specs.Run.StampTables.{IsTable, IsWithin, kept_stamp
 ghost use Rattle.fab_commit.specs.Model.Worlds.{IsBlock};
 
 use fab_arch::{Grid, Site};
+use fab_cost::has_many_terminals;
 use fab_move::{Mark, Proposal};
 use fab_net::{BlockId, Design, NetId};
 use fab_site::Swap;
@@ -131,6 +133,45 @@ impl Stamps {
         }
     }
 
+    /// Whether what a proposed swap rests on was touched by move `base` or a later one, where nets of many terminals do not count: its target,
+    /// its blocks, and their nets with few terminals.
+    pub(crate) fn is_swap_touched_in_few(
+        &self,
+        design: &Design,
+        grid: &Grid,
+        base: u64,
+        swap: Swap,
+    ) -> bool
+        requires block { swap.block.0 < length design.now.kinds }
+        requires other { (b : BlockId) → swap.other ≡ Some b → b.0 < length design.now.kinds }
+        ensures { result ≡ list_any (λ m. nat_lt base (kept_stamp grid.now self.now m)) (footprint (few_of design.now) (proposes swap)) }
+    {
+        let place = self.of_site(grid, swap.to);
+        base < place
+            || (self.is_block_touched_in_few(design, base, swap.block)
+                || self.is_other_touched_in_few(design, base, swap.other))
+    }
+
+    /// Whether a block or one of its nets with few terminals was touched by move `base` or a later one.
+    fn is_block_touched_in_few(&self, design: &Design, base: u64, block: BlockId) -> bool
+        requires { block.0 < length design.now.kinds }
+        ensures { (g : GridShape) → result ≡ list_any (λ m. nat_lt base (kept_stamp g self.now m)) (block_marks (few_of design.now) block) }
+    {
+        let own = stamp_at(&self.blocks, block.0 as usize);
+        base < own || is_net_of_few_touched(&self.nets, design, base, design.nets_of(block))
+    }
+
+    /// The same of the block that a swap displaces, if any.
+    fn is_other_touched_in_few(&self, design: &Design, base: u64, other: Option<BlockId>) -> bool
+        requires { (b : BlockId) → other ≡ Some b → b.0 < length design.now.kinds }
+        ensures { (g : GridShape) → result ≡ list_any (λ m. nat_lt base (kept_stamp g self.now m)) (other_marks (few_of design.now) other) }
+    {
+        match other {
+            None => false,
+            Some(block) => self.is_block_touched_in_few(design, base, block),
+        }
+    }
+
     /// Whether a block or one of its nets was touched by move `base` or a later one.
     fn is_block_touched(&self, design: &Design, base: u64, block: BlockId) -> bool
         requires { block.0 < length design.now.kinds }
@@ -192,6 +233,20 @@ fn is_net_touched(stamps: &[u64], base: u64, nets: &[NetId]) -> bool
 {
     nets.iter()
         .any(|net| base < stamp_at(stamps, net.0 as usize))
+}
+
+/// Whether one of the nets with few terminals was touched by move `base` or a later one.
+fn is_net_of_few_touched(stamps: &[u64], design: &Design, base: u64, nets: &[NetId]) -> bool
+    requires { All (λ (n : NetId). n.0 < length design.now.terminals) nets.now }
+    ensures { result ≡ list_any (λ (n : NetId). nat_lt base (slice_index stamps.now n.0) && not (is_large design.now n.0)) nets.now }
+{
+    'nets: for i in 0..nets.len() {
+        let net = nets[i];
+        if base < stamp_at(stamps, net.0 as usize) && !has_many_terminals(design, net) {
+            return true;
+        }
+    }
+    false
 }
 
 /// Stamps nets.

@@ -50,7 +50,7 @@ returns-in_err-anneal_all-clause-short g c =
 pub returns-clause-redone : goal.returns-clause-redone
 returns-clause-redone g c =
     let b = c.anneal_all.new.anneal in
-    redone_piece c.args.anneal b c.args.piece.now.head.items c.args.piece.now.pace.stop c.args.piece.now.pace.batch c.in_ok-costs.costs.items c.anneal_all.new.costs.items
+    redone_piece g.K.Keeping.again c.args.anneal b c.args.piece.now.head.items c.args.piece.now.pace.stop c.args.piece.now.pace.batch c.in_ok-costs.costs.items c.anneal_all.new.costs.items
     (g.W.Sink.contents c.tell_start.new.report) (g.W.Sink.contents c.anneal_all.new.report) c.requires.fresh c.in_ok-anneal_all.ensures.made c.tell_end.result c.tell_end.ensures.redone
 
 pub returns-clause-annealed : goal.returns-clause-annealed
@@ -63,7 +63,7 @@ returns-clause-annealed g c =
     let told = subst (λ l. Appends old mid l) c.deref.ensures.value c.in_ok-costs.ensures.told in
     let all = c.in_ok-anneal_all.ensures in
     let end = c.tell_end.ensures in
-    told_piece g.K.Keeping.numbers c.args.anneal b c.args.piece.now.head.items c.args.piece.now.pace.stop c.args.piece.now.pace.batch c.cost.result c.in_ok-costs.costs.items c.anneal_all.new.costs.items old mid more new
+    told_piece g.K.Keeping.numbers g.K.Keeping.again c.args.anneal b c.args.piece.now.head.items c.args.piece.now.pace.stop c.args.piece.now.pace.batch c.cost.result c.in_ok-costs.costs.items c.anneal_all.new.costs.items old mid more new
     c.requires.fresh all.same all.made c.cost.ensures c.in_ok-costs.ensures.costs told c.tell_end.result end.ending end.array end.sites end.legal end.moves end.costs end.told
 
 pub returns-clause-cut : goal.returns-clause-cut
@@ -74,7 +74,7 @@ returns-clause-cut g c =
     let new = g.W.Sink.contents c.tell_end.new.report in
     let told = subst (λ l. Appends old mid l) c.deref.ensures.value c.in_ok-costs.ensures.told in
     let all = c.in_ok-anneal_all.ensures in
-    cut_piece c.args.anneal c.anneal_all.new.anneal c.args.piece.now.head.items c.args.piece.now.pace.stop c.args.piece.now.pace.batch c.in_ok-costs.costs.items c.anneal_all.new.costs.items old mid more new
+    cut_piece g.K.Keeping.again c.args.anneal c.anneal_all.new.anneal c.args.piece.now.head.items c.args.piece.now.pace.stop c.args.piece.now.pace.batch c.in_ok-costs.costs.items c.anneal_all.new.costs.items old mid more new
     all.same all.made told c.tell_end.result c.tell_end.ensures.cut
 
 pub returns-clause-short : goal.returns-clause-short
@@ -85,7 +85,7 @@ returns-clause-short g c =
     let new = g.W.Sink.contents c.tell_end.new.report in
     let told = subst (λ l. Appends old mid l) c.deref.ensures.value c.in_ok-costs.ensures.told in
     let all = c.in_ok-anneal_all.ensures in
-    short_piece c.args.anneal c.anneal_all.new.anneal c.args.piece.now.head.items c.args.piece.now.pace.stop c.args.piece.now.pace.batch c.in_ok-costs.costs.items c.anneal_all.new.costs.items old mid more new
+    short_piece g.K.Keeping.again c.args.anneal c.anneal_all.new.anneal c.args.piece.now.head.items c.args.piece.now.pace.stop c.args.piece.now.pace.batch c.in_ok-costs.costs.items c.anneal_all.new.costs.items old mid more new
     all.same all.made told c.tell_end.result c.tell_end.ensures.short
 
 pub returns-in_err-costs-clause-shown_cut : goal.returns-in_err-costs-clause-shown_cut

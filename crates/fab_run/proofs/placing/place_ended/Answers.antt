@@ -26,7 +26,7 @@ returns-clause-redone g c =
     let given : IsSetting t o s = c.in_ok-design.ensures.found in
     let p = piece_of stream_moves c.in_ok-anneal.anneal c.in_ok-anneal.head.items o.stop in
     let e : p ≡ piece_by s o.seed o.stop = λ i. piece_of stream_moves (c.in_ok-anneal.ensures.stands i) (c.in_ok-anneal.ensures.head i) o.stop in
-    redone_asked (AskFor t o) p o.batch c.run_piece.result (s, given, e) c.run_piece.ensures.redone
+    redone_asked g.K.Keeping.again (AskFor t o) p o.batch c.run_piece.result (s, given, e) c.run_piece.ensures.redone
 
 pub returns-clause-cut : goal.returns-clause-cut
 returns-clause-cut g c =

@@ -33,7 +33,7 @@ returns-clause-redone g c =
     let given : IsGoing t point batch workers s = c.in_ok-design.ensures.found in
     let p = piece_of stream_moves c.keeping-anneal.result c.new.result.items c.args.stop in
     let e : p ≡ piece_from s c.args.stop = (λ i. piece_of stream_moves ((c.keeping-anneal.ensures ∙ c.in_ok-numbered.ensures) i) (c.new.ensures.items i) c.args.stop) ∙ ap (λ w. piece_of stream_moves (going_on s.design s.grid s.point w) [] c.args.stop) c.new-words.ensures in
-    redone_asked (AskToGoOn t point batch workers c.args.stop) p batch c.run_piece.result (s, given, e) c.run_piece.ensures.redone
+    redone_asked g.K.Keeping.again (AskToGoOn t point batch workers c.args.stop) p batch c.run_piece.result (s, given, e) c.run_piece.ensures.redone
 
 pub returns-clause-cut : goal.returns-clause-cut
 returns-clause-cut g c =

@@ -34,7 +34,7 @@ loop-stage-init g c =
     let none : 0 ≡ x.done - x.done = omega arith in
     record {
       same = record { design = refl; grid = refl; fixed = refl; plan = refl; words = refl };
-      turns = by_turns_stay r c.args.pace.now.batch a;
+      turns = λ e. by_turns_stay r c.args.pace.now.batch a;
       at = subst (HasTold r x x a.accepted a.accepted costs costs old old) none (told_nothing r x a.accepted costs old);
       dial = refl;
       shown = shown_first r c.args.pace.now.batch x c.args.shower.now.shown;
@@ -62,7 +62,7 @@ returns-clause-made g c =
       accepted = inv.at.numbers;
       costs = inv.at.values;
       told = inv.at.told;
-      counted = counted_by_turns r c.args.pace.now.batch c.args.anneal.now c.loop-stage.anneal plan inv.turns;
+      counted = λ e. counted_by_turns r c.args.pace.now.batch c.args.anneal.now c.loop-stage.anneal plan (inv.turns e);
     }
 
 pub returns-in_err-line-clause-cut : goal.returns-in_err-line-clause-cut
@@ -144,7 +144,7 @@ loop-stage-preserved g c =
     record {
       dial = made.dial ∙ inv.dial;
       shown = leads.on x before inv.shown;
-      turns = by_turns_then r c.args.pace.now.batch c.args.anneal.now c.loop-stage.anneal c.end_stage.new.anneal inv.turns (subst (λ q. LeadsByTurns q c.args.pace.now.batch c.loop-stage.anneal c.end_stage.new.anneal) same made.turns);
+      turns = λ e. by_turns_then r c.args.pace.now.batch c.args.anneal.now c.loop-stage.anneal c.end_stage.new.anneal (inv.turns e) (subst (λ q. LeadsByTurns q c.args.pace.now.batch c.loop-stage.anneal c.end_stage.new.anneal) same (made.turns e));
       same = same_twice c.args.anneal.now c.loop-stage.anneal c.end_stage.new.anneal inv.same made.same;
       at = subst (λ k. HasTold r x z c.args.anneal.now.accepted c.end_stage.new.anneal.accepted c.args.costs.now.items c.end_stage.new.costs.items (g.W.Sink.contents c.args.report.now) (g.W.Sink.contents c.write_whole.new.out) k) count on;
       done = omega (arith, done, low);
@@ -197,7 +197,7 @@ returns-in-Some-moves_before-clause-made g c =
       accepted = on.numbers;
       costs = on.values;
       told = on.told;
-      counted = counted_then r c.args.pace.now.batch c.args.anneal.now c.loop-stage.anneal c.make_part.new.anneal inv.turns (subst (λ q. AreCountedOn q c.args.pace.now.batch c.loop-stage.anneal c.make_part.new.anneal) same made.counted);
+      counted = λ e. counted_then r c.args.pace.now.batch c.args.anneal.now c.loop-stage.anneal c.make_part.new.anneal (inv.turns e) (subst (λ q. AreCountedOn q c.args.pace.now.batch c.loop-stage.anneal c.make_part.new.anneal) same (made.counted e));
     }
 
 pub returns-clause-shown : goal.returns-clause-shown

@@ -11,7 +11,7 @@ pub returns-clause-accepted : goal.returns-clause-accepted
 returns-clause-accepted g c = alone_accepted g.V.Words.moves c.args.plan.now.batch c.args.count c.args.anneal.now c.make_moves.new.anneal c.make_moves.result c.args.shower.now.shown c.make_moves.new.shower.shown c.make_moves.ensures.made
 
 pub returns-clause-counted : goal.returns-clause-counted
-returns-clause-counted g c = alone_counted g.V.Words.moves c.args.plan.now.batch c.args.count c.args.anneal.now c.make_moves.new.anneal c.make_moves.result c.args.shower.now.shown c.make_moves.new.shower.shown c.make_moves.ensures.made
+returns-clause-counted g c = alone_counted g.V.Words.moves g.K.Keeping.again c.args.plan.now.batch c.args.count c.args.anneal.now c.make_moves.new.anneal c.make_moves.result c.args.shower.now.shown c.make_moves.new.shower.shown c.make_moves.ensures.counted
 
 pub returns-clause-shown : goal.returns-clause-shown
 returns-clause-shown g c = alone_ends g.V.Words.moves c.args.plan.now.batch c.args.count c.args.anneal.now c.make_moves.new.anneal c.make_moves.result c.args.shower.now.shown c.make_moves.new.shower.shown c.make_moves.ensures.made

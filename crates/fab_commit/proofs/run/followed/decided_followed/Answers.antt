@@ -50,3 +50,8 @@ returns-else-again-clause-decides g c =
     let free = sym (ap (list_any (λ m. nat_lt c.args.base (kept_stamp r.problem.grid o.stamps m))) is.marks) ∙ sym c.is_touched-again.ensures ∙ c.if-again.false in
     let fresh = (told r o c.args.base (omega (arith, moves)) c.requires.owned due).fresh free in
     subst (IsDecision c.decision.result) fresh (subst (λ d. IsDecision d (judged_here r due.start o.state.done)) (sym c.decision.ensures) is.decides)
+
+pub decided_again-requires-clause-due : goal.decided_again-requires-clause-due
+decided_again-requires-clause-due g c =
+    let r = run_for g.W.Words.moves c.args.given.now in
+    (c.requires.due.0, subst (λ v. IfSome v (λ a. IsForeseen r c.requires.due.0.start c.args.owner.now.state.done a.now)) c.in-Some.is c.requires.due.1)

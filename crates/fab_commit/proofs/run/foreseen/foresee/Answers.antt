@@ -1,48 +1,79 @@
-use Rattle.std.proofs.Common.{◌≡◌, to_z, of_z, w64, rules, sym, ap, subst, ◌∙◌, refl}
+use Rattle.std.proofs.Common.{◌≡◌, ◌+ℤ◌, to_z, of_z, w64, FitsSigned, rules, sym, ap, subst, ◌∙◌, refl}
 use Rattle.std.specs.Prelude.{slice_index}
+use Rattle.fab_arch.specs.Grid.{kind_at}
 use Rattle.fab_site.specs.declared.pieces.Swap.{Swap}
+use Rattle.fab_cost.specs.Runs.{few_of}
+use Rattle.fab_cost.specs.Swapping.{change}
+use Rattle.fab_cost.proofs.Few.{change_fits}
+use Rattle.fab_move.specs.Accept.{is_accepted}
 use Rattle.fab_move.specs.declared.proposals.Proposal.TheVariants.{Move}
-use Rattle.fab_move.specs.Judge.{IsDecision, Judged, footprint, judged, judged_as, problem}
 use Rattle.fab_move.specs.Propose.{proposal}
-use Rattle.fab_move.proofs.Judgements.{decided_on, judged_on}
 use Rattle.fab_commit.specs.Serial.{or_zero}
-use Rattle.fab_commit.specs.Run.Commits.{heat_of}
-use Rattle.fab_commit.specs.Run.Foreseen.{swap_in}
-use Rattle.fab_commit.proofs.ModelLemmas.Noninterference.{judged_as-footprint}
-use Rattle.fab_commit.proofs.RunLemmas.Foreseeing.{swap_is, swap_of}
+use Rattle.fab_commit.specs.Run.Commits.{heat_of, run_for, standing_of}
+use Rattle.fab_commit.specs.Run.Foreseen.{IsForeseen, swap_in}
+use Rattle.fab_commit.specs.Run.StampTables.{IsWithin}
+use Rattle.fab_commit.proofs.RunLemmas.Foreseeing.{foreseen_by, foreseen_none, move_is}
 use Rattle.fab_commit.proofs.RunLemmas.Owning.{within_of}
 use Rattle.fab_commit.proofs.run.foreseen.foresee.Goals as goal
 
-pub returns : goal.returns
-returns g c =
+pub returns-in-Nothing : goal.returns-in-Nothing
+returns-in-Nothing g c =
+    let given = c.args.given.now in
+    let v = c.view_of-view.ensures in
+    let r = run_for g.W.Words.moves given in
+    let is = c.propose-proposal.ensures.value ∙ (λ i. proposal (v.design i) (v.grid i) (v.fixed i) (v.placement i).sites (v.range i) (c.requires.words i)) in
+    subst (IsForeseen r (standing_of c.args.state.now) c.args.number) (sym c.without_swap.ensures)
+    (foreseen_none r (standing_of c.args.state.now) c.args.number c.propose-proposal.result c.args.words is c.requires.words (ap swap_in c.in-Nothing.is))
+
+pub returns-in-Void : goal.returns-in-Void
+returns-in-Void g c =
+    let given = c.args.given.now in
+    let v = c.view_of-view.ensures in
+    let r = run_for g.W.Words.moves given in
+    let is = c.propose-proposal.ensures.value ∙ (λ i. proposal (v.design i) (v.grid i) (v.fixed i) (v.placement i).sites (v.range i) (c.requires.words i)) in
+    subst (IsForeseen r (standing_of c.args.state.now) c.args.number) (sym c.without_swap-in-Void.ensures)
+    (foreseen_none r (standing_of c.args.state.now) c.args.number c.propose-proposal.result c.args.words is c.requires.words (ap swap_in c.in-Void.is))
+
+pub delta_parts-few-requires-clause-lawful : goal.delta_parts-few-requires-clause-lawful
+delta_parts-few-requires-clause-lawful g c = c.propose-proposal.ensures.lawful c.in-Move.swap c.in-Move.is
+
+pub overflow_add-delta : goal.overflow_add-delta
+overflow_add-delta g c =
+    let few : to_z w64 (of_z w64 c.delta_parts-few.result.0) ≡ c.delta_parts-few.result.0 = search rules in
+    let large : to_z w64 (of_z w64 c.delta_parts-few.result.1) ≡ c.delta_parts-few.result.1 = search rules in
+    subst (FitsSigned w64) (sym ((λ i. few i +ℤ large i) ∙ c.delta_parts-few.ensures.whole))
+    (change_fits c.view_of-view.result.design.now c.view_of-view.result.grid.now c.view_of-view.result.placement.now.sites c.in-Move.swap c.delta_parts-few.ensures.below)
+
+pub returns-in-Move : goal.returns-in-Move
+returns-in-Move g c =
     let given = c.args.given.now in
     let state = c.args.state.now in
-    let p = problem given.design.now given.grid.now given.fixed (g.W.Words.moves given.words) in
-    let v = c.view_of-view.ensures in
-    let q = c.propose-proposal.result in
-    let d = c.weigh-decision.result in
-    let k = c.args.number in
-    let t = or_zero (heat_of state.ended state.stage.t) in
-    let w = slice_index (p.words k) 3 in
+    let d = given.design.now in
+    let grid = given.grid.now in
     let sites = state.placement.sites in
-    let is : q ≡ proposal p.design p.grid p.fixed sites state.stage.range (p.words k) =
-    c.propose-proposal.ensures.value ∙ (λ i. proposal (v.design i) (v.grid i) (v.fixed i) (v.placement i).sites (v.range i) (c.requires.words i)) in
-    let marks : footprint p.design q ≡ (judged p sites k t state.stage.range).footprint =
-    sym (judged_as-footprint p sites t w q) ∙ ap (λ (j : Judged). j.footprint) (judged_on p sites k t state.stage.range w q refl is) in
-    let w0 = slice_index c.args.words 3 in
-    let decided : IsDecision d (judged_as p sites state.stage.t w0 q) =
-    subst (IsDecision d) (λ i. judged_as (problem (v.design i) (v.grid i) (v.fixed i) (g.W.Words.moves (v.words i))) (v.placement i).sites (v.t i) w0 q) c.weigh-decision.ensures.decided in
-    let cold : IsDecision d (judged p sites k state.stage.t state.stage.range) =
-    decided_on p sites k state.stage.t state.stage.range (p.words k) w0 q d refl (λ i. slice_index (c.requires.words i) 3) is decided in
+    let s = c.in-Move.swap in
+    let v = c.view_of-view.ensures in
+    let is = c.propose-proposal.ensures.value ∙ (λ i. proposal (v.design i) (v.grid i) (v.fixed i) (v.placement i).sites (v.range i) (c.requires.words i)) in
+    let lawful = rw (v.grid, v.placement) at (c.propose-proposal.ensures.lawful s c.in-Move.is) in
     let hot : or_zero (heat_of state.ended state.stage.t) ≡ state.stage.t = ap (λ b. or_zero (heat_of b state.stage.t)) c.requires.going in
-    let all : IsDecision d (judged p sites k t state.stage.range) = subst (λ t. IsDecision d (judged p sites k t state.stage.range)) (sym hot) cold in
-    let read : to_z w64 (of_z w64 d.delta) ≡ d.delta = search rules in
-    let swap : d.swap ≡ swap_in q = decided.swap ∙ swap_of p sites state.stage.t w0 q in
-    let within = λ (s : Swap) (e : q ≡ Move s). (let lawful = rw (v.grid, v.placement) at (c.propose-proposal.ensures.lawful s e) in within_of given.design.now given.grid.now given.fixed sites s c.requires.sound.legal lawful) in
-    record {
-      decides = record { swap = sym swap ∙ all.swap; change = read ∙ all.change; accepted = all.accepted };
-      marks = marks;
-      block = λ s e. (within s e).block;
-      other = λ s b e o. rw o at (within s e).other;
-      kind = λ s e. (let lawful = rw (v.grid, v.placement) at (c.propose-proposal.ensures.lawful s (swap_is q s e)) in lawful.kind);
-    }
+    let read_few : to_z w64 (of_z w64 c.delta_parts-few.result.0) ≡ c.delta_parts-few.result.0 = search rules in
+    let read_large : to_z w64 (of_z w64 c.delta_parts-few.result.1) ≡ c.delta_parts-few.result.1 = search rules in
+    let sum = (λ i. read_few i +ℤ read_large i) ∙ c.delta_parts-few.ensures.whole in
+    let fits = change_fits c.view_of-view.result.design.now c.view_of-view.result.grid.now c.view_of-view.result.placement.now.sites s c.delta_parts-few.ensures.below in
+    let read : to_z w64 (of_z w64 (to_z w64 (of_z w64 c.delta_parts-few.result.0) +ℤ to_z w64 (of_z w64 c.delta_parts-few.result.1))) ≡ change c.view_of-view.result.design.now c.view_of-view.result.grid.now c.view_of-view.result.placement.now.sites s =
+    (let k = sum in search rules) in
+    let delta : to_z w64 (of_z w64 (to_z w64 (of_z w64 c.delta_parts-few.result.0) +ℤ to_z w64 (of_z w64 c.delta_parts-few.result.1))) ≡ change d grid sites s = read ∙ (λ i. change (v.design i) (v.grid i) (v.placement i).sites s) in
+    let few : to_z w64 (of_z w64 c.delta_parts-few.result.0) ≡ change (few_of d) grid sites s = read_few ∙ c.delta_parts-few.ensures.few ∙ (λ i. change (few_of (v.design i)) (v.grid i) (v.placement i).sites s) in
+    let within = within_of d grid given.fixed sites s c.requires.sound.legal lawful in
+    foreseen_by (run_for g.W.Words.moves given) (standing_of state) c.args.number (Move s) state.stage.t (slice_index c.args.words 3) _
+    (record {
+      proposal_is = sym c.in-Move.is ∙ is;
+      heat = sym hot;
+      word = (λ i. slice_index (c.requires.words i) 3);
+      proposes = refl;
+      words = c.requires.words;
+      decides = record { swap = refl; change = delta; accepted = c.accepts.ensures ∙ (λ i. is_accepted (delta i) (v.t i) (slice_index c.args.words 3)) };
+      few = λ z e. few ∙ ap (change (few_of d) grid sites) (move_is s z e);
+      within = λ z e. subst (λ (u : Swap). IsWithin d grid u) (move_is s z e) within;
+      kind = λ z e. subst (λ (u : Swap). kind_at grid u.to ≡ kind_at grid u.from) (move_is s z e) lawful.kind;
+    })

@@ -1,5 +1,6 @@
 use Rattle.std.proofs.Common.{◌≡◌, pos, ◌+ℤ◌, to_z, of_z, w64, rules, sym, ap, ◌∙◌, arith}
 use Rattle.std.specs.Int.{saturate_unsigned}
+use Rattle.std.specs.Arc.{arc_value}
 use Rattle.fab_site.specs.Placement.{swapped}
 use Rattle.fab_site.proofs.Swaps.{length-swapped}
 use Rattle.fab_cost.specs.Runs.{positions_in}
@@ -39,7 +40,7 @@ invariant_of-self c =
     let e = c.renew_lanes.ensures.table (positions_in c.self.inside.lanes.items) c.self.invariant.vectors in
     let below = cost_below d g (swapped sites s) c.blocks-blocks.ensures.lawful (omega arith, omega arith) (omega arith, omega arith) in
     let long = c.renew_large-large.ensures.have.long ∙ sym (parts_stand c.self.view_is c.requires.stands c.self.invariant).have.long in
-    kept_swapped c.self.inside.lanes.items c.renew_lanes.new.lanes.items g s c.self.inside.runs c.self.inside.large.boxes.items c.renew_large-large.new.large.boxes.items c.self.inside.large.most.items c.renew_large-large.new.large.most.items c.self.inside.total _ c.self.invariant e long
+    kept_swapped c.self.inside.lanes.items c.renew_lanes.new.lanes.items g s (arc_value c.self.inside.runs) c.self.inside.large.boxes.items c.renew_large-large.new.large.boxes.items c.self.inside.large.most.items c.renew_large-large.new.large.most.items c.self.inside.total _ c.self.invariant e long
     c.renew_large-large.ensures.most
     (omega (arith, below, sum c))
 
@@ -50,5 +51,5 @@ returns c =
     let sites = c.args.placement.now.sites in
     let s = c.args.swap.now in
     let parts = parts_stand c.self.view_is c.requires.stands c.self.invariant in
-    stands_by d g (swapped sites s) c.renew_lanes.new.lanes.items c.self.inside.runs c.renew_large-large.new.large.boxes.items _ c.blocks-blocks.ensures.lawful (c.requires.stands.whole ∙ sym (length-swapped sites s)) (c.renew_lanes.ensures.swapped sites c.requires.lawful parts.table_is)
+    stands_by d g (swapped sites s) c.renew_lanes.new.lanes.items (arc_value c.self.inside.runs) c.renew_large-large.new.large.boxes.items _ c.blocks-blocks.ensures.lawful (c.requires.stands.whole ∙ sym (length-swapped sites s)) (c.renew_lanes.ensures.swapped sites c.requires.lawful parts.table_is)
     parts.nets c.renew_large-large.ensures.have (sum c)

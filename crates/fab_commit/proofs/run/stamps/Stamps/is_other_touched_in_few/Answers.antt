@@ -1,0 +1,12 @@
+use Rattle.std.proofs.Common.{◌∙◌, sym, ap}
+use Rattle.std.specs.Prelude.{nat_lt}
+use Rattle.std.specs.List.{list_any}
+use Rattle.fab_cost.specs.Runs.{few_of}
+use Rattle.fab_move.specs.Judge.{other_marks}
+use Rattle.fab_commit.specs.Run.StampTables.{kept_stamp}
+use Rattle.fab_commit.proofs.run.stamps.Stamps.is_other_touched_in_few.Goals as goal
+
+pub returns-in-Some : goal.returns-in-Some
+returns-in-Some c g =
+    c.is_block_touched_in_few.ensures g
+    ∙ ap (λ o. list_any (λ m. nat_lt c.args.base (kept_stamp g c.args.self.now m)) (other_marks (few_of c.args.design.now) o)) (sym c.in-Some.is)

@@ -1,0 +1,51 @@
+-- Moves of a stage without a word on how many of them turns of a batch judge again, as contracts see them (our own).
+use Rattle.std.specs.Prelude.{ℕ, ◌≡◌, ◌+◌, ◌-◌, ◌≤◌, ◌++◌, List, [], Result, OnOk, OnErr}
+use Rattle.std.specs.declared.alloc.AllocError.{AllocError}
+use Rattle.fab_dial.specs.declared.readings.Reading.{Reading}
+use Rattle.fab_commit.specs.declared.run.pipeline.Pipeline.{Pipeline}
+use Rattle.fab_commit.specs.declared.run.state.State.{State}
+use Rattle.fab_commit.specs.Serial.{Run, accepted_among, from, moves_left}
+use Rattle.fab_commit.specs.Run.Alone.{EndsAt, LeadsTo}
+use Rattle.fab_commit.specs.Run.Commits.{AnnealOf, IsSameRun, IsSound, run_of, standing_of}
+use Rattle.fab_commit.specs.Run.Noted.{noted, noted_more}
+
+-- the state is n moves of its run further
+pub record IsFurther (r : Run) (s : State) (n : ℕ) (now : State) : Type 0 where
+  pub sound : IsSound r now
+  pub done : now.done ≡ s.done + n
+  pub stands : standing_of now ≡ from r (standing_of s) n
+  pub accepted : noted now.accepted ≡ noted_more (noted s.accepted) (accepted_among r (standing_of s) n)
+
+-- an owner made `count` moves in turns of this batch, of which the last may be shorter; or memory ran out after some turns
+pub record AreMadeUncounted {A : Type 0} (r : Run) (batch count : ℕ) (s now : State) (answer : Result A AllocError) (old new : List Reading) : Type 0 where
+  pub made : ℕ
+  pub few : made ≤ count
+  pub further : IsFurther r s made now
+  pub ok : OnOk answer (made ≡ count)
+  pub shown : OnOk answer (count ≡ moves_left r (standing_of s) → LeadsTo r batch (standing_of s) (standing_of now) old new)
+  pub ends : OnOk answer (EndsAt r batch (standing_of s) (standing_of now) old new)
+  pub cut : OnErr answer (LeadsTo r batch (standing_of s) (standing_of now) old new)
+
+-- nothing is judged ahead, no swap is kept, and the count of moves judged again stays
+pub record IsIdle (s now : Pipeline) : Type 0 where
+  pub base : now.base ≡ now.owner.state.done
+  pub ahead : now.ahead.items ≡ []
+  pub swaps : now.owner.swaps.items ≡ []
+  pub redone : now.owner.redone ≡ s.owner.redone
+
+-- an annealer made `count` moves of its stage in turns of this batch, of which the last may be shorter, and showed each turn; or memory ran out
+-- after some turns
+pub record IsMade {W A : Type 0} (moves : W → ℕ → List ℕ) (batch count : ℕ) (a b : AnnealOf W) (answer : Result A AllocError) (old new : List Reading) : Type 0 where
+  -- What the run is given stays the same.
+  pub same : IsSameRun a b
+  -- The moves are made as if one at a time.
+  pub stands : b.standing ≡ from (run_of moves a) a.standing (b.standing.done - a.standing.done)
+  pub accepted : b.accepted ≡ a.accepted ++ accepted_among (run_of moves a) a.standing (b.standing.done - a.standing.done)
+  pub ok : OnOk answer (b.standing.done ≡ a.standing.done + count)
+  pub within : (a.standing.done ≤ b.standing.done) × (b.standing.done ≤ a.standing.done + count)
+  -- Nothing is judged ahead.
+  pub ahead : b.ahead ≡ []
+  -- Each turn is shown.
+  pub shown : OnOk answer (count ≡ moves_left (run_of moves a) a.standing → LeadsTo (run_of moves a) batch a.standing b.standing old new)
+  pub ends : OnOk answer (EndsAt (run_of moves a) batch a.standing b.standing old new)
+  pub shown_cut : OnErr answer (LeadsTo (run_of moves a) batch a.standing b.standing old new)
