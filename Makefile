@@ -13,11 +13,12 @@ V =
 test:
 	@tests/all
 
-# Runs the program on hostile machines, in the long forms of tests/hostile, whose short forms are in `make test`: limits, devices, changing
-# files, refused calls, kills and load. It says what it does as it goes. Some of it wants root, for another user and small file systems, and
-# some strace and python3; what cannot be tried is said.
+# Runs the program on hostile machines, and where it has to refuse, in the long forms of tests/hostile and tests/refusals, whose short forms are
+# in `make test`. It says what it does as it goes. Some of it wants root, for another user and small file systems, and some strace, cc and
+# python3; the many odd texts want REFERENCE=FOLDER, the folder of another placer (tests/README.md). What cannot be tried is said.
 hostile: program
-	@sh tests/hostile/run --long crates/vplace/out/vplace
+	@status=0; sh tests/hostile/run --long crates/vplace/out/vplace || status=1; \
+	sh tests/refusals/run --long crates/vplace/out/vplace || status=1; exit $$status
 
 # Tries the further wrong bodies, which the gate leaves out because they take as long as everything else. Run this before a contract
 # changes.

@@ -1,7 +1,7 @@
 // Crews as the calls of a run found them: each worker judges, whoever sleeps is woken, and each move is judged once and committed in turn. A
 // gate holds what must not come first for at most ten seconds, and a test that hangs fails with its time.
 
-use crate::beside_tests::{STAGE, Silent, Together, WORKERS, random, random_net};
+use crate::beside_tests::{STAGE, Silent, Together, WORKERS, random, random_hubs, random_net};
 use crate::end_tests::{Maker, ended, random_end};
 use crate::in_time::in_time;
 use crate::tests::{Pace, annealer, read_setting};
@@ -155,6 +155,7 @@ impl<'a> Words for AskedWords<'a> {
 fn asked<G: Gate, R: Threads + Wait + Sync>(
     rt: &R,
     alloc: Global,
+    net: &str,
     maker: Maker,
     pace: Pace,
     gate: &G,
@@ -164,7 +165,6 @@ fn asked<G: Gate, R: Threads + Wait + Sync>(
         words: StreamWords::new(11),
         asked: &asked,
     };
-    let net = random_net(alloc, 5)?;
     let of = read_setting(alloc, ARCH, net.as_bytes())?;
     let mut anneal = random(alloc, &of, words)?;
     let _end = ended(rt, alloc, &mut anneal, maker, pace, gate)?;
@@ -172,19 +172,23 @@ fn asked<G: Gate, R: Threads + Wait + Sync>(
     Ok((asked.load(Ordering::SeqCst), judged))
 }
 
-// No answer is lost and made again, also where a worker judges some moves in a row.
+// No answer is lost and made again, also where a worker judges some moves in a row, and where most moves that are judged again are so by their
+// nets of many terminals alone.
 #[test]
 fn words_are_asked_for_once_for_each_judgement(rt: HostRuntime) -> Result<(), Fail> {
     in_time(
         &rt,
         &mut || -> Result<(), Fail> {
-            for (batch, workers) in [(3, 2), (16, 3), (64, 7)] {
-                let pace = Pace { batch, workers };
-                for maker in [Maker::Stages, Maker::Turns] {
-                    let (times, judged) = asked(&rt, rt.alloc(), maker, pace, &NoGate)?;
-                    assert_eq!(rt; times, judged, "{maker:?} of {batch} by {workers} workers");
-                    let (times, judged) = asked(&rt, rt.alloc(), maker, pace, &Silent)?;
-                    assert_eq!(rt; times, judged, "{maker:?} of {batch} by {workers} workers");
+            let (few, many) = (random_net(rt.alloc(), 5)?, random_hubs(rt.alloc(), 5, 60)?);
+            for net in [few.as_str(), many.as_str()] {
+                for (batch, workers) in [(3, 2), (16, 3), (64, 7)] {
+                    let pace = Pace { batch, workers };
+                    for maker in [Maker::Stages, Maker::Turns] {
+                        let (times, judged) = asked(&rt, rt.alloc(), net, maker, pace, &NoGate)?;
+                        assert_eq!(rt; times, judged, "{maker:?} of {batch} by {workers} workers");
+                        let (times, judged) = asked(&rt, rt.alloc(), net, maker, pace, &Silent)?;
+                        assert_eq!(rt; times, judged, "{maker:?} of {batch} by {workers} workers");
+                    }
                 }
             }
             Ok(())

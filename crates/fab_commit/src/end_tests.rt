@@ -33,7 +33,7 @@ pub(crate) enum Maker {
 }
 
 // A dial that nobody watches.
-fn unwatched<R: Wait>(rt: &R, alloc: Global) -> Result<(Dial, Shower), AllocError>
+pub(crate) fn unwatched<R: Wait>(rt: &R, alloc: Global) -> Result<(Dial, Shower), AllocError>
     ensures { IfOk result (λ r. r.1.dial ≡ r.0) }
 {
     let first = Reading {

@@ -18,6 +18,8 @@ pub mod laws;
 pub mod model;
 #[cfg(test)]
 mod point_tests;
+#[cfg(test)]
+mod refused_tests;
 pub mod run;
 #[cfg(test)]
 mod shown_tests;

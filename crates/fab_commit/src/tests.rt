@@ -12,9 +12,9 @@ use std::sync::Wait;
 use std::test::*;
 use std::thread::Threads;
 
-const HALF: u32 = 2_147_483_648;
+pub(crate) const HALF: u32 = 2_147_483_648;
 
-const MOST: u32 = 4_294_967_295;
+pub(crate) const MOST: u32 = 4_294_967_295;
 
 pub(crate) fn list_words(
     alloc: Global,
@@ -275,9 +275,9 @@ fn a_swap_of_global_nets_costs_nothing(rt: HostRuntime) -> Result<(), Fail> {
     Ok(())
 }
 
-const UNJOINED: &[u8] = b".clb b1\npinlist: x\n.clb b2\npinlist: y\n";
+pub(crate) const UNJOINED: &[u8] = b".clb b1\npinlist: x\n.clb b2\npinlist: y\n";
 
-const DISPLACED: &[u8] =
+pub(crate) const DISPLACED: &[u8] =
     b".clb b1\npinlist: open x\n.clb b2\npinlist: open n\n.clb b3\npinlist: n open\n";
 
 /// Two moves of which the second rests on what the first touches.

@@ -211,7 +211,7 @@ pub(crate) const EIGHT: &[u8] = b".input p0\npinlist: i0\n.input p1\npinlist: i1
     .clb b3\npinlist: n1 n2 n3\n.clb b4\npinlist: n3 i0 n4\n.clb b5\npinlist: n3 n6 n5\n\
     .clb b6\npinlist: open n0 n6\n.clb b7\npinlist: n7 n7 n7\n.output q0\npinlist: n7\n";
 
-const EIGHT_END: &str =
+pub(crate) const EIGHT_END: &str =
     "redone 201 ahead 0 done 500 total 205 cost 339336 at 1,0,1 4,3,0 1,2,0 3,1,0 2,2,0 2,1,0 1,1,0 1,3,0 \
     2,3,0 3,3,0 3,4,1";
 
@@ -286,7 +286,7 @@ struct Seen {
 }
 
 /// Stages of the eight blocks' run have so many moves.
-const EIGHT_STAGE: u64 = 100;
+pub(crate) const EIGHT_STAGE: u64 = 100;
 
 impl Seen {
     /// Nothing is seen yet of `moves` moves.

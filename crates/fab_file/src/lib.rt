@@ -3,12 +3,16 @@
 
 #[cfg(test)]
 mod arch_tests;
+#[cfg(test)]
+mod cut_tests;
 pub mod fault;
 pub mod header;
 #[cfg(test)]
 mod netlist_tests;
 pub mod pinning;
 pub mod reading;
+#[cfg(test)]
+mod refused_tests;
 #[cfg(test)]
 mod site_tests;
 pub mod taking;

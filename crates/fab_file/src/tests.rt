@@ -311,11 +311,12 @@ fn the_first_fault_of_a_location_text_is_told(rt: HostRuntime) -> Result<(), Fai
     Ok(())
 }
 
-// A writer that takes `room` bytes, and then fails.
+// A writer that takes at most `step` bytes a call and `room` bytes in all, and then fails.
 #[derive(Drop)]
 struct Narrow {
     taken: Vec<u8>,
     room: usize,
+    step: usize,
 }
 
 impl Write for Narrow {
@@ -323,7 +324,7 @@ impl Write for Narrow {
         if self.room == 0 {
             return Err(io::Error::from(io::ErrorKind::StorageFull));
         }
-        let taken = self.room.min(bytes.len());
+        let taken = self.room.min(self.step).min(bytes.len());
         self.taken.extend_from_slice(&bytes[..taken])?;
         self.room -= taken;
         Ok(taken)
@@ -342,21 +343,18 @@ struct Outcome {
     text: Vec<u8>,
 }
 
-// Writes the placement that lines give, on one logic site, to a writer with room for a number of bytes.
+// Writes the placement that lines give, on one logic site, to this writer.
 fn write_of(
     alloc: Global,
     design: &Design,
     labels: [&[u8]; 2],
     lines: &[u8],
-    room: usize,
+    writer: Narrow,
 ) -> Result<Outcome, Fail> {
     let grid = Grid::new(1, 1, 1)?;
     let text = text_of(alloc, lines)?;
     let placement = read_place(alloc, text.as_slice(), design, &grid)?;
-    let mut out = Counted::new(Narrow {
-        taken: Vec::new(alloc),
-        room,
-    });
+    let mut out = Counted::new(writer);
     let shown = Labels {
         net: labels[0],
         arch: labels[1],
@@ -370,9 +368,26 @@ fn write_of(
     })
 }
 
+// The same to a writer with room for a number of bytes.
 fn write(alloc: Global, labels: [&[u8]; 2], lines: &[u8], room: usize) -> Result<Outcome, Fail> {
     let design = design(alloc)?;
-    write_of(alloc, &design, labels, lines, room)
+    let writer = Narrow {
+        taken: Vec::new(alloc),
+        room,
+        step: usize::MAX,
+    };
+    write_of(alloc, &design, labels, lines, writer)
+}
+
+// The same to a writer that takes at most `step` bytes a call.
+fn write_slowly(alloc: Global, step: usize) -> Result<Outcome, Fail> {
+    let design = design(alloc)?;
+    let writer = Narrow {
+        taken: Vec::new(alloc),
+        room: 1000,
+        step,
+    };
+    write_of(alloc, &design, LABELS, LINES, writer)
 }
 
 const WRITTEN: &[u8] =
@@ -430,6 +445,27 @@ fn a_writer_that_fails_has_taken_a_beginning(rt: HostRuntime) -> Result<(), Fail
         );
         assert_eq!(rt; outcome.text.as_slice(), &WRITTEN[..room]);
     }
+    Ok(())
+}
+
+#[test]
+fn a_slow_writer_gets_the_whole_placement(rt: HostRuntime) -> Result<(), Fail> {
+    for step in [1, 2, 7] {
+        let outcome = write_slowly(rt.alloc(), step)?;
+        assert_eq!(rt; (outcome.answer, outcome.failures), (Ok(()), 0));
+        assert_eq!(rt; outcome.text.as_slice(), WRITTEN);
+    }
+    Ok(())
+}
+
+#[test]
+fn a_writer_that_takes_nothing_of_a_placement_is_told(rt: HostRuntime) -> Result<(), Fail> {
+    let outcome = write_slowly(rt.alloc(), 0)?;
+    assert_eq!(rt;
+        (outcome.answer, outcome.failures),
+        (Err(PlaceFault::Write), 1)
+    );
+    assert!(rt; outcome.text.is_empty());
     Ok(())
 }
 

@@ -1,5 +1,5 @@
 use crate::narrow::Narrow;
-use crate::run_tests::{ARCH, NET};
+use crate::run_tests::{ARCH, NET, slow_writer, writer_with};
 use crate::{RunFault, check_run, fault_line};
 use fab_arch::{ArchFault, GridFault};
 use fab_file::PlaceFault;
@@ -189,29 +189,28 @@ fn a_name_of_any_bytes_is_told(rt: HostRuntime) -> Result<(), Fail> {
 const PAIR_PLACE: &[u8] =
     b"Netlist file: t.net Architecture file: t.arch\nArray size: 1 x 1 logic blocks\na 0 1 0\nz 2 1 0\nb 1 1 0\n";
 
-// What a check answers, and what it wrote to a writer that takes `room` bytes.
-fn check(
+const PAIR_REPORT: &[u8] = b"legal 3 blocks on a 1 x 1 array\ncost 4.0000\n";
+
+// What a check answers, and what it wrote to this writer.
+fn check_by(
     alloc: Global,
     texts: [&[u8]; 3],
-    room: usize,
-) -> Result<(Result<u64, RunFault>, Vec<u8>), AllocError> {
-    let mut report = Counted::new(Narrow {
-        taken: Vec::new(alloc),
-        room,
-    });
+    mut report: Counted<Narrow>,
+) -> (Result<u64, RunFault>, Vec<u8>) {
     let answer = check_run(alloc, texts[0], texts[1], texts[2], &mut report);
-    Ok((answer, report.into_inner().taken))
+    (answer, report.into_inner().taken)
+}
+
+// The same with a writer that takes `room` bytes.
+fn check(alloc: Global, texts: [&[u8]; 3], room: usize) -> (Result<u64, RunFault>, Vec<u8>) {
+    check_by(alloc, texts, writer_with(alloc, room))
 }
 
 #[test]
 fn lawful_texts_are_reported(rt: HostRuntime) -> Result<(), Fail> {
     let empty: &[u8] = b"Netlist file: t Architecture file: t\nArray size: 1 x 1 logic blocks\n";
     let rows: [([&[u8]; 3], u64, &[u8]); 2] = [
-        (
-            [ARCH, NET, PAIR_PLACE],
-            40_000,
-            b"legal 3 blocks on a 1 x 1 array\ncost 4.0000\n",
-        ),
+        ([ARCH, NET, PAIR_PLACE], 40_000, PAIR_REPORT),
         (
             [ARCH, b"", empty],
             0,
@@ -219,7 +218,7 @@ fn lawful_texts_are_reported(rt: HostRuntime) -> Result<(), Fail> {
         ),
     ];
     for (texts, cost, written) in rows {
-        let (answer, report) = check(rt.alloc(), texts, 1000)?;
+        let (answer, report) = check(rt.alloc(), texts, 1000);
         assert_eq!(rt; answer, Ok(cost));
         assert_eq!(rt; report.as_slice(), written);
     }
@@ -244,7 +243,7 @@ fn the_first_check_that_fails_is_answered(rt: HostRuntime) -> Result<(), Fail> {
         ([ARCH, NET, small], PlaceFault::BadLine(3).into()),
     ];
     for (texts, fault) in rows {
-        let (answer, report) = check(rt.alloc(), texts, 1000)?;
+        let (answer, report) = check(rt.alloc(), texts, 1000);
         assert_eq!(rt; answer, Err(fault));
         assert!(rt; report.is_empty());
     }
@@ -253,11 +252,32 @@ fn the_first_check_that_fails_is_answered(rt: HostRuntime) -> Result<(), Fail> {
 
 #[test]
 fn a_report_that_fails_is_told(rt: HostRuntime) -> Result<(), Fail> {
-    let whole: &[u8] = b"legal 3 blocks on a 1 x 1 array\ncost 4.0000\n";
+    let whole = PAIR_REPORT;
     for room in 0..whole.len() {
-        let (answer, report) = check(rt.alloc(), [ARCH, NET, PAIR_PLACE], room)?;
+        let (answer, report) = check(rt.alloc(), [ARCH, NET, PAIR_PLACE], room);
         assert_eq!(rt; answer, Err(RunFault::Report));
         assert_eq!(rt; report.as_slice(), &whole[..room]);
     }
+    Ok(())
+}
+
+#[test]
+fn a_slow_writer_gets_the_whole_report(rt: HostRuntime) -> Result<(), Fail> {
+    let alloc = rt.alloc();
+    for step in [1, 2, 7] {
+        let out = slow_writer(alloc, 1000, step);
+        let (answer, report) = check_by(alloc, [ARCH, NET, PAIR_PLACE], out);
+        assert_eq!(rt; answer, Ok(40_000));
+        assert_eq!(rt; report.as_slice(), PAIR_REPORT);
+    }
+    Ok(())
+}
+
+#[test]
+fn a_writer_that_takes_nothing_of_a_report_is_told(rt: HostRuntime) -> Result<(), Fail> {
+    let out = slow_writer(rt.alloc(), 8, 0);
+    let (answer, report) = check_by(rt.alloc(), [ARCH, NET, PAIR_PLACE], out);
+    assert_eq!(rt; answer, Err(RunFault::Report));
+    assert!(rt; report.is_empty());
     Ok(())
 }

@@ -30,6 +30,8 @@ pub mod point_reading;
 mod point_tests;
 mod point_words;
 pub mod point_writing;
+#[cfg(test)]
+mod refused_tests;
 mod report;
 pub mod resuming;
 #[cfg(test)]

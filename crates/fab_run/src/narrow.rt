@@ -3,11 +3,12 @@
 use std::io;
 use std::io::Write;
 
-/// Takes `room` bytes, and then fails.
+/// Takes at most `step` bytes a call and `room` bytes in all, and then fails.
 #[derive(Drop)]
 pub struct Narrow {
     pub taken: Vec<u8>,
     pub room: usize,
+    pub step: usize,
 }
 
 impl Write for Narrow {
@@ -15,7 +16,7 @@ impl Write for Narrow {
         if self.room == 0 {
             return Err(io::Error::from(io::ErrorKind::StorageFull));
         }
-        let taken = self.room.min(bytes.len());
+        let taken = self.room.min(self.step).min(bytes.len());
         self.taken.extend_from_slice(&bytes[..taken])?;
         self.room -= taken;
         Ok(taken)

@@ -2,12 +2,15 @@
 // whose every move finds its block's own site, were worked out by hand; those for the design of seven blocks were made by an independent
 // placer.
 
+use crate::narrow::Narrow;
 use crate::point_tests::{BY_ACCEPTANCE, FIRST, SECOND};
 use crate::run_tests::{
-    INPUTS, OPTIONS, PLACE, REPORT, SEVEN, SHORT, redone, run, run_narrow, told_of, writer_with,
+    INPUTS, OPTIONS, PLACE, REPORT, SEVEN, SHORT, redone, run, run_narrow, slow_writer, told_of,
+    writer_with,
 };
 use crate::{Inputs, Options, RunFault, resume_run};
 use fab_file::Labels;
+use fab_text::Counted;
 use std::alloc::AllocError;
 use std::sync::Wait;
 use std::test::*;
@@ -44,16 +47,14 @@ const GOING: Going<'static> = Going {
     stop: None,
 };
 
-// What a resumed run answers and writes, in one text, with two writers that take this many bytes.
-fn go_on_narrow(
+// What a resumed run answers and writes to these writers, in one text.
+fn go_on_with(
     rt: &(impl AllocGlobal + Threads + Wait + Sync),
     inputs: &Inputs,
     going: &Going,
-    rooms: (usize, usize),
+    mut report: Counted<Narrow>,
+    mut place: Counted<Narrow>,
 ) -> Result<Vec<u8>, AllocError> {
-    let alloc = rt.alloc();
-    let mut report = writer_with(alloc, rooms.0);
-    let mut place = writer_with(alloc, rooms.1);
     let Going {
         point,
         batch,
@@ -70,7 +71,19 @@ fn go_on_narrow(
         &mut report,
         &mut place,
     );
-    told_of(alloc, inputs, report, place, answer)
+    told_of(rt.alloc(), inputs, report, place, answer)
+}
+
+// The same with two writers that take this many bytes.
+fn go_on_narrow(
+    rt: &(impl AllocGlobal + Threads + Wait + Sync),
+    inputs: &Inputs,
+    going: &Going,
+    rooms: (usize, usize),
+) -> Result<Vec<u8>, AllocError> {
+    let report = writer_with(rt.alloc(), rooms.0);
+    let place = writer_with(rt.alloc(), rooms.1);
+    go_on_with(rt, inputs, going, report, place)
 }
 
 fn go_on(
@@ -236,17 +249,56 @@ fn the_first_fault_of_a_run_that_goes_on_is_told(rt: HostRuntime) -> Result<(), 
 }
 
 #[test]
-fn a_writer_that_fails_in_a_piece_is_told(rt: HostRuntime) -> Result<(), Fail> {
+fn a_writer_that_fails_in_the_first_piece_is_told(rt: HostRuntime) -> Result<(), Fail> {
+    let report = [HEAD, STAGE_0].concat(rt.alloc())?;
+    for room in 0..report.len() {
+        let left = run_narrow(&rt, &INPUTS, &stopped(5), (room, 1000))?;
+        let wanted = [&report[..room], b"vplace: cannot write report"].concat(rt.alloc())?;
+        assert_eq!(rt; left, wanted);
+    }
+    Ok(())
+}
+
+#[test]
+fn a_writer_that_fails_in_the_last_piece_is_told(rt: HostRuntime) -> Result<(), Fail> {
+    let report = [STAGE_1, LAST_STAGES].concat(rt.alloc())?;
+    for room in 0..report.len() {
+        let left = go_on_narrow(&rt, &INPUTS, &GOING, (room, 1000))?;
+        let wanted = [&report[..room], b"vplace: cannot write report"].concat(rt.alloc())?;
+        assert_eq!(rt; left, wanted);
+    }
+    for room in 0..PLACE.len() {
+        let left = go_on_narrow(&rt, &INPUTS, &GOING, (1000, room))?;
+        let mut wanted = report.clone()?;
+        wanted.extend_from_slice(&PLACE[..room])?;
+        wanted.extend_from_slice(b"vplace: cannot write place")?;
+        assert_eq!(rt; left, wanted);
+    }
+    Ok(())
+}
+
+#[test]
+fn slow_writers_of_a_piece_get_the_same_bytes(rt: HostRuntime) -> Result<(), Fail> {
     let alloc = rt.alloc();
-    let no_report: &[u8] = b"vplace: cannot write report";
+    let wanted = [STAGE_1, LAST_STAGES, PLACE, TO_THE_END].concat(alloc)?;
+    for steps in [(1, 1), (7, 2)] {
+        let report = slow_writer(alloc, 10_000, steps.0);
+        let place = slow_writer(alloc, 10_000, steps.1);
+        assert_eq!(rt; go_on_with(&rt, &INPUTS, &GOING, report, place)?, wanted);
+    }
+    Ok(())
+}
+
+#[test]
+fn a_writer_that_takes_nothing_of_a_piece_is_told(rt: HostRuntime) -> Result<(), Fail> {
+    let alloc = rt.alloc();
+    let (report, place) = (slow_writer(alloc, 8, 0), writer_with(alloc, 10_000));
+    let left = go_on_with(&rt, &INPUTS, &GOING, report, place)?;
+    assert_eq!(rt; left.as_slice(), b"vplace: cannot write report".as_slice());
+    let (report, place) = (writer_with(alloc, 10_000), slow_writer(alloc, 8, 0));
+    let left = go_on_with(&rt, &INPUTS, &GOING, report, place)?;
     let no_place: &[u8] = b"vplace: cannot write place";
-    let stop = run_narrow(&rt, &INPUTS, &stopped(5), (HEAD.len() + 3, 0))?;
-    assert_eq!(rt; stop, [HEAD, &STAGE_0[..3], no_report].concat(alloc)?);
-    let report = go_on_narrow(&rt, &INPUTS, &GOING, (STAGE_1.len(), 0))?;
-    assert_eq!(rt; report, [STAGE_1, no_report].concat(alloc)?);
-    let place = go_on_narrow(&rt, &INPUTS, &GOING, (1000, 9))?;
-    let wanted = [STAGE_1, LAST_STAGES, &PLACE[..9], no_place].concat(alloc)?;
-    assert_eq!(rt; place, wanted);
+    assert_eq!(rt; left, [STAGE_1, LAST_STAGES, no_place].concat(alloc)?);
     Ok(())
 }
 

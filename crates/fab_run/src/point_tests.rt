@@ -2,7 +2,7 @@
 // worked out by hand.
 
 use crate::narrow::Narrow;
-use crate::run_tests::{ARCH, NET};
+use crate::run_tests::{ARCH, NET, slow_writer, writer_with};
 use crate::{RunFault, fault_line, read_point, write_point};
 use fab_arch::{Arch, read_arch};
 use fab_net::{Design, read_net};
@@ -64,18 +64,14 @@ b 1 1 0
 end
 ";
 
-// Reads a checkpoint text and writes its point again, by a writer that takes `room` bytes. If either fails, the line of the fault follows.
+// Reads a checkpoint text and writes its point again, by this writer. If either fails, the line of the fault follows.
 fn told_of(
     alloc: Global,
     arch: &Arch,
     design: &Design,
     text: &[u8],
-    room: usize,
+    mut out: Counted<Narrow>,
 ) -> Result<Vec<u8>, AllocError> {
-    let mut out = Counted::new(Narrow {
-        taken: Vec::new(alloc),
-        room,
-    });
     let made = match read_point(alloc, text, arch, design) {
         Ok((seed, grid, point)) => write_point(alloc, &mut out, seed, design, &grid, &point),
         Err(fault) => Err(fault),
@@ -88,14 +84,19 @@ fn told_of(
     Ok(told)
 }
 
-fn told_within(alloc: Global, net: &[u8], text: &[u8], room: usize) -> Result<Vec<u8>, Fail> {
+fn told_by(alloc: Global, net: &[u8], text: &[u8], out: Counted<Narrow>) -> Result<Vec<u8>, Fail> {
     let Ok(arch) = read_arch(alloc, ARCH) else {
         return Err(Fail::from("no architecture"));
     };
     let Ok(design) = read_net(alloc, net, &arch) else {
         return Err(Fail::from("no netlist"));
     };
-    Ok(told_of(alloc, &arch, &design, text, room)?)
+    Ok(told_of(alloc, &arch, &design, text, out)?)
+}
+
+// The same by a writer that takes `room` bytes.
+fn told_within(alloc: Global, net: &[u8], text: &[u8], room: usize) -> Result<Vec<u8>, Fail> {
+    told_by(alloc, net, text, writer_with(alloc, room))
 }
 
 fn told(alloc: Global, text: &[u8]) -> Result<Vec<u8>, Fail> {
@@ -541,6 +542,24 @@ fn a_writer_that_fails_has_taken_a_beginning(rt: HostRuntime) -> Result<(), Fail
         let wanted = [&SECOND[..room], line].concat(alloc)?;
         assert_eq!(rt; answer, wanted);
     }
+    Ok(())
+}
+
+#[test]
+fn a_slow_writer_gets_the_whole_point(rt: HostRuntime) -> Result<(), Fail> {
+    let alloc = rt.alloc();
+    for step in [1, 2, 7] {
+        let answer = told_by(alloc, NET, FIRST, slow_writer(alloc, 10_000, step))?;
+        assert_eq!(rt; answer.as_slice(), SECOND);
+    }
+    Ok(())
+}
+
+#[test]
+fn a_writer_that_takes_nothing_of_a_point_is_told(rt: HostRuntime) -> Result<(), Fail> {
+    let alloc = rt.alloc();
+    let answer = told_by(alloc, NET, FIRST, slow_writer(alloc, 8, 0))?;
+    assert_eq!(rt; answer.as_slice(), b"vplace: cannot write point".as_slice());
     Ok(())
 }
 

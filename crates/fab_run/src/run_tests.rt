@@ -61,9 +61,15 @@ pub const OPTIONS: Options = Options {
 };
 
 pub fn writer_with(alloc: Global, room: usize) -> Counted<Narrow> {
+    slow_writer(alloc, room, usize::MAX)
+}
+
+// The same with at most this many bytes a call.
+pub fn slow_writer(alloc: Global, room: usize, step: usize) -> Counted<Narrow> {
     Counted::new(Narrow {
         taken: Vec::new(alloc),
         room,
+        step,
     })
 }
 
@@ -306,18 +312,52 @@ fn the_first_number_out_of_its_limits_is_told(rt: HostRuntime) -> Result<(), Fai
     Ok(())
 }
 
+// A report that is cut leaves no place text, and a place text that is cut stands behind the whole report.
 #[test]
-fn a_writer_that_fails_is_told(rt: HostRuntime) -> Result<(), Fail> {
-    for room in [0, 42, 43, 60, 61, REPORT.len() - 1] {
+fn a_writer_that_fails_has_taken_a_beginning(rt: HostRuntime) -> Result<(), Fail> {
+    for room in 0..REPORT.len() {
         let left = run_narrow(&rt, &INPUTS, &OPTIONS, (room, 1000))?;
         let wanted = [&REPORT[..room], b"vplace: cannot write report"].concat(rt.alloc())?;
         assert_eq!(rt; left, wanted);
     }
-    for room in [0, 1, PLACE.len() - 1] {
+    for room in 0..PLACE.len() {
         let left = run_narrow(&rt, &INPUTS, &OPTIONS, (1000, room))?;
         let wanted = [REPORT, &PLACE[..room], b"vplace: cannot write place"].concat(rt.alloc())?;
         assert_eq!(rt; left, wanted);
     }
+    Ok(())
+}
+
+// What a run answered and wrote, whose two writers take at most so many bytes a call.
+fn run_slowly(
+    rt: &(impl AllocGlobal + Threads + Wait + Sync),
+    steps: (usize, usize),
+) -> Result<Vec<u8>, AllocError> {
+    let alloc = rt.alloc();
+    let mut report = slow_writer(alloc, 10_000, steps.0);
+    let mut place = slow_writer(alloc, 10_000, steps.1);
+    let answer = place_run(rt, &INPUTS, &OPTIONS, &mut report, &mut place);
+    told_of(alloc, &INPUTS, report, place, answer)
+}
+
+#[test]
+fn slow_writers_get_the_same_bytes(rt: HostRuntime) -> Result<(), Fail> {
+    let wanted = [REPORT, PLACE, NO_MOVE].concat(rt.alloc())?;
+    for steps in [(1, 1), (1, usize::MAX), (usize::MAX, 1), (7, 2)] {
+        assert_eq!(rt; run_slowly(&rt, steps)?, wanted);
+    }
+    Ok(())
+}
+
+// A writer that takes none of the bytes has failed as one that answers a fault.
+#[test]
+fn a_writer_that_takes_nothing_is_told(rt: HostRuntime) -> Result<(), Fail> {
+    let no_report: &[u8] = b"vplace: cannot write report";
+    for place in [0, 1] {
+        assert_eq!(rt; run_slowly(&rt, (0, place))?.as_slice(), no_report);
+    }
+    let wanted = [REPORT, b"vplace: cannot write place"].concat(rt.alloc())?;
+    assert_eq!(rt; run_slowly(&rt, (1, 0))?, wanted);
     Ok(())
 }
 

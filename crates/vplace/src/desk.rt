@@ -118,6 +118,21 @@ impl Desk {
             alloc,
         }
     }
+
+    /// The text at `t.place`, if any.
+    pub fn placed(&self) -> Option<&[u8]> {
+        self.placed.as_deref()
+    }
+
+    /// The text at `t.point`, if any.
+    pub fn point(&self) -> Option<&[u8]> {
+        self.point.as_deref()
+    }
+
+    /// How many names are reserved and neither put nor released.
+    pub fn taken(&self) -> u32 {
+        self.taken.get()
+    }
 }
 
 impl NamedFiles for Desk {

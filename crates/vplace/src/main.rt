@@ -26,6 +26,8 @@ mod placing;
 mod placing_tests;
 mod program;
 mod reading;
+#[cfg(test)]
+mod refused_tests;
 mod resume_flags;
 mod resuming;
 #[cfg(test)]

@@ -159,7 +159,7 @@ struct Ended {
 }
 
 // The words of a command line.
-fn words_of(alloc: Global, words: &[&[u8]]) -> Result<Vec<Vec<u8>>, AllocError> {
+pub fn words_of(alloc: Global, words: &[&[u8]]) -> Result<Vec<Vec<u8>>, AllocError> {
     let mut all = Vec::new(alloc);
     for word in words {
         all.push(Vec::from_slice(alloc, word)?)?;
