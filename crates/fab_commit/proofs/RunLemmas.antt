@@ -23,3 +23,4 @@ pub mod Followed
 pub mod Foreseeing
 pub mod Larger
 pub mod Further
+pub mod SwapNets

@@ -18,6 +18,7 @@ mod single_turn;
 mod stage;
 mod stamps;
 pub(crate) mod state;
+pub(crate) mod swap_nets;
 pub(crate) mod swaps;
 pub mod turn;
 mod uncounted;

@@ -1,5 +1,5 @@
 -- What a value that stands for a placement says of its parts, before a swap and after it.
-use Rattle.std.proofs.Common.{◌≡◌, ℕ, ◌+◌, ◌<◌, List, length, Some, sym, subst, ap, ◌∙◌, arith}
+use Rattle.std.proofs.Common.{◌≡◌, ℕ, ◌+◌, ◌<◌, ◌^◌, List, length, Some, sym, subst, ap, ◌∙◌, arith}
 use Rattle.fab_arch.specs.declared.array.Site.{Site}
 use Rattle.fab_arch.specs.Grid.{GridShape}
 use Rattle.fab_net.specs.Netlist.{Netlist}
@@ -9,7 +9,7 @@ use Rattle.fab_site.specs.Placement.{IsSwapOf}
 use Rattle.fab_cost.specs.declared.edge_counts.CountedBox.{CountedBox}
 use Rattle.fab_cost.specs.declared.runs.Runs.{Runs}
 use Rattle.fab_cost.specs.Cost.{cost_of}
-use Rattle.fab_cost.specs.Swapping.{CountedBoxesOf, CountedStandsFor, HaveBoxes, counted_blocks}
+use Rattle.fab_cost.specs.Swapping.{BoxesStandFor, CountedBoxesOf, CountedStandsFor, HaveBoxes, counted_blocks}
 use Rattle.fab_cost.specs.Runs.{IsKept, boxes_seen, large_of, positions_in, table_of}
 use Rattle.fab_cost.proofs.Kept.{large_have, table_is}
 use Rattle.fab_cost.proofs.Sited.{block_below, other_below}
@@ -34,6 +34,15 @@ parts_stand {d} {g} {sites} {r} {table} {kept} {most} {total} {b} e stands is =
       have = large_have d g sites r.terminals (positions_in table) kept nets is.long (subst (λ (v : CountedBoxesOf). HaveBoxes v.boxes d g sites) (sym e) stands.have);
       sum = ap (λ (v : CountedBoxesOf). v.total) e ∙ stands.sum;
     }
+
+-- another cost is kept
+pub kept_with : {table : List (List ℕ)} {r : Runs} {kept : List CountedBox} {most : List ℕ} {total other : ℕ} → IsKept table r kept most total → other < 2 ^ 43 → IsKept table r kept most other
+kept_with is low = record { below = low; vectors = is.vectors; long = is.long; bounds = is.bounds; within = is.within; runs = is.runs }
+
+-- the same of a value whose cost may be another one
+pub parts_but_cost : {d : Netlist} {g : GridShape} {sites : List Site} {r : Runs} {table : List (List ℕ)} {kept : List CountedBox} {most : List ℕ} {total : ℕ} {b : CountedBoxesOf}
+    → shown r table kept total ≡ b → BoxesStandFor b d g sites → cost_of d g sites < 2 ^ 43 → IsKept table r kept most total → Stands d g sites r table kept (cost_of d g sites)
+parts_but_cost {d} {g} {sites} e stands low is = parts_stand (ap (λ (v : CountedBoxesOf). record v { total = cost_of d g sites }) e) stands (kept_with is low)
 
 pub block_in_table : {g : GridShape} {sites : List Site} {s : Swap} {n : ℕ} {table : List (List ℕ)} → IsSwapOf g sites s → n ≡ length sites → table ≡ table_of g sites → s.block.0 + 1 < length table
 block_in_table {g} {sites} {s} {n} {table} lawful w et =

@@ -1,11 +1,11 @@
 -- Positions as vectors of lanes, the nets of a block as records of the other blocks on them, and what is kept so (our own).
-use Rattle.std.specs.Prelude.{ℕ, ◌≡◌, ◌+◌, ◌*◌, ◌^◌, ◌-◌, ◌<◌, ◌≤◌, ◌==◌, ◌&&◌, ◌||◌, not, nat_lt, nat_le, min, if◌then◌else◌, Bool, true, List, [], ◌∷◌, ◌++◌, map, take, filter, length, slice_index, slice_index_or, refl}
+use Rattle.std.specs.Prelude.{ℕ, ◌≡◌, ◌+◌, ◌*◌, ◌^◌, ◌-◌, ◌<◌, ◌≤◌, ◌==◌, ◌&&◌, ◌||◌, not, nat_lt, nat_le, min, if◌then◌else◌, Bool, true, false, List, [], ◌∷◌, ◌++◌, map, replicate, take, filter, length, slice_index, slice_index_or, refl}
 use Rattle.std.specs.List.{sum_by, range_with_len}
 use lib.Lanes.{Each1, zip2, fold_l, sum_l}
 use Rattle.fab_arch.specs.declared.array.Site.{Site}
 use Rattle.fab_arch.specs.Grid.{GridShape}
 use Rattle.fab_net.specs.Rows.{row_of}
-use Rattle.fab_net.specs.Netlist.{Netlist, net_at, nets_of, counted, has_number}
+use Rattle.fab_net.specs.Netlist.{Netlist, net_at, nets_of, counted, has_number, terminal}
 use Rattle.fab_site.specs.declared.pieces.Swap.{Swap}
 use Rattle.fab_cost.specs.declared.records.Record.{Record}
 use Rattle.fab_cost.specs.declared.runs.Runs.{Runs}
@@ -126,6 +126,7 @@ is_sized d above most n = nat_lt above (length (blocks_of d n)) && nat_le (lengt
 abbrev pub nets_between : Netlist → ℕ → ℕ → ℕ → List ℕ
 nets_between d above most b = filter (is_sized d above most) (nets_of d b)
 
+-- a net has more than 16 terminals
 abbrev pub is_large : Netlist → ℕ → Bool
 is_large d n = nat_lt 16 (length (blocks_of d n))
 
@@ -162,11 +163,11 @@ pub record HasRecords (p : Runs) (d : Netlist) : Type 0 where
   pub wide : HasRows {W = 15} d 8 16 p.wide
   pub large : HasLarge d p.large
 
--- the costs of these nets with few terminals
+-- what those of these nets cost that have up to 16 terminals
 abbrev pub few_cost : Netlist → GridShape → List Site → List ℕ → ℕ
 few_cost d g sites ns = sum_by (net_cost d g sites) (filter (λ n. not (is_large d n)) ns)
 
--- and of all nets that count
+-- what all nets cost that count and have up to 16 terminals
 abbrev pub few_all : Netlist → GridShape → List Site → ℕ
 few_all d g sites = few_cost d g sites (counted d)
 
@@ -198,11 +199,12 @@ pub record AreListed (d : Netlist) (n : ℕ) (entries : List (ℕ × ℕ)) : Typ
   pub within : (i : ℕ) (z : ℕ × ℕ) → i < length entries → (slice_index_or entries i z).0 < length d.terminals
   pub few : length entries ≤ sum_by length (take n d.terminals)
 
--- the design whose counting nets are those with many terminals: all others are global
+-- the design in which, of the nets that count, only those with more than 16 terminals still do. The others are marked global here, so that
+-- cost, the nets of a block, and footprints leave them out
 abbrev pub large_of : Netlist → Netlist
 large_of d = record d { globals = map (λ n. not (is_large d n) || (net_at d n).global) (range_with_len 0 (length d.terminals)) }
 
--- the design whose counting nets are those with few terminals: all others are global
+-- the same, with only those of up to 16 terminals
 abbrev pub few_of : Netlist → Netlist
 few_of d = record d { globals = map (λ n. is_large d n || (net_at d n).global) (range_with_len 0 (length d.terminals)) }
 
@@ -232,6 +234,21 @@ pub record IsKept (table : List (List ℕ)) (r : Runs) (kept : List CountedBox) 
   pub bounds : AreMost most r.terminals
   pub within : (n i : ℕ) → i < length (slice_index_or r.terminals n []) → slice_index (slice_index_or r.terminals n []) i < length (positions_in table)
   pub runs : (d : Netlist) → r.terminals ≡ counted_blocks d → length (positions_in table) ≡ length d.kinds → HasRecords r d
+
+-- nets of 16 and 17 terminals, and a global one of two
+abbrev three_nets : Netlist
+three_nets = record {
+  kinds = [];
+  names = [];
+  terminals = replicate 16 (terminal 0 0) ∷ replicate 17 (terminal 0 0) ∷ replicate 2 (terminal 0 0) ∷ [];
+  globals = false ∷ false ∷ true ∷ [];
+}
+
+pub sixteen_terminals_are_few : counted (few_of three_nets) ≡ 0 ∷ []
+sixteen_terminals_are_few = refl
+
+pub seventeen_are_many : counted (large_of three_nets) ≡ 1 ∷ []
+seventeen_are_many = refl
 
 -- two blocks at (1, 2) and (3, 2): their box has three columns and one line of sites, so its half perimeter is 2004 less the sum of
 -- these lanes

@@ -5,7 +5,7 @@ ghost use Rattle.fab_sched.specs.Annealing.{IsLawful};
 use crate::piece::unwatched;
 use crate::run_tests::{ARCH, INPUTS, OPTIONS, SEVEN, SHORT, writer_with};
 use crate::setting::read_setting;
-use crate::stages::{Pace, anneal_all, is_judged_ahead, make_part, make_rest};
+use crate::stages::{Pace, anneal_all, crew_size, is_judged_ahead, make_part, make_rest};
 use crate::watched_tests::Quiet;
 use crate::{Inputs, Moves, Options, RunFault};
 use fab_board::{Gate, NoGate};
@@ -24,11 +24,12 @@ use std::thread;
 use std::thread::Threads;
 use std::time::Duration;
 
-// Makes the moves of a run of texts by these words. The answer is how many moves were made, and how many judged again.
+// Makes the moves of a run of texts by these words, where so many workers help. The answer is how many moves were made, and how many judged again.
 fn run_with<V: Words + Send + Sync + Drop, G: Gate, R: AllocGlobal + Threads + Wait + Sync>(
     rt: &R,
     inputs: &Inputs,
     options: &Options,
+    helpers: u64,
     words: V,
     gate: &G,
 ) -> Result<(u64, u64), RunFault> {
@@ -38,7 +39,7 @@ fn run_with<V: Words + Send + Sync + Drop, G: Gate, R: AllocGlobal + Threads + W
         moves: schedule.moves(),
         batch: options.batch,
         workers: options.workers,
-        helpers: options.workers,
+        helpers,
         side: u64::from(grid.nx().max(grid.ny())),
         stop: options.stop,
     };
@@ -99,7 +100,7 @@ fn asked<G: Gate, R: AllocGlobal + Threads + Wait + Sync>(
         words: StreamWords::new(options.seed),
         asked: &asked,
     };
-    let (made, redone) = run_with(rt, inputs, options, words, gate)?;
+    let (made, redone) = run_with(rt, inputs, options, options.workers, words, gate)?;
     if asked.load(Ordering::SeqCst) != made.saturating_add(redone) {
         return Err(Fail::from("words are asked for otherwise"));
     }
@@ -164,12 +165,13 @@ impl<'a> Words for TogetherWords<'a> {
     }
 }
 
-// How many threads ask at once for the words of moves from this one on, if at most so many are waited for.
+// How many threads ask at once for the words of moves from this one on, where so many workers help, if at most so many are waited for.
 fn threads_from<R: AllocGlobal + Threads + Wait + Sync>(
     rt: &R,
     clock: &HostRuntime,
     inputs: &Inputs,
     options: &Options,
+    helpers: u64,
     from: u64,
     wanted: u64,
     millis: u64,
@@ -185,7 +187,7 @@ fn threads_from<R: AllocGlobal + Threads + Wait + Sync>(
         begun: &begun,
         over: &over,
     };
-    run_with(rt, inputs, options, words, &NoGate)?;
+    run_with(rt, inputs, options, helpers, words, &NoGate)?;
     Ok(begun.load(Ordering::SeqCst))
 }
 
@@ -230,58 +232,77 @@ pub(crate) fn ring_of(net: &[u8]) -> Inputs<'_> {
     }
 }
 
-// Three workers and the owner judge the first batch of the frozen stage of a large design, all at once. The owner makes the stage before it
-// alone, and all stages if there is one worker or the design is smaller.
+// How many moves a stage has, how many workers are asked for and help, from which move on threads are counted, and how many come.
+const CREWS: &[(u64, u64, u64, u64, u64)] = &[
+    (5000, 3, 3, 5000, 4),
+    (5000, 4, 2, 5000, 3),
+    (5000, 3, 3, 0, 1),
+    (5000, 1, 1, 5000, 1),
+    (5000, 4, 1, 5000, 1),
+    (4999, 3, 3, 4999, 1),
+];
+
+// Three workers and the owner judge the first batch of the frozen stage, all at once; two of four where two help. The owner makes the stage
+// before it alone, and all stages if one worker helps or there are few moves.
 #[test]
-fn a_crew_judges_cold_stages_of_large_designs(rt: HostRuntime) -> Result<(), Fail> {
-    let large = ring(rt.alloc(), 40_000)?;
-    let small = ring(rt.alloc(), 39_999)?;
-    for (net, workers, from, wanted) in [
-        (&large, 3, 64, 4),
-        (&large, 3, 0, 1),
-        (&large, 1, 64, 1),
-        (&small, 3, 64, 1),
-    ] {
+fn a_crew_judges_cold_stages(rt: HostRuntime) -> Result<(), Fail> {
+    let net = ring(rt.alloc(), 1000)?;
+    for (moves, workers, helpers, from, wanted) in CREWS {
         let options = Options {
-            workers,
+            moves: Moves::Given(*moves),
+            workers: *workers,
             ..TWO_STAGES
         };
-        // Where nobody else is to come, a short wait has to do.
-        let (most, millis) = if wanted == 1 {
-            (2, 200)
-        } else {
-            (wanted, 10_000)
+        // Where one more is not to come, a short wait for it has to do.
+        let (most, millis) = match *wanted {
+            1 => (2, 200),
+            3 => (4, 2000),
+            _ => (4, 10_000),
         };
-        let threads = threads_from(&rt, &rt, &ring_of(net), &options, from, most, millis)?;
-        if wanted == 1 {
-            assert_eq!(rt; threads, 1, "{workers} workers from move {from}");
-        } else {
-            assert!(rt;
-                threads >= wanted,
-                "{threads} threads for {workers} workers"
-            );
-        }
+        let inputs = ring_of(&net);
+        let threads = threads_from(&rt, &rt, &inputs, &options, *helpers, *from, most, millis)?;
+        assert_eq!(rt;
+            threads.min(4),
+            *wanted,
+            "{helpers} of {workers} workers from move {from}"
+        );
     }
     Ok(())
 }
 
-// Which way a stage goes, on both sides of each bound: whether it is frozen, its range, the blocks, the workers, and whether a crew judges.
-const WAYS: &[(bool, u64, usize, u64, bool)] = &[
-    (false, 1000, 40_000, 2, true),
-    (false, 1000, 39_999, 64, false),
-    (false, 1000, 65_535, 1, false),
-    (false, 1001, 49_999, 64, false),
-    (true, 200_000, 40_000, 2, true),
-    (true, 200_000, 39_999, 2, false),
-    (false, 100_000, 50_000, 3, true),
-    (false, 100_000, 50_000, 2, false),
-    (false, 100_000, 49_999, 3, false),
-    (false, 100_001, 65_535, 64, false),
+// Which way a stage goes, on both sides of each bound: whether it is frozen, its range, the blocks, how many workers help, the moves of a stage,
+// the batch, and whether a crew judges.
+const WAYS: &[(bool, u64, usize, u64, u64, u64, bool)] = &[
+    (false, 1000, 200, 2, 5000, 16, true),
+    (false, 1000, 200, 1, 5000, 16, false),
+    (false, 1000, 200, 2, 4999, 16, false),
+    (false, 1000, 200, 2, 5000, 15, false),
+    (true, 200_000, 200, 2, 5000, 16, true),
+    (false, 1001, 2_499, 64, 5000, 16, false),
+    (false, 150_000, 2_500, 3, 5000, 16, true),
+    (false, 150_000, 2_500, 2, 5000, 16, false),
+    (false, 150_000, 15_000, 2, 5000, 16, true),
+    (false, 150_000, 14_999, 2, 5000, 16, false),
+    (false, 150_001, 65_535, 64, 5000, 16, false),
 ];
+
+// So many workers are asked for, and so many of them find a processor.
+fn pace_with(workers: u64, helpers: u64) -> Pace
+    ensures { result.workers ≡ workers }
+{
+    Pace {
+        moves: 1,
+        batch: 1,
+        workers,
+        helpers,
+        side: 200,
+        stop: None,
+    }
+}
 
 #[test]
 fn the_standing_and_the_options_tell_which_way_a_stage_goes(rt: HostRuntime) -> Result<(), Fail> {
-    for (frozen, range, blocks, workers, wanted) in WAYS {
+    for (frozen, range, blocks, helpers, moves, batch, wanted) in WAYS {
         let stage = Stage {
             index: 7,
             t: 1,
@@ -291,20 +312,40 @@ fn the_standing_and_the_options_tell_which_way_a_stage_goes(rt: HostRuntime) -> 
             frozen: *frozen,
         };
         let pace = Pace {
-            moves: 1,
-            batch: 1,
-            workers: *workers,
-            helpers: *workers,
-            side: 200,
-            stop: None,
+            moves: *moves,
+            batch: *batch,
+            ..pace_with(*helpers, *helpers)
         };
         let ahead = is_judged_ahead(&stage, *blocks, &pace, true);
         assert_eq!(rt;
             ahead,
             *wanted,
-            "range {range}, {blocks} blocks, {workers} workers"
+            "range {range}, {blocks} blocks, {helpers} help"
         );
         assert!(rt; is_judged_ahead(&stage, *blocks, &pace, false));
+    }
+    Ok(())
+}
+
+// Of so many workers so many help; whether the gate does nothing; and how many workers a crew has.
+const SIZES: &[(u64, u64, bool, u64)] = &[
+    (4, 3, true, 3),
+    (2, 2, true, 2),
+    (64, 1, true, 1),
+    (4, 3, false, 4),
+    (64, 1, false, 64),
+    (4, 0, true, 1),
+    (2, 3, true, 2),
+];
+
+#[test]
+fn a_crew_has_the_workers_that_find_a_processor(rt: HostRuntime) -> Result<(), Fail> {
+    for (workers, helpers, does_nothing, wanted) in SIZES {
+        if *workers < 1 || 64 < *workers {
+            return Err(Fail::from("no such number of workers"));
+        }
+        let size = crew_size(&pace_with(*workers, *helpers), *does_nothing);
+        assert_eq!(rt; size, *wanted, "{helpers} of {workers} workers help");
     }
     Ok(())
 }

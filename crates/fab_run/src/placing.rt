@@ -112,7 +112,7 @@ pub(crate) fn place_ended<
         moves: schedule.moves(),
         batch: options.batch,
         workers: options.workers,
-        helpers: helpers_of(rt, options.workers, design.blocks()),
+        helpers: helpers_of(rt, options.workers),
         side: u64::from(grid.nx().max(grid.ny())),
         stop: options.stop,
     };

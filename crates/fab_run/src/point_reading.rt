@@ -42,10 +42,11 @@ fn present<'a>(line: Option<Line<'a>>) -> Result<Line<'a>, PointFault>
     }
 }
 
-/// Takes the next line, which has to be there.
+/// Takes the next line, which has to be there. If memory runs out, nothing changes.
 fn due<'a>(left: &mut Lines<'a>) -> Result<Line<'a>, PointFault>
     ensures ok { IfOk result (λ line. left.old ≡ shown line ∷ left.new) }
     ensures missing { IfErr result (λ e. (e ≡ NoMemory) ⊎ ((e ≡ BadField 0) × (left.old ≡ []))) }
+    ensures stays { IfErr result (λ e. e ≡ NoMemory → left.new ≡ left.old) }
 {
     let line = left.next()?;
     present(line)
@@ -66,10 +67,11 @@ fn version_field(first: &Option<Line>) -> Result<Version, PointFault>
     }
 }
 
-/// Takes the first line, which gives the version.
+/// Takes the first line, which gives the version. If memory runs out, nothing changes.
 fn read_version(left: &mut Lines) -> Result<Version, PointFault>
     ensures read { IfOk result (λ v. IsRead version_in (λ v. Unit {0}) left.old v left.new) }
     ensures fault { IfErr result (λ e. (e ≡ NoMemory) ⊎ ((io_rat : ℕ) (d : Netlist) → IsFirstFault io_rat d left.old e)) }
+    ensures stays { IfErr result (λ e. e ≡ NoMemory → left.new ≡ left.old) }
 {
     let first = left.next()?;
     version_field(&first)
@@ -208,7 +210,8 @@ fn temperature_field(line: &Line, schedule: &Schedule, index: u64) -> Result<u64
     }
 }
 
-/// The temperature of a stage: from the next line; in the first version, whose schedules cool by a factor, from the schedule.
+/// The temperature of a stage: from the next line; in the first version, whose schedules cool by a factor, from the schedule. If memory runs
+/// out, nothing changes.
 fn read_heat(
     left: &mut Lines,
     version: Version,
@@ -219,6 +222,7 @@ fn read_heat(
     requires stage { (t : ℕ) × MayStand schedule.now index t }
     ensures read { IfOk result (λ t. HeatRead version schedule.now index left.old t left.new) }
     ensures fault { IfErr result (λ e. (e ≡ NoMemory) ⊎ HeatFault e version schedule.now index (λ t ls. ⊥) left.old) }
+    ensures stays { IfErr result (λ e. e ≡ NoMemory → left.new ≡ left.old) }
 {
     match version {
         Version::One => Ok(schedule.temperature(index).unwrap_or(0)),

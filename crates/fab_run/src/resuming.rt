@@ -124,7 +124,7 @@ pub(crate) fn resume_ended<
         moves: point.schedule.moves(),
         batch,
         workers,
-        helpers: helpers_of(rt, workers, design.blocks()),
+        helpers: helpers_of(rt, workers),
         side: u64::from(grid.nx().max(grid.ny())),
         stop,
     };

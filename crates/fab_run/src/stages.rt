@@ -33,7 +33,7 @@ pub(crate) struct Pace {
     pub(crate) moves: u64,
     /// How many moves a turn commits at most.
     pub(crate) batch: u64,
-    /// How many workers judge ahead.
+    /// How many workers are asked for.
     pub(crate) workers: u64,
     /// How many of them find a processor beside the one of the calling thread.
     pub(crate) helpers: u64,
@@ -61,33 +61,34 @@ fn moves_before(stop: Option<u64>, done: u64, left: u64) -> Option<u64>
     Some(rest)
 }
 
-/// How many of so many workers find a processor beside the one of the calling thread; none if the system does not tell how many there are, or
-/// if the design has so few blocks that no crew is asked.
-pub(crate) fn helpers_of<R: Threads>(rt: &R, workers: u64, blocks: usize) -> u64 {
-    if blocks < LARGE_DESIGN {
-        return 0;
-    }
+/// How many of so many workers find a processor beside the one of the calling thread; none if the system does not tell how many there are.
+pub(crate) fn helpers_of<R: Threads>(rt: &R, workers: u64) -> u64 {
     match thread::available_parallelism(rt) {
         Ok(processors) => workers.min(processors.get() as u64 - 1),
         Err(_) => 0,
     }
 }
 
-/// In a design of fewer blocks a crew costs as much time as it saves, or more, in each stage. That and the next bound were measured with the
-/// crew before this one (bench/stages.py, 27 November 2026).
-const LARGE_DESIGN: usize = 40_000;
+/// Founding a crew takes the time of some thousands of moves.
+const FEWEST_MOVES: u64 = 5_000;
 
-/// From so many blocks on, a crew of three or more workers saves time before the stages are cold, too.
-const VERY_LARGE_DESIGN: usize = 50_000;
+/// With a smaller batch, handing over costs as much time as judging.
+const LEAST_BATCH: u64 = 16;
+
+/// From so many blocks on, a crew of three or more saves time before the stages are cold, too.
+const MIDDLE_DESIGN: usize = 2_500;
+
+/// From so many blocks on, a crew of two does.
+const LARGE_DESIGN: usize = 15_000;
 
 /// The least range of a stage, in thousandths. A stage has it where few moves of the stages before were accepted.
 const LEAST_RANGE: u64 = 1000;
 
 /// Whether the moves of a stage are judged ahead by the crew; else the owner judges each when its turn comes. A crew saves time where few
-/// moves are accepted, the design is large, and it has more than one helper. How few are accepted is told by the range: it falls where fewer
-/// than 44 of 100 are. A worker helps where it has a processor of its own. All that decides is told by the standing, the options and the
-/// machine, so a run that goes on from a point on the same machine decides as the unbroken run. A gate that does something sees which way a
-/// stage goes: with one that does not say that it does nothing, all moves are judged ahead.
+/// moves are accepted and more than one worker helps, that is, finds a processor of its own. How few are accepted is told by the range: it
+/// falls where fewer than 44 of 100 are. All that decides is told by the standing, the options and the machine, so a run that goes on from a
+/// point on the same machine decides as the unbroken run. The bounds were measured by bench/stages.py. A gate that does something sees which
+/// way a stage goes: with one that does not say that it does nothing, all moves are judged ahead.
 pub(crate) fn is_judged_ahead(
     stage: &Stage,
     blocks: usize,
@@ -97,12 +98,25 @@ pub(crate) fn is_judged_ahead(
     if !does_nothing {
         return true;
     }
-    let is_cold = stage.frozen || stage.range <= LEAST_RANGE;
-    let is_cooler = stage.range <= pace.side.saturating_mul(1000) / 2;
-    if is_cold && blocks >= LARGE_DESIGN && pace.helpers >= 2 {
-        return true;
+    if pace.helpers < 2 || pace.batch < LEAST_BATCH || pace.moves < FEWEST_MOVES {
+        return false;
     }
-    is_cooler && blocks >= VERY_LARGE_DESIGN && pace.helpers >= 3
+    let is_cold = stage.frozen || stage.range <= LEAST_RANGE;
+    let is_cooler = stage.range <= pace.side.saturating_mul(750);
+    is_cold || is_cooler && (blocks >= LARGE_DESIGN || blocks >= MIDDLE_DESIGN && pace.helpers >= 3)
+}
+
+/// How many workers a crew has, one at least: those that find a processor, since one without a processor holds the others up. With a gate that
+/// does something as many as were asked for: it may hold a worker until another makes a call.
+pub(crate) fn crew_size(pace: &Pace, does_nothing: bool) -> u64
+    requires { (1 ≤ pace.now.workers) × (pace.now.workers ≤ 64) }
+    ensures { (1 ≤ result) × (result ≤ 64) }
+{
+    if does_nothing {
+        pace.helpers.max(1).min(pace.workers)
+    } else {
+        pace.workers
+    }
 }
 
 /// Makes the next `count` moves of the running stage, of which some are left and at least so many: in turns of one batch, and a shorter turn for
@@ -271,7 +285,7 @@ pub(crate) fn anneal_all<
     let blocks = anneal.placement().blocks();
     let plan = StagePlan {
         batch: pace.batch,
-        workers: pace.workers,
+        workers: crew_size(pace, does_nothing),
         gate,
         dial,
     };

@@ -490,10 +490,10 @@ fn many_runs_end_with_short_stages_on_a_large_array(rt: HostRuntime) -> Result<(
     Ok(())
 }
 
-// The owner makes the first stage of a large design alone. Then a crew is founded for the frozen stage, and judges it whole or up to a stop.
+// The owner makes the first stage alone. Then a crew is founded for the frozen stage, and judges it whole or up to a stop.
 #[test]
 fn a_crew_judges_a_cold_stage_behind_a_long_one(rt: HostRuntime) -> Result<(), Fail> {
-    let net = ring(rt.alloc(), 40_000)?;
+    let net = ring(rt.alloc(), 2_000)?;
     let inputs = ring_of(&net);
     for stop in [Some(100_700), None] {
         let options = Options {

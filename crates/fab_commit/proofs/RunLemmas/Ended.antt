@@ -99,10 +99,12 @@ made_alone moves given z batch count s now t ahead due (Ok v) old new b after he
       turns_made = n;
       short = h.short;
       few = h.few;
+      whole = tt;
       world = world_is r (unjudged u) now behind ∙ ap (λ (w : World). record w { verdicts = [] }) (worlds r t s (with_shorter n batch h.short) b);
       cut = tt;
       redone = counted_in r t s n batch h.short s.owner.redone now.owner.redone b h.redone;
       ahead = ap (map (verdict_of now.base)) f.ahead;
+      behind = (unjudged u, world_is r (unjudged u) now behind);
       by_turns = λ w.
           let end = h.whole w in
           let plain : u ≡ last_turn r t (replicate n batch) = ap (λ k. last_turn r t (with_shorter n batch k)) end.0 in
@@ -137,10 +139,12 @@ made_alone moves given z batch count s now t ahead due (Err e) old new b after h
       turns_made = n;
       short = 0;
       few = omega arith;
+      whole = refl;
       world = tt;
       cut = world_is r (cut_turn r 0 u) now behind ∙ sym (cut_turns_lead_on r u 0 (some_moves r t s b) (last_of_a_stage r t n batch (some_moves r t s b) b.stage) (omega arith)).0 ∙ ap (turn_making r 0 0) (worlds r t s (replicate n batch) b);
       redone = counted_in r t s n batch 0 s.owner.redone now.owner.redone b (omega (arith, again, zero));
       ahead = ap (map (verdict_of now.base)) f.ahead;
+      behind = (cut_turn r 0 u, world_is r (cut_turn r 0 u) now behind);
       by_turns = tt;
       counted = tt;
       shown = tt;

@@ -4,7 +4,10 @@ use Rattle.std.specs.Prelude.{IfSome, nat_lt}
 use Rattle.std.specs.List.{list_any}
 use Rattle.fab_arch.specs.declared.array.Site.{Site}
 use Rattle.fab_arch.specs.Grid.{GridShape}
+use Rattle.fab_net.specs.Netlist.{Netlist}
 use Rattle.fab_site.specs.Placement.{IsLegal, swapped}
+use Rattle.fab_cost.specs.Cost.{cost_of}
+use Rattle.fab_cost.specs.Swapping.{CountedStandsFor}
 use Rattle.fab_sched.specs.declared.schedules.Stage.{Stage}
 use Rattle.fab_move.specs.Judge.{Judged}
 use Rattle.fab_board.specs.Follows.{followed}
@@ -96,12 +99,14 @@ pub record IsPostOf (s : State) (swaps : List Accepted) (p : Post) : Type 0 wher
   pub swaps_are : p.swaps.items ≡ swaps
   pub stage : p.stage ≡ s.stage
   pub rest : (p.ended ≡ s.ended) × (p.done ≡ s.done) × (p.total ≡ s.total)
+  pub cost : (d : Netlist) (g : GridShape) (sites : List Site) → CountedStandsFor s.cost d g sites → p.cost ≡ cost_of d g sites
 
 pub may_follow : (r : Run) (x : Standing) (s : State) (swaps : List Accepted) (p : Post) → IsSound r s → Leads r.problem.grid x.sites swaps s.placement.sites → IsPostOf s swaps p → MayBeFollowed r x p
 may_follow r x s swaps p sound leads is =
     let there : all_swapped x.sites p.swaps.items ≡ s.placement.sites = ap (all_swapped x.sites) is.swaps_are ∙ leads_all r.problem.grid x.sites swaps s.placement.sites leads in
     record {
       leads = subst (λ l. Leads r.problem.grid x.sites l (all_swapped x.sites p.swaps.items)) (sym is.swaps_are) (subst (Leads r.problem.grid x.sites swaps) (sym there) leads);
+      cost = is.cost r.problem.design r.problem.grid s.placement.sites sound.cost ∙ ap (cost_of r.problem.design r.problem.grid) (sym there);
       legal = subst (IsLegal r.problem.design r.problem.grid r.problem.fixed) (sym there) sound.legal;
       place = is.rest.1 ∙ sound.place ∙ ap (λ (v : Stage). v.index * r.plan.moves + v.done) (sym is.stage);
       counted =

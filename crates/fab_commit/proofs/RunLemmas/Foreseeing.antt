@@ -20,7 +20,7 @@ use Rattle.fab_move.proofs.Judgements.{judged_on}
 use Rattle.fab_commit.specs.declared.run.foreseen.Foreseen.{Foreseen}
 use Rattle.fab_commit.specs.Serial.{Run, Standing, judged_here, or_zero}
 use Rattle.fab_commit.specs.Model.Worlds.{IsBlock}
-use Rattle.fab_commit.specs.Run.Foreseen.{IsForeseen, decision_in, swap_in}
+use Rattle.fab_commit.specs.Run.Foreseen.{AreKept, IsForeseen, decision_in, swap_in}
 use Rattle.fab_commit.specs.Run.StampTables.{IsWithin}
 use Rattle.fab_commit.proofs.ModelLemmas.Noninterference.{judged_as-footprint}
 
@@ -45,6 +45,7 @@ pub record IsMadeBy (r : Run) (x : Standing) (k : ℕ) (q : Proposal) (t w : ℕ
   pub few : (s : Swap) → q ≡ Move s → f.few ≡ change (few_of r.problem.design) r.problem.grid x.sites s
   pub within : (s : Swap) → q ≡ Move s → IsWithin r.problem.design r.problem.grid s
   pub kind : (s : Swap) → q ≡ Move s → kind_at r.problem.grid s.to ≡ kind_at r.problem.grid s.from
+  pub nets : (s : Swap) → q ≡ Move s → AreKept r.problem.design s f.nets
 
 within_other : (d : Netlist) (g : GridShape) (s : Swap) (b : BlockId) → IsWithin d g s → s.other ≡ Some b → b.0 < length d.kinds
 within_other d g s b within e = subst (IsBlock d) e within.other
@@ -63,6 +64,7 @@ foreseen_by r x k q t w f is =
       block = λ s e. (is.within s (sym is.proposes ∙ e)).block;
       other = λ s b e o. within_other p.design p.grid s b (is.within s (sym is.proposes ∙ e)) o;
       kind = λ s e. is.kind s (sym is.proposes ∙ swap_is f.proposal s e);
+      nets = λ s e. is.nets s (sym is.proposes ∙ e);
     }
 
 -- a move that proposes no swap
@@ -74,20 +76,29 @@ none_is p sites t w (Move s) e = absurd (false≢true (sym (ap is_some e)))
 no_move : (q : Proposal) (s : Swap) → swap_in q ≡ None → q ≡ Move s → ⊥
 no_move q s e m = false≢true (ap is_some (sym e ∙ ap swap_in m))
 
-pub foreseen_none : (r : Run) (x : Standing) (k : ℕ) (q : Proposal) (words : List ℕ) → q ≡ proposal r.problem.design r.problem.grid r.problem.fixed x.sites x.range (r.problem.words k) → words ≡ r.problem.words k → swap_in q ≡ None
-    → IsForeseen r x k (record { proposal = q; words = words; accepted = false; few = pos 0; delta = pos 0 })
-foreseen_none r x k q words is same none =
-    foreseen_by r x k q (or_zero x.heat) (slice_index (r.problem.words k) 3) (record { proposal = q; words = words; accepted = false; few = pos 0; delta = pos 0 })
+-- what is foreseen without a swap
+pub record IsPlain (q : Proposal) (w : List ℕ) (f : Foreseen) : Type 0 where
+  pub proposal : f.proposal ≡ q
+  pub delta : f.delta ≡ pos 0
+  pub words : f.words ≡ w
+  pub accepted : f.accepted ≡ false
+
+pub foreseen_none : (r : Run) (x : Standing) (k : ℕ) (q : Proposal) (words : List ℕ) (f : Foreseen) → IsPlain q words f → q ≡ proposal r.problem.design r.problem.grid r.problem.fixed x.sites x.range (r.problem.words k) → words ≡ r.problem.words k → swap_in q ≡ None
+    → IsForeseen r x k f
+foreseen_none r x k q words f plain is same none =
+    let h = none_is r.problem x.sites (or_zero x.heat) (slice_index (r.problem.words k) 3) q none in
+    foreseen_by r x k q (or_zero x.heat) (slice_index (r.problem.words k) 3) f
     (record {
       proposal_is = is;
       heat = refl;
       word = refl;
-      proposes = refl;
-      words = same;
-      decides = none_is r.problem x.sites (or_zero x.heat) (slice_index (r.problem.words k) 3) q none;
+      proposes = plain.proposal;
+      words = plain.words ∙ same;
+      decides = record { swap = ap swap_in plain.proposal ∙ h.swap; change = plain.delta ∙ h.change; accepted = plain.accepted ∙ h.accepted };
       few = λ s m. absurd (no_move q s none m);
       within = λ s m. absurd (no_move q s none m);
       kind = λ s m. absurd (no_move q s none m);
+      nets = λ s m. absurd (no_move q s none m);
     })
 
 pub move_is : (a b : Swap) → Move a ≡ Move b → a ≡ b

@@ -17,6 +17,7 @@ use Rattle.fab_commit.specs.Run.Since.{IsSince}
 use Rattle.fab_commit.specs.Run.StampTables.{AreStamps, IsTable}
 use Rattle.fab_commit.specs.Run.Uncounted.{AreMadeUncounted, IsFurther, IsIdle, IsMade}
 use Rattle.fab_commit.specs.Model.TurnEvents.{LastTurn, IsOfAStage, no_turn}
+use Rattle.fab_commit.proofs.RunLemmas.Annealing.{world_is}
 use Rattle.fab_commit.proofs.RunLemmas.Folding.{from_add, goes_on, hot_at, not_ended, step_is}
 use Rattle.fab_commit.proofs.RunLemmas.Noting.{noted_more-more, noted_more-nil}
 use Rattle.fab_commit.proofs.RunLemmas.Owning.{accepted_add, before_weaker, none_since}
@@ -116,9 +117,9 @@ left_uncounted r t s now n b f idle stamps =
 -- what an annealer is after them
 pub made_uncounted : {W A : Type 0} (moves : W → ℕ → List ℕ) (given : Given W) (z : Standing) (batch count : ℕ) (s now : Pipeline) (answer : Result A AllocError) (old new : List Reading)
     → z.done ≤ s.owner.state.done → standing_of s.owner.state ≡ from (run_for moves given) z (s.owner.state.done - z.done)
-    → AreMadeUncounted (run_for moves given) batch count s.owner.state now.owner.state answer old new → IsIdle s now
+    → AreMadeUncounted (run_for moves given) batch count s.owner.state now.owner.state answer old new → IsIdle s now → HasTurn (run_for moves given) now
     → IsMade moves batch count (seen moves given z s) (seen moves given z now) answer old new
-made_uncounted moves given z batch count s now (Ok v) old new after here made idle =
+made_uncounted moves given z batch count s now (Ok v) old new after here made idle turn =
     let r = run_for moves given in
     let x = standing_of s.owner.state in
     let done = made.further.done in
@@ -132,11 +133,12 @@ made_uncounted moves given z batch count s now (Ok v) old new after here made id
       ok = omega (arith, done, all);
       within = (omega (arith, done), omega (arith, done, few));
       ahead = ap (map (verdict_of now.base)) idle.ahead;
+      behind = (turn.0, world_is r turn.0 now turn.1);
       shown = made.shown;
       ends = made.ends;
       shown_cut = tt;
     }
-made_uncounted moves given z batch count s now (Err e) old new after here made idle =
+made_uncounted moves given z batch count s now (Err e) old new after here made idle turn =
     let r = run_for moves given in
     let x = standing_of s.owner.state in
     let done = made.further.done in
@@ -149,6 +151,7 @@ made_uncounted moves given z batch count s now (Err e) old new after here made i
       ok = tt;
       within = (omega (arith, done), omega (arith, done, few));
       ahead = ap (map (verdict_of now.base)) idle.ahead;
+      behind = (turn.0, world_is r turn.0 now turn.1);
       shown = tt;
       ends = tt;
       shown_cut = made.cut;
@@ -168,6 +171,7 @@ made_of moves batch count a b answer old new made = record {
   ok = made.ok;
   within = made.within;
   ahead = made.ahead;
+  behind = made.behind;
   shown = made.shown;
   ends = made.ends;
   shown_cut = made.shown_cut;

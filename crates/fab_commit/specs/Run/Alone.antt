@@ -18,7 +18,7 @@ use Rattle.fab_commit.specs.Run.Readings.{HasShown, readings}
 use Rattle.fab_commit.specs.Run.StampTables.{AreStamps, kept_stamp}
 use Rattle.fab_commit.specs.Model.History.{accepted_from}
 use Rattle.fab_commit.specs.Model.Stamps.{AreBefore}
-use Rattle.fab_commit.specs.Model.TurnEvents.{LastTurn, IsOfAStage, cut_turn, is_redone_behind, next_turn, stands, turn, turn_events, turn_making}
+use Rattle.fab_commit.specs.Model.TurnEvents.{LastTurn, IsOfAStage, cut_turn, is_redone_behind, next_turn, stands, turn, turn_events, turn_making, world_behind}
 use Rattle.fab_commit.specs.Model.Turns.{last_turn, redone, redone_in_run, redone_next, turns}
 use Rattle.fab_commit.specs.Model.World.{World, is_redone_way, ways}
 
@@ -143,16 +143,19 @@ pub record IsMadeAlone {W A : Type 0} (moves : W → ℕ → List ℕ) (batch co
   pub accepted : b.accepted ≡ a.accepted ++ accepted_among (run_of moves a) a.standing (b.standing.done - a.standing.done)
   pub ok : OnOk answer (b.standing.done ≡ a.standing.done + count)
   pub within : (a.standing.done ≤ b.standing.done) × (b.standing.done ≤ a.standing.done + count)
-  -- They are turns of a world, whatever was judged ahead in it; if memory ran out, a turn comes after them that makes no move.
+  -- They are turns of a world, whatever was judged ahead in it; if memory ran out, all are whole, and a turn comes after them that makes no
+  -- move.
   pub turns_made : ℕ
   pub short : ℕ
   pub few : short ≤ batch
+  pub whole : OnErr answer (short ≡ 0)
   pub world : OnOk answer (world_of b ≡ (let w = turns (run_of moves a) (world_of a) (with_shorter turns_made batch short) in record w { verdicts = [] }))
   pub cut : OnErr answer (world_of b ≡ turn_making (run_of moves a) 0 0 (turns (run_of moves a) (world_of a) (replicate turns_made batch)))
   -- The count of moves judged again grows by those that these turns judge again.
   pub redone : b.redone ≡ a.redone + redone_in (run_of moves a) (world_of a) (replicate turns_made batch ++ short ∷ [])
-  -- Nothing is judged ahead.
+  -- Nothing is judged ahead, and the swaps that are kept are those of a last turn.
   pub ahead : b.ahead ≡ []
+  pub behind : (t : LastTurn) × (world_of b ≡ world_behind (run_of moves a) t)
   -- If turns of this batch led to `a` from some standing, those to the end of the stage are more of them; and the moves judged again since that
   -- standing are those of one batch, even if the last turn is shorter.
   pub by_turns : OnOk answer (count ≡ moves_left (run_of moves a) a.standing → LeadsByTurns (run_of moves a) batch a b)

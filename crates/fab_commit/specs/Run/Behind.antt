@@ -3,6 +3,7 @@ use Rattle.std.specs.Prelude.{◌≡◌, ◌+◌, ◌*◌, ◌≤◌, true, List
 use Rattle.fab_arch.specs.declared.array.Site.{Site}
 use Rattle.fab_site.specs.declared.pieces.Swap.{Swap}
 use Rattle.fab_site.specs.Placement.{IsLegal, site, swapped}
+use Rattle.fab_cost.specs.Cost.{cost_of}
 use Rattle.fab_commit.specs.declared.run.post.Post.{Post}
 use Rattle.fab_commit.specs.declared.run.state.Given.{Given}
 use Rattle.fab_commit.specs.declared.run.swaps.Accepted.{Accepted}
@@ -33,9 +34,10 @@ after_post x p =
     }
 
 -- a post may be followed from a standing: each swap is one of the placement that it is made on, the placement that they lead to is
--- legal, and the stage is that of the moves made
+-- legal and has the cost that the post tells; the moves made are those of the post's stage, and no more were accepted than made
 pub record MayBeFollowed (r : Run) (x : Standing) (p : Post) : Type 0 where
   pub leads : Leads r.problem.grid x.sites p.swaps.items (all_swapped x.sites p.swaps.items)
+  pub cost : p.cost ≡ cost_of r.problem.design r.problem.grid (all_swapped x.sites p.swaps.items)
   pub legal : IsLegal r.problem.design r.problem.grid r.problem.fixed (all_swapped x.sites p.swaps.items)
   pub place : p.done ≡ p.stage.index * r.plan.moves + p.stage.done
   pub counted : (p.stage.accepted ≤ p.total) × (p.total ≤ p.done)

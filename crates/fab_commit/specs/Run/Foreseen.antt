@@ -1,8 +1,11 @@
 -- What a crew foresees of a move, as contracts see it (our own).
-use Rattle.std.specs.Prelude.{ℕ, ℤ, pos, negsuc, ◌≡◌, ◌<◌, false, List, length, Option, Some, None, refl}
+use Rattle.std.specs.Prelude.{ℕ, ℤ, pos, negsuc, ◌≡◌, ◌<◌, ◌≤◌, ◌++◌, true, false, List, [], ◌∷◌, length, map, take, Option, Some, None, codes, refl}
 use Rattle.fab_arch.specs.declared.array.Site.{Site}
 use Rattle.fab_arch.specs.Grid.{kind_at}
 use Rattle.fab_net.specs.declared.pieces.BlockId.{BlockId}
+use Rattle.fab_net.specs.declared.pieces.NetId.{NetId}
+use Rattle.fab_net.specs.declared.pieces.BlockKind.TheVariants.{Logic}
+use Rattle.fab_net.specs.Netlist.{Netlist, nets_of, terminal}
 use Rattle.fab_site.specs.declared.pieces.Swap.{Swap}
 use Rattle.fab_move.specs.declared.proposals.Proposal.{Proposal}
 use Rattle.fab_move.specs.declared.proposals.Proposal.TheVariants.{Nothing, Void, Move}
@@ -12,6 +15,7 @@ use Rattle.fab_move.specs.Propose.{proposal}
 use Rattle.fab_cost.specs.Runs.{few_of}
 use Rattle.fab_cost.specs.Swapping.{change}
 use Rattle.fab_commit.specs.declared.run.foreseen.Foreseen.{Foreseen}
+use Rattle.fab_commit.specs.declared.run.swap_nets.SwapNets.{SwapNets}
 use Rattle.fab_commit.specs.Serial.{Run, Standing, judged_here}
 
 -- the swap that a proposal is, if it is one
@@ -24,8 +28,21 @@ swap_in (Move s) = Some s
 abbrev pub decision_in : Foreseen → Decision
 decision_in f = record { swap = swap_in f.proposal; delta = f.delta; accepted = f.accepted }
 
--- this is what move k would be on the placement of x: what it proposes, its decision, what that rests on, and how much of its change of cost
--- comes from nets with few terminals
+-- the nets of a block that are not global, if there is such a block
+abbrev pub nets_on : Netlist → Option BlockId → List NetId
+nets_on d None = []
+nets_on d (Some b) = map (λ n. record { 0 = n }) (nets_of d b.0)
+
+-- what is kept of a swap's nets, which need not be there: those of its block, and behind them those of the block that it displaces
+pub record AreKept (d : Netlist) (s : Swap) (n : SwapNets) : Type 0 where
+  pub own : n.is_kept ≡ true → n.own ≡ length (nets_on d (Some s.block))
+  pub most : n.is_kept ≡ true → n.all ≤ 15
+  pub all : n.is_kept ≡ true → n.all ≡ length (nets_on d (Some s.block) ++ nets_on d s.other)
+  pub nets : n.is_kept ≡ true → take n.all n.nets ≡ nets_on d (Some s.block) ++ nets_on d s.other
+
+-- this is what move k would be on the placement of x: what it proposes, its words, its decision, how much of its change of cost comes from nets
+-- with up to 16 terminals, and its swap's nets, if they are kept. All that the decision rests on is what the proposal names (`marks`). Its
+-- swap, if any, is of blocks of the design (`block`, `other`), and between sites of one kind (`kind`)
 pub record IsForeseen (r : Run) (x : Standing) (k : ℕ) (f : Foreseen) : Type 0 where
   pub proposes : f.proposal ≡ proposal r.problem.design r.problem.grid r.problem.fixed x.sites x.range (r.problem.words k)
   pub words : f.words ≡ r.problem.words k
@@ -35,8 +52,9 @@ pub record IsForeseen (r : Run) (x : Standing) (k : ℕ) (f : Foreseen) : Type 0
   pub block : (s : Swap) → f.proposal ≡ Move s → s.block.0 < length r.problem.design.kinds
   pub other : (s : Swap) (b : BlockId) → f.proposal ≡ Move s → s.other ≡ Some b → b.0 < length r.problem.design.kinds
   pub kind : (s : Swap) → swap_in f.proposal ≡ Some s → kind_at r.problem.grid s.to ≡ kind_at r.problem.grid s.from
+  pub nets : (s : Swap) → f.proposal ≡ Move s → AreKept r.problem.design s f.nets
 
--- on the placement of y, move k proposes this swap, and so much of its change of cost comes from nets with few terminals
+-- on the placement of y, move k proposes this swap, and so much of its change of cost comes from nets with up to 16 terminals
 pub record IsStill (r : Run) (y : Standing) (k : ℕ) (few : ℤ) (s : Swap) : Type 0 where
   pub proposes : proposal r.problem.design r.problem.grid r.problem.fixed y.sites y.range (r.problem.words k) ≡ Move s
   pub few_is : few ≡ change (few_of r.problem.design) r.problem.grid y.sites s
@@ -45,6 +63,19 @@ pub record IsStill (r : Run) (y : Standing) (k : ℕ) (few : ℤ) (s : Swap) : T
 pub a_void_move_swaps_nothing : (b : BlockId) (to : Site) → swap_in (Void b to) ≡ None
 a_void_move_swaps_nothing b to = refl
 
+-- a block on net 1 only, and another on nets 0 and 1
+abbrev two_blocks : Netlist
+two_blocks = record {
+  kinds = Logic ∷ Logic ∷ [];
+  names = codes "b1" ∷ codes "b2" ∷ [];
+  terminals = (terminal 1 0 ∷ []) ∷ (terminal 0 0 ∷ terminal 1 1 ∷ []) ∷ [];
+  globals = false ∷ false ∷ [];
+}
+
+-- what is kept of the first one's swap with the other: a net of both is there twice
+pub nets_of_both : nets_on two_blocks (Some (record { 0 = 0 })) ++ nets_on two_blocks (Some (record { 0 = 1 })) ≡ record { 0 = 1 } ∷ record { 0 = 0 } ∷ record { 0 = 1 } ∷ []
+nets_of_both = refl
+
 -- a move that raises the cost by 3 ten-thousandths, of which nets with few terminals take 2 away, and is rejected
-pub a_rejected_move : (s : Swap) (words : List ℕ) → decision_in (record { proposal = Move s; few = negsuc 1; delta = pos 3; words = words; accepted = false }) ≡ record { swap = Some s; delta = pos 3; accepted = false }
-a_rejected_move s words = refl
+pub a_rejected_move : (s : Swap) (words : List ℕ) (nets : SwapNets) → decision_in (record { proposal = Move s; few = negsuc 1; delta = pos 3; words = words; accepted = false; nets = nets }) ≡ record { swap = Some s; delta = pos 3; accepted = false }
+a_rejected_move s words nets = refl

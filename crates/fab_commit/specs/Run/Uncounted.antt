@@ -6,7 +6,8 @@ use Rattle.fab_commit.specs.declared.run.pipeline.Pipeline.{Pipeline}
 use Rattle.fab_commit.specs.declared.run.state.State.{State}
 use Rattle.fab_commit.specs.Serial.{Run, accepted_among, from, moves_left}
 use Rattle.fab_commit.specs.Run.Alone.{EndsAt, LeadsTo}
-use Rattle.fab_commit.specs.Run.Commits.{AnnealOf, IsSameRun, IsSound, run_of, standing_of}
+use Rattle.fab_commit.specs.Run.Commits.{AnnealOf, IsSameRun, IsSound, run_of, standing_of, world_of}
+use Rattle.fab_commit.specs.Model.TurnEvents.{LastTurn, world_behind}
 use Rattle.fab_commit.specs.Run.Noted.{noted, noted_more}
 
 -- the state is n moves of its run further
@@ -26,15 +27,15 @@ pub record AreMadeUncounted {A : Type 0} (r : Run) (batch count : ℕ) (s now : 
   pub ends : OnOk answer (EndsAt r batch (standing_of s) (standing_of now) old new)
   pub cut : OnErr answer (LeadsTo r batch (standing_of s) (standing_of now) old new)
 
--- nothing is judged ahead, no swap is kept, and the count of moves judged again stays
+-- nothing is judged ahead, the next base is the number of moves made, no swap is kept, and the count of moves judged again stays
 pub record IsIdle (s now : Pipeline) : Type 0 where
   pub base : now.base ≡ now.owner.state.done
   pub ahead : now.ahead.items ≡ []
   pub swaps : now.owner.swaps.items ≡ []
   pub redone : now.owner.redone ≡ s.owner.redone
 
--- an annealer made `count` moves of its stage in turns of this batch, of which the last may be shorter, and showed each turn; or memory ran out
--- after some turns
+-- an annealer made `count` moves of its stage in turns of this batch, of which the last may be shorter, as the readings tell: it showed each
+-- turn; or memory ran out after some turns
 pub record IsMade {W A : Type 0} (moves : W → ℕ → List ℕ) (batch count : ℕ) (a b : AnnealOf W) (answer : Result A AllocError) (old new : List Reading) : Type 0 where
   -- What the run is given stays the same.
   pub same : IsSameRun a b
@@ -43,8 +44,9 @@ pub record IsMade {W A : Type 0} (moves : W → ℕ → List ℕ) (batch count :
   pub accepted : b.accepted ≡ a.accepted ++ accepted_among (run_of moves a) a.standing (b.standing.done - a.standing.done)
   pub ok : OnOk answer (b.standing.done ≡ a.standing.done + count)
   pub within : (a.standing.done ≤ b.standing.done) × (b.standing.done ≤ a.standing.done + count)
-  -- Nothing is judged ahead.
+  -- Nothing is judged ahead, and the swaps that are kept are those of a last turn.
   pub ahead : b.ahead ≡ []
+  pub behind : (t : LastTurn) × (world_of b ≡ world_behind (run_of moves a) t)
   -- Each turn is shown.
   pub shown : OnOk answer (count ≡ moves_left (run_of moves a) a.standing → LeadsTo (run_of moves a) batch a.standing b.standing old new)
   pub ends : OnOk answer (EndsAt (run_of moves a) batch a.standing b.standing old new)

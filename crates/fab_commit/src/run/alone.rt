@@ -17,6 +17,7 @@ ghost use Rattle.fab_commit.specs.Model.TurnEvents.{LastTurn, next_turn};
 use crate::run::owner::{Owner, stamp};
 use crate::run::pipeline::reserve;
 use crate::run::state::{Given, State, commit, moves_left, view_of};
+use crate::run::swap_nets::SwapNets;
 use crate::run::swaps::enter;
 use fab_board::Gate;
 use fab_cost::WireCost;
@@ -59,9 +60,10 @@ pub(crate) fn decided_alone<W: Words>(
         view.range,
         words,
     );
+    let nets = SwapNets::none();
     let again = owner
         .stamps
-        .is_touched(given.design, given.grid, base, proposal);
+        .is_touched(given.design, given.grid, base, proposal, &nets);
     let used = asked_again(&given.words, state.done, words, again);
     (weigh(&view, proposal, used[3]), again)
 }

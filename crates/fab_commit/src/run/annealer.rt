@@ -295,8 +295,8 @@ impl<'a, W: Words + Drop, K: Keeping> Anneal<'a, W, K> {
     }
 
     /// How many moves this value judged again, because a move accepted before them had touched what their verdicts rested on. Where the
-    /// owner makes moves alone nothing is judged twice, and the number is that of the turns of the batch. Where such moves are not counted,
-    /// those made alone add nothing.
+    /// owner makes moves alone nothing is judged twice, and the number is that of the turns of the batch. Of a value that need not tell it
+    /// (`KeepsCount`), moves made alone add nothing to it.
     pub fn redone(&self) -> u64
         ensures { result ≡ self.now.redone }
     {
@@ -353,6 +353,7 @@ impl<'a, W: Words + Drop, K: Keeping> Anneal<'a, W, K> {
         requires own { shower.old.dial ≡ dial.now }
         ensures made { IsMade W.moves batch (moves_left (run_of W.moves self.old) self.old.standing) self.old self.new result shower.old.shown shower.new.shown }
         ensures counted { K.again ≡ true → IsMadeAlone W.moves batch (moves_left (run_of W.moves self.old) self.old.standing) self.old self.new result shower.old.shown shower.new.shown }
+        ensures uncounted { K.again ≡ false → self.new.redone ≡ self.old.redone }
         ensures dial { shower.new.dial ≡ shower.old.dial }
     {
         let left = moves_left(&self.given.schedule, &self.pipeline.owner.state);
@@ -395,7 +396,7 @@ impl<'a, W: Words + Drop, K: Keeping> Anneal<'a, W, K> {
             gate,
             dial,
         };
-        if !K::counts() {
+        if !K::tells_redone() {
             return finish_uncounted(rt, given, &mut self.pipeline, &plan, shower);
         }
         finish_alone::<W, G, Behind<'_, '_, W, G>, Brand, R>(

@@ -10,7 +10,6 @@ use crate::run::foreseen::{Foreseen, foresee};
 use crate::run::post::Post;
 use crate::run::state::{Given, State};
 use fab_board::{Follow, Gate};
-use fab_cost::WireCost;
 use fab_site::Words;
 use std::marker::Model;
 use std::sync::Arc;
@@ -89,9 +88,12 @@ fn follow_post<W: Words>(given: &Given<'_, W>, state: &mut State, post: &Post)
     for accepted in &post.swaps {
         state
             .cost
-            .apply(given.design, given.grid, &state.placement, &accepted.swap);
+            .renew(given.design, given.grid, &state.placement, &accepted.swap);
         state.placement.apply(&accepted.swap);
     }
+    state
+        .cost
+        .set_cost(given.design, given.grid, &state.placement, post.cost);
     state.stage = post.stage;
     state.ended = post.ended;
     state.done = post.done;

@@ -3,7 +3,12 @@
 ghost use Rattle.std.specs.Prelude.{◌≡◌, ℕ, ◌+◌, ◌<◌, ◌≤◌, ◌++◌, ◌∷◌, [], List, false, true, length, slice_index, Some, Option, IfOk, IfSome, MatchResult, OnOk};
 ghost use Rattle.std.specs.List.{count_by, range_with_len};
 ghost use Rattle.fab_sched.specs.Annealing.{IsLawful};
+ghost use Rattle.fab_arch.specs.declared.array.Site.{Site};
+ghost use Rattle.fab_arch.specs.Grid.{GridShape};
+ghost use Rattle.fab_net.specs.Netlist.{Netlist};
 ghost use Rattle.fab_site.specs.Placement.{IsSwapOf};
+ghost use Rattle.fab_cost.specs.Cost.{cost_of};
+ghost use Rattle.fab_cost.specs.Swapping.{CountedStandsFor};
 ghost use Rattle.fab_move.specs.Judge.{IsDecision};
 ghost use Rattle.fab_commit.specs.Serial.{Run, Standing, judged_here};
 ghost use Rattle.fab_commit.specs.Run.Alone.{AreOpen, HasGone, IsAlone, is_touched_here};
@@ -17,14 +22,15 @@ ghost use Rattle.fab_commit.specs.Model.TurnEvents.{LastTurn, next_turn};
 
 use crate::run::alone::{AT_ONCE, Ahead, commit_alone, decided_alone};
 use crate::run::behind::Pursue;
-use crate::run::foreseen::{Foreseen, foresee};
+use crate::run::foreseen::Foreseen;
 use crate::run::owner::{Owner, make_one};
 use crate::run::pipeline::reserve;
 use crate::run::post::{Post, Share};
-use crate::run::state::{Given, State, moves_left};
+use crate::run::state::{Given, State, decide_by, moves_left};
 use crate::run::swaps::Accepted;
 use fab_board::follow_lead::Lead;
 use fab_board::{Boarding, Gate, Naming, Origin, Sheet};
+use fab_cost::WireCost;
 use fab_move::{Decision, Proposal, accepts};
 use fab_site::{Swap, Words};
 use std::alloc::{AllocError, Global};
@@ -177,12 +183,11 @@ fn decided_again<W: Words>(
     let words = given.words.words_again(state.done, foreseen.words);
     if let Proposal::Move(swap) = foreseen.proposal {
         let stamps = &owner.stamps;
-        if !stamps.is_swap_touched_in_few(given.design, given.grid, base, swap) {
+        if !stamps.is_swap_touched_in_few(given.design, given.grid, base, swap, &foreseen.nets) {
             return decided_by_large(given, state, foreseen.few, swap, words[3]);
         }
     }
-    let fresh = foresee(given, state, state.done, words);
-    fresh.decision()
+    decide_by(given, state, state.done, words)
 }
 
 /// Decides the next move: as it was foreseen on the placement after `base` moves, unless a move accepted since has touched what that rests on,
@@ -210,9 +215,9 @@ fn decided_followed<W: Words, G: Gate>(
         return decided;
     };
     gate.before_commit(number);
-    let again = owner
-        .stamps
-        .is_touched(given.design, given.grid, base, foreseen.proposal);
+    let stamps = &owner.stamps;
+    let proposal = foreseen.proposal;
+    let again = stamps.is_touched(given.design, given.grid, base, proposal, &foreseen.nets);
     if again {
         (decided_again(given, owner, base, foreseen), true)
     } else {
@@ -294,9 +299,11 @@ pub(crate) fn post_of(state: &State, swaps: Vec<Accepted>, share: Share) -> Post
     ensures swaps { result.swaps.items ≡ swaps.items }
     ensures stage { result.stage ≡ state.now.stage }
     ensures rest { (result.ended ≡ state.now.ended) × (result.done ≡ state.now.done) × (result.total ≡ state.now.total) }
+    ensures cost { (d : Netlist) (g : GridShape) (sites : List Site) → CountedStandsFor state.now.cost d g sites → result.cost ≡ cost_of d g sites }
 {
     Post {
         swaps,
+        cost: state.cost.cost(),
         stage: state.stage,
         ended: state.ended,
         done: state.done,

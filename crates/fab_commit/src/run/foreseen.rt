@@ -5,11 +5,12 @@ ghost use Rattle.fab_commit.specs.Run.Commits.{IsSound, run_for, standing_of};
 ghost use Rattle.fab_commit.specs.Run.Foreseen.{IsForeseen, decision_in};
 
 use crate::run::state::{Given, State, view_of};
+use crate::run::swap_nets::SwapNets;
 use fab_move::{Decision, Proposal, accepts, propose};
 use fab_site::Words;
 
 /// What a move would be on the placement of somebody who follows. What its decision rests on is what its proposal names. In this order its
-/// parts take 64 bytes.
+/// parts take 128 bytes.
 #[derive(Clone, Copy)]
 pub struct Foreseen {
     pub(crate) proposal: Proposal,
@@ -20,6 +21,8 @@ pub struct Foreseen {
     pub(crate) few: i64,
     /// The change of cost in ten-thousandths; 0 without a swap.
     pub(crate) delta: i64,
+    /// The nets of its swap, if it has one and they are not too many.
+    pub(crate) nets: SwapNets,
 }
 
 impl Foreseen {
@@ -47,7 +50,7 @@ impl Foreseen {
 
 /// What is foreseen of a move that proposes no swap.
 fn without_swap(proposal: Proposal, words: [u32; 4]) -> Foreseen
-    ensures { result ≡ record { proposal = proposal; few = pos 0; delta = pos 0; words = words; accepted = false } }
+    ensures { (result.proposal ≡ proposal) × (result.few ≡ pos 0) × (result.delta ≡ pos 0) × (result.words ≡ words) × (result.accepted ≡ false) }
 {
     Foreseen {
         proposal,
@@ -55,6 +58,7 @@ fn without_swap(proposal: Proposal, words: [u32; 4]) -> Foreseen
         delta: 0,
         words,
         accepted: false,
+        nets: SwapNets::none(),
     }
 }
 
@@ -95,6 +99,7 @@ pub(crate) fn foresee<W: Words>(
                 delta,
                 words,
                 accepted: accepts(delta, view.t, words[3]),
+                nets: SwapNets::of(view.design, swap),
             }
         }
     }

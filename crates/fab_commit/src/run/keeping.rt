@@ -1,5 +1,5 @@
-//! What an annealer keeps of the moves that it makes: the number of each that it accepted, or how many there are; and whether it counts those
-//! that turns judge again.
+//! What an annealer keeps of the moves that it makes: the number of each that it accepted, or how many there are; and whether it tells how
+//! many moves turns judge again.
 
 ghost use Rattle.std.specs.Prelude.{◌≡◌, Bool};
 
@@ -8,19 +8,20 @@ pub trait Keeping {
     /// Whether the numbers of accepted moves are kept, as contracts see it.
     ghost numbers: { Bool };
 
-    /// Whether moves judged again are counted, as contracts see it.
+    /// Whether the annealer tells how many moves turns judge again, as contracts see it.
     ghost again: { Bool };
 
     /// Whether the numbers of accepted moves are kept.
     fn keeps() -> bool
         ensures { result ≡ numbers };
 
-    /// Whether moves judged again are counted.
-    fn counts() -> bool
+    /// Whether the annealer tells how many moves turns judge again. Then moves that the calling thread makes alone are counted where turns
+    /// would judge them again.
+    fn tells_redone() -> bool
         ensures { result ≡ again };
 }
 
-/// The number of each accepted move is kept, eight bytes a move, and moves judged again are counted.
+/// The number of each accepted move is kept, eight bytes a move, and the annealer tells how many moves turns judge again.
 pub struct KeepsNumbers;
 
 impl Keeping for KeepsNumbers {
@@ -34,7 +35,7 @@ impl Keeping for KeepsNumbers {
         true
     }
 
-    fn counts() -> bool {
+    fn tells_redone() -> bool {
         true
     }
 }
@@ -54,7 +55,7 @@ impl Keeping for KeepsCount {
         false
     }
 
-    fn counts() -> bool {
+    fn tells_redone() -> bool {
         false
     }
 }

@@ -17,6 +17,8 @@ pub(crate) struct Share {
 pub struct Post {
     /// The swaps that were accepted, in order.
     pub(crate) swaps: Vec<Accepted>,
+    /// The cost after them, in ten-thousandths.
+    pub(crate) cost: u64,
     /// The running stage after them.
     pub(crate) stage: Stage,
     pub(crate) ended: bool,

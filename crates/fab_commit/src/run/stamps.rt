@@ -10,9 +10,11 @@ ghost use Rattle.fab_move.specs.declared.marks.Mark.{Mark as IsMark};
 ghost use Rattle.fab_move.specs.declared.proposals.Proposal.TheVariants.{Move as proposes};
 ghost use Rattle.fab_move.specs.declared.marks.Mark.TheVariants.{Place as place_mark};
 ghost use Rattle.fab_move.specs.Judge.{block_marks, footprint, has_mark, other_marks, touched};
+ghost use Rattle.fab_commit.specs.Run.Foreseen.{AreKept, nets_on};
 ghost use Rattle.fab_commit.specs.Run.StampTables.{IsTable, IsWithin, kept_stamp};
 ghost use Rattle.fab_commit.specs.Model.Worlds.{IsBlock};
 
+use crate::run::swap_nets::SwapNets;
 use fab_arch::{Grid, Site};
 use fab_cost::has_many_terminals;
 use fab_move::{Mark, Proposal};
@@ -108,16 +110,18 @@ impl Stamps {
     }
 
     #[inline(always)]
-    /// Whether what a proposal rests on was touched by move `base` or a later one.
+    /// Whether what a proposal rests on was touched by move `base` or a later one. The nets of a proposed swap may be kept beside it.
     pub(crate) fn is_touched(
         &self,
         design: &Design,
         grid: &Grid,
         base: u64,
         proposal: Proposal,
+        nets: &SwapNets,
     ) -> bool
         requires block { (s : Swap) → proposal ≡ proposes s → s.block.0 < length design.now.kinds }
         requires other { (s : Swap) (b : BlockId) → proposal ≡ proposes s → s.other ≡ Some b → b.0 < length design.now.kinds }
+        requires nets { (s : Swap) → proposal ≡ proposes s → AreKept design.now s nets.now }
         ensures { result ≡ list_any (λ m. nat_lt base (kept_stamp grid.now self.now m)) (footprint design.now proposal) }
     {
         match proposal {
@@ -127,8 +131,13 @@ impl Stamps {
             }
             Proposal::Move(swap) => {
                 base < self.of_site(grid, swap.to)
-                    || (self.is_block_touched(design, base, swap.block)
-                        || self.is_other_touched(design, base, swap.other))
+                    || (self.is_block_touched(design, base, swap.block, nets.own(design, swap))
+                        || self.is_other_touched(
+                            design,
+                            base,
+                            swap.other,
+                            nets.other(design, swap),
+                        ))
             }
         }
     }
@@ -141,54 +150,77 @@ impl Stamps {
         grid: &Grid,
         base: u64,
         swap: Swap,
+        nets: &SwapNets,
     ) -> bool
         requires block { swap.block.0 < length design.now.kinds }
         requires other { (b : BlockId) → swap.other ≡ Some b → b.0 < length design.now.kinds }
+        requires nets { AreKept design.now swap nets.now }
         ensures { result ≡ list_any (λ m. nat_lt base (kept_stamp grid.now self.now m)) (footprint (few_of design.now) (proposes swap)) }
     {
         let place = self.of_site(grid, swap.to);
         base < place
-            || (self.is_block_touched_in_few(design, base, swap.block)
-                || self.is_other_touched_in_few(design, base, swap.other))
+            || (self.is_block_touched_in_few(design, base, swap.block, nets.own(design, swap))
+                || self.is_other_touched_in_few(design, base, swap.other, nets.other(design, swap)))
     }
 
     /// Whether a block or one of its nets with few terminals was touched by move `base` or a later one.
-    fn is_block_touched_in_few(&self, design: &Design, base: u64, block: BlockId) -> bool
-        requires { block.0 < length design.now.kinds }
+    fn is_block_touched_in_few(
+        &self,
+        design: &Design,
+        base: u64,
+        block: BlockId,
+        nets: &[NetId],
+    ) -> bool
+        requires block { block.0 < length design.now.kinds }
+        requires nets { nets.now ≡ nets_on design.now (Some block) }
         ensures { (g : GridShape) → result ≡ list_any (λ m. nat_lt base (kept_stamp g self.now m)) (block_marks (few_of design.now) block) }
     {
         let own = stamp_at(&self.blocks, block.0 as usize);
-        base < own || is_net_of_few_touched(&self.nets, design, base, design.nets_of(block))
+        base < own || is_net_of_few_touched(&self.nets, design, base, nets)
     }
 
     /// The same of the block that a swap displaces, if any.
-    fn is_other_touched_in_few(&self, design: &Design, base: u64, other: Option<BlockId>) -> bool
-        requires { (b : BlockId) → other ≡ Some b → b.0 < length design.now.kinds }
+    fn is_other_touched_in_few(
+        &self,
+        design: &Design,
+        base: u64,
+        other: Option<BlockId>,
+        nets: &[NetId],
+    ) -> bool
+        requires other { (b : BlockId) → other ≡ Some b → b.0 < length design.now.kinds }
+        requires nets { nets.now ≡ nets_on design.now other }
         ensures { (g : GridShape) → result ≡ list_any (λ m. nat_lt base (kept_stamp g self.now m)) (other_marks (few_of design.now) other) }
     {
         match other {
             None => false,
-            Some(block) => self.is_block_touched_in_few(design, base, block),
+            Some(block) => self.is_block_touched_in_few(design, base, block, nets),
         }
     }
 
-    /// Whether a block or one of its nets was touched by move `base` or a later one.
-    fn is_block_touched(&self, design: &Design, base: u64, block: BlockId) -> bool
-        requires { block.0 < length design.now.kinds }
-        ensures { (g : GridShape) → result ≡ list_any (λ m. nat_lt base (kept_stamp g self.now m)) (block_marks design.now block) }
+    #[inline(always)]
+    /// Whether a block or one of its nets, which are given, was touched by move `base` or a later one.
+    fn is_block_touched(&self, _design: &Design, base: u64, block: BlockId, nets: &[NetId]) -> bool
+        requires { nets.now ≡ nets_on _design.now (Some block) }
+        ensures { (g : GridShape) → result ≡ list_any (λ m. nat_lt base (kept_stamp g self.now m)) (block_marks _design.now block) }
     {
-        base < stamp_at(&self.blocks, block.0 as usize)
-            || is_net_touched(&self.nets, base, design.nets_of(block))
+        base < stamp_at(&self.blocks, block.0 as usize) || is_net_touched(&self.nets, base, nets)
     }
 
+    #[inline(always)]
     /// The same of the block that a swap displaces, if any.
-    fn is_other_touched(&self, design: &Design, base: u64, other: Option<BlockId>) -> bool
-        requires { (b : BlockId) → other ≡ Some b → b.0 < length design.now.kinds }
+    fn is_other_touched(
+        &self,
+        design: &Design,
+        base: u64,
+        other: Option<BlockId>,
+        nets: &[NetId],
+    ) -> bool
+        requires { nets.now ≡ nets_on design.now other }
         ensures { (g : GridShape) → result ≡ list_any (λ m. nat_lt base (kept_stamp g self.now m)) (other_marks design.now other) }
     {
         match other {
             None => false,
-            Some(block) => self.is_block_touched(design, base, block),
+            Some(block) => self.is_block_touched(design, base, block, nets),
         }
     }
 

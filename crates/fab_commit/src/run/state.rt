@@ -12,7 +12,7 @@ ghost use Rattle.fab_commit.specs.Run.Commits.{IsAdvanced, IsSound, heat_of, run
 use crate::run::numbers::note;
 use fab_arch::Grid;
 use fab_cost::{EdgeBoxes, WireCost};
-use fab_move::{Decision, Verdict, View, decide, judge};
+use fab_move::{Decision, Verdict, View, decide, judge, propose, weigh};
 use fab_net::Design;
 use fab_sched::{Schedule, Stage};
 use fab_site::{Fixed, Placement, Swap, Words};
@@ -248,6 +248,33 @@ pub(crate) fn decide_on<W: Words>(given: &Given<'_, W>, state: &State, number: u
     ensures decides { IsDecision result (judged_here (run_for W.moves given.now) (standing_of state.now) number) }
 {
     decide(&view_of(given, state), number)
+}
+
+#[inline(always)]
+/// The same, by the move's words.
+pub(crate) fn decide_by<W: Words>(
+    given: &Given<'_, W>,
+    state: &State,
+    number: u64,
+    words: [u32; 4],
+) -> Decision
+    requires sound { IsSound (run_for W.moves given.now) state.now }
+    requires going { state.now.ended ≡ false }
+    requires words { words ≡ W.moves given.now.words number }
+    ensures lawful { (s : Swap) → result.swap ≡ Some s → IsSwapOf given.now.grid.now state.now.placement.sites s }
+    ensures decides { IsDecision result (judged_here (run_for W.moves given.now) (standing_of state.now) number) }
+{
+    let _number = number;
+    let view = view_of(given, state);
+    let proposal = propose(
+        view.design,
+        view.grid,
+        view.fixed,
+        view.placement,
+        view.range,
+        words,
+    );
+    weigh(&view, proposal, words[3])
 }
 
 /// The running stage; `None` after the last move.

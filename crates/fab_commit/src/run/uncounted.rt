@@ -12,11 +12,10 @@ ghost use Rattle.fab_commit.specs.Run.Readings.{reading_at};
 ghost use Rattle.fab_commit.specs.Run.Uncounted.{AreMadeUncounted, IsFurther, IsIdle};
 
 use crate::run::alone::{AT_ONCE, at_once, show_state};
-use crate::run::foreseen::foresee;
 use crate::run::numbers::reserve_numbers;
 use crate::run::pipeline::Pipeline;
 use crate::run::stage::MovesPlan;
-use crate::run::state::{Given, State, commit};
+use crate::run::state::{Given, State, commit, decide_by};
 use fab_board::Gate;
 use fab_dial::Shower;
 use fab_site::Words;
@@ -41,8 +40,7 @@ fn commit_uncounted<W: Words, G: Gate>(
 {
     'moves: for i in 0..words.len() {
         let number = state.done;
-        let foreseen = foresee(given, state, number, words[i]);
-        let decision = foreseen.decision();
+        let decision = decide_by(given, state, number, words[i]);
         gate.after_judge(number);
         gate.before_commit(number);
         commit(given, state, &decision);

@@ -8,6 +8,7 @@ use Rattle.fab_commit.specs.Serial.{or_zero}
 use Rattle.fab_commit.specs.Run.Commits.{heat_of}
 use Rattle.fab_commit.specs.Run.StampTables.{kept_stamp}
 use Rattle.fab_commit.proofs.ModelLemmas.Noninterference.{judged_as-footprint}
+use Rattle.fab_commit.proofs.RunLemmas.SwapNets.{none_kept}
 use Rattle.fab_commit.proofs.RunLemmas.Owning.{within_of}
 use Rattle.fab_commit.proofs.run.alone.decided_alone.Goals as goal
 
@@ -26,6 +27,9 @@ is_touched-again-requires-clause-other g c s b e o =
     let sites = c.args.owner.now.state.placement.sites in
     let is = rw (c.view_of-view.ensures.grid, c.view_of-view.ensures.placement) at (c.propose-proposal.ensures.lawful s e) in
     rw o at (within_of d grid c.args.given.now.fixed sites s c.requires.owned.sound.legal is).other
+
+pub is_touched-again-requires-clause-nets : goal.is_touched-again-requires-clause-nets
+is_touched-again-requires-clause-nets g c s e = none_kept c.args.given.now.design.now s c.none-nets.result c.none-nets.ensures
 
 pub returns-clause-again : goal.returns-clause-again
 returns-clause-again g c =

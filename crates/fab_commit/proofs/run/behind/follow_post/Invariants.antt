@@ -1,5 +1,5 @@
 use Rattle.std.proofs.Common.{◌≡◌, drop}
-use Rattle.fab_cost.specs.Swapping.{CountedStandsFor}
+use Rattle.fab_cost.specs.Swapping.{BoxesStandFor}
 use Rattle.fab_commit.specs.Run.Behind.{all_swapped}
 use Rattle.fab_commit.specs.Run.Owners.{Leads}
 use Rattle.fab_commit.proofs.run.behind.follow_post.Given as goal
@@ -9,6 +9,6 @@ invariant-loop-accepted g l =
     let there = all_swapped l.initial.state.placement.sites l.post.swaps.items in
     record {
       array : l.state.placement.grid ≡ l.given.grid.now;
-      cost : CountedStandsFor l.state.cost l.given.design.now l.given.grid.now l.state.placement.sites;
+      cost : BoxesStandFor l.state.cost l.given.design.now l.given.grid.now l.state.placement.sites;
       leads : Leads l.given.grid.now l.state.placement.sites (drop l.accepted-index l.post.swaps.items) there;
     }

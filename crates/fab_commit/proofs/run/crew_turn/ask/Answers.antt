@@ -11,7 +11,7 @@ post-requires g c =
     let s = c.args.state.now in
     let x = standing_of s in
     let here = subst (λ (f : List Post × List Post). IsTied g.S.Pursue.run g.S.Pursue.standing g.S.Follow.after g.J.Origin.start f.0 r x) (sym c.fresh-none.ensures.same) c.requires.tied in
-    let is : IsPostOf s [] c.post_of.result = record { swaps_are = c.post_of.ensures.swaps ∙ c.fresh-none.ensures.empty; stage = c.post_of.ensures.stage; rest = c.post_of.ensures.rest } in
+    let is : IsPostOf s [] c.post_of.result = record { swaps_are = c.post_of.ensures.swaps ∙ c.fresh-none.ensures.empty; stage = c.post_of.ensures.stage; rest = c.post_of.ensures.rest; cost = c.post_of.ensures.cost } in
     record { may = (r, x, here, may_follow r x s [] c.post_of.result c.requires.sound refl is) }
 
 pub returns-clause-base : goal.returns-clause-base
@@ -27,5 +27,5 @@ returns-clause-tied g c = λ yes.
     let s = c.args.state.now in
     let x = standing_of s in
     let here = subst (λ (f : List Post × List Post). IsTied g.S.Pursue.run g.S.Pursue.standing g.S.Follow.after g.J.Origin.start f.0 r x) (sym c.fresh-none.ensures.same) c.requires.tied in
-    let is : IsPostOf s [] c.post_of.result = record { swaps_are = c.post_of.ensures.swaps ∙ c.fresh-none.ensures.empty; stage = c.post_of.ensures.stage; rest = c.post_of.ensures.rest } in
+    let is : IsPostOf s [] c.post_of.result = record { swaps_are = c.post_of.ensures.swaps ∙ c.fresh-none.ensures.empty; stage = c.post_of.ensures.stage; rest = c.post_of.ensures.rest; cost = c.post_of.ensures.cost } in
     subst (λ y. IsTied g.S.Pursue.run g.S.Pursue.standing g.S.Follow.after g.J.Origin.start c.post.new.self.0 r y) (after_is r x s [] c.post_of.result refl is) (c.post.ensures.tied r x here yes)

@@ -55,7 +55,7 @@ tell-requires g c =
     let made = c.in_ok-reserve.ensures.same r (owned_cleared r s cleared alone.owned refl refl refl) in
     let o = c.reserve.new.owner in
     let tied = subst (λ w. IfSome w (λ f. IsTied g.S.Pursue.run g.S.Pursue.standing g.S.Follow.after g.J.Origin.start f.0 r (standing_of o.state))) (sym c.fresh_list-none.ensures.same) (subst (λ x. IfSome c.args.followers.now (λ f. IsTied g.S.Pursue.run g.S.Pursue.standing g.S.Follow.after g.J.Origin.start f.0 r x)) (sym made.stands) c.requires.alone.2) in
-    let is : IsPostOf o.state [] c.post_of.result = record { swaps_are = c.post_of.ensures.swaps ∙ c.fresh_list-none.ensures.empty; stage = c.post_of.ensures.stage; rest = c.post_of.ensures.rest } in
+    let is : IsPostOf o.state [] c.post_of.result = record { swaps_are = c.post_of.ensures.swaps ∙ c.fresh_list-none.ensures.empty; stage = c.post_of.ensures.stage; rest = c.post_of.ensures.rest; cost = c.post_of.ensures.cost } in
     record { may = if_some _ _ c.fresh_list-none.new.followers tied (λ f h. (r, standing_of o.state, h, may_follow r (standing_of o.state) o.state [] c.post_of.result made.owned.sound refl is)) }
 
 pub tell-requires-2 : goal.tell-requires-2
@@ -67,11 +67,11 @@ tell-requires-2 g c =
     let made = c.in_ok-reserve.ensures.same r (owned_cleared r s cleared alone.owned refl refl refl) in
     let o = c.reserve.new.owner in
     let tied = subst (λ w. IfSome w (λ f. IsTied g.S.Pursue.run g.S.Pursue.standing g.S.Follow.after g.J.Origin.start f.0 r (standing_of o.state))) (sym c.fresh_list-none.ensures.same) (subst (λ x. IfSome c.args.followers.now (λ f. IsTied g.S.Pursue.run g.S.Pursue.standing g.S.Follow.after g.J.Origin.start f.0 r x)) (sym made.stands) c.requires.alone.2) in
-    let is : IsPostOf o.state [] c.post_of.result = record { swaps_are = c.post_of.ensures.swaps ∙ c.fresh_list-none.ensures.empty; stage = c.post_of.ensures.stage; rest = c.post_of.ensures.rest } in
+    let is : IsPostOf o.state [] c.post_of.result = record { swaps_are = c.post_of.ensures.swaps ∙ c.fresh_list-none.ensures.empty; stage = c.post_of.ensures.stage; rest = c.post_of.ensures.rest; cost = c.post_of.ensures.cost } in
     let on = c.tell.ensures.tied r (standing_of o.state) tied in
     let first = subst (λ x. IfSome c.tell.new.followers (λ f. IsTied g.S.Pursue.run g.S.Pursue.standing g.S.Follow.after g.J.Origin.start f.0 r x)) (after_is r (standing_of o.state) o.state [] c.post_of.result refl is) on in
     let second = subst (λ w. IfSome w (λ f. IsTied g.S.Pursue.run g.S.Pursue.standing g.S.Follow.after g.J.Origin.start f.0 r (standing_of o.state))) (sym c.fresh_list-none-2.ensures.same) first in
-    let again : IsPostOf o.state [] c.post_of-2.result = record { swaps_are = c.post_of-2.ensures.swaps ∙ c.fresh_list-none-2.ensures.empty; stage = c.post_of-2.ensures.stage; rest = c.post_of-2.ensures.rest } in
+    let again : IsPostOf o.state [] c.post_of-2.result = record { swaps_are = c.post_of-2.ensures.swaps ∙ c.fresh_list-none-2.ensures.empty; stage = c.post_of-2.ensures.stage; rest = c.post_of-2.ensures.rest; cost = c.post_of-2.ensures.cost } in
     record { may = if_some _ _ c.fresh_list-none-2.new.followers second (λ f h. (r, standing_of o.state, h, may_follow r (standing_of o.state) o.state [] c.post_of-2.result made.owned.sound refl again)) }
 
 pub commit_alone-requires-clause-owned : goal.commit_alone-requires-clause-owned
@@ -118,7 +118,7 @@ commit_by-requires-clause-due g c κs within =
     let same : moves_left r (standing_of o.state) ≡ moves_left r (standing_of s.state) = ap (moves_left r) ready.stands in
     let next = open_here r c.requires.alone.0 s o c.commit_alone.new.owner c.args.ahead c.min-kept.result (c.min-moves.result - c.min-kept.result) alone ready c.commit_alone.ensures.made (omega (arith, kept, moves, left, same)) in
     let tied = subst (λ w. IfSome w (λ f. IsTied g.S.Pursue.run g.S.Pursue.standing g.S.Follow.after g.J.Origin.start f.0 r (standing_of o.state))) (sym c.fresh_list-none.ensures.same) (subst (λ x. IfSome c.args.followers.now (λ f. IsTied g.S.Pursue.run g.S.Pursue.standing g.S.Follow.after g.J.Origin.start f.0 r x)) (sym made.stands) c.requires.alone.2) in
-    let is : IsPostOf o.state [] c.post_of.result = record { swaps_are = c.post_of.ensures.swaps ∙ c.fresh_list-none.ensures.empty; stage = c.post_of.ensures.stage; rest = c.post_of.ensures.rest } in
+    let is : IsPostOf o.state [] c.post_of.result = record { swaps_are = c.post_of.ensures.swaps ∙ c.fresh_list-none.ensures.empty; stage = c.post_of.ensures.stage; rest = c.post_of.ensures.rest; cost = c.post_of.ensures.cost } in
     let on = c.tell.ensures.tied r (standing_of o.state) tied in
     let first = subst (λ x. IfSome c.tell.new.followers (λ f. IsTied g.S.Pursue.run g.S.Pursue.standing g.S.Follow.after g.J.Origin.start f.0 r x)) (after_is r (standing_of o.state) o.state [] c.post_of.result refl is) on in
     let second = subst (λ w. IfSome w (λ f. IsTied g.S.Pursue.run g.S.Pursue.standing g.S.Follow.after g.J.Origin.start f.0 r (standing_of o.state))) (sym c.fresh_list-none-2.ensures.same) first in
@@ -173,11 +173,11 @@ returns-clause-tied g c =
     let made = c.in_ok-reserve.ensures.same r (owned_cleared r s cleared alone.owned refl refl refl) in
     let o = c.reserve.new.owner in
     let tied = subst (λ w. IfSome w (λ f. IsTied g.S.Pursue.run g.S.Pursue.standing g.S.Follow.after g.J.Origin.start f.0 r (standing_of o.state))) (sym c.fresh_list-none.ensures.same) (subst (λ x. IfSome c.args.followers.now (λ f. IsTied g.S.Pursue.run g.S.Pursue.standing g.S.Follow.after g.J.Origin.start f.0 r x)) (sym made.stands) c.requires.alone.2) in
-    let is : IsPostOf o.state [] c.post_of.result = record { swaps_are = c.post_of.ensures.swaps ∙ c.fresh_list-none.ensures.empty; stage = c.post_of.ensures.stage; rest = c.post_of.ensures.rest } in
+    let is : IsPostOf o.state [] c.post_of.result = record { swaps_are = c.post_of.ensures.swaps ∙ c.fresh_list-none.ensures.empty; stage = c.post_of.ensures.stage; rest = c.post_of.ensures.rest; cost = c.post_of.ensures.cost } in
     let on = c.tell.ensures.tied r (standing_of o.state) tied in
     let first = subst (λ x. IfSome c.tell.new.followers (λ f. IsTied g.S.Pursue.run g.S.Pursue.standing g.S.Follow.after g.J.Origin.start f.0 r x)) (after_is r (standing_of o.state) o.state [] c.post_of.result refl is) on in
     let second = subst (λ w. IfSome w (λ f. IsTied g.S.Pursue.run g.S.Pursue.standing g.S.Follow.after g.J.Origin.start f.0 r (standing_of o.state))) (sym c.fresh_list-none-2.ensures.same) first in
-    let again : IsPostOf o.state [] c.post_of-2.result = record { swaps_are = c.post_of-2.ensures.swaps ∙ c.fresh_list-none-2.ensures.empty; stage = c.post_of-2.ensures.stage; rest = c.post_of-2.ensures.rest } in
+    let again : IsPostOf o.state [] c.post_of-2.result = record { swaps_are = c.post_of-2.ensures.swaps ∙ c.fresh_list-none-2.ensures.empty; stage = c.post_of-2.ensures.stage; rest = c.post_of-2.ensures.rest; cost = c.post_of-2.ensures.cost } in
     let more = c.tell-2.ensures.tied r (standing_of o.state) second in
     let both = subst (λ x. IfSome c.tell-2.new.followers (λ f. IsTied g.S.Pursue.run g.S.Pursue.standing g.S.Follow.after g.J.Origin.start f.0 r x)) (after_is r (standing_of o.state) o.state [] c.post_of-2.result refl again ∙ made.stands) more in
     subst (λ w. IfSome w (λ f. IsTied g.S.Pursue.run g.S.Pursue.standing g.S.Follow.after g.J.Origin.start f.0 r (standing_of s.state))) (sym c.commit_by.ensures.same) both

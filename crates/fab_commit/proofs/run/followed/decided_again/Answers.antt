@@ -1,11 +1,7 @@
-use Rattle.std.proofs.Common.{◌≡◌, to_z, of_z, w64, rules, refl, sym, ap, subst, ◌∙◌}
+use Rattle.std.proofs.Common.{◌≡◌, to_z, of_z, w64, rules, sym, subst, ◌∙◌}
 use Rattle.std.specs.Prelude.{slice_index}
-use Rattle.fab_move.specs.declared.verdicts.Decision.{Decision}
-use Rattle.fab_move.specs.Judge.{IsDecision}
-use Rattle.fab_commit.specs.Serial.{judged_here}
 use Rattle.fab_commit.specs.Run.Commits.{run_for, standing_of}
 use Rattle.fab_commit.specs.Run.Foreseen.{IsStill}
-use Rattle.fab_commit.proofs.ModelLemmas.Happening.{taken_lawful}
 use Rattle.fab_commit.proofs.RunLemmas.Larger.{still}
 use Rattle.fab_commit.proofs.run.followed.decided_again.Goals as goal
 
@@ -18,6 +14,9 @@ is_swap_touched_in_few-requires-clause-block g c = c.requires.due.1.block c.in-M
 pub is_swap_touched_in_few-requires-clause-other : goal.is_swap_touched_in_few-requires-clause-other
 is_swap_touched_in_few-requires-clause-other g c b e = c.requires.due.1.other c.in-Move.swap b c.in-Move.is e
 
+pub is_swap_touched_in_few-requires-clause-nets : goal.is_swap_touched_in_few-requires-clause-nets
+is_swap_touched_in_few-requires-clause-nets g c = c.requires.due.1.nets c.in-Move.swap c.in-Move.is
+
 pub decided_by_large-requires-clause-word : goal.decided_by_large-requires-clause-word
 decided_by_large-requires-clause-word g c = (λ i. slice_index (c.words_again-words.ensures i) 3)
 
@@ -29,15 +28,7 @@ decided_by_large-requires-clause-still g c =
     (still r c.args.owner.now c.args.base c.args.foreseen.now c.in-Move.swap c.requires.owned c.requires.due.0 c.requires.due.1 c.in-Move.is (sym c.is_swap_touched_in_few.ensures ∙ c.if-not-is_swap_touched_in_few.true))
 
 pub returns-clause-lawful : goal.returns-clause-lawful
-returns-clause-lawful g c = λ s e.
-    let r = run_for g.W.Words.moves c.args.given.now in
-    let o = c.args.owner.now in
-    let is = c.foresee-fresh.ensures in
-    taken_lawful r o.state (judged_here r (standing_of o.state) o.state.done) o.state.done c.requires.owned.sound refl (λ z h. is.kind z (is.decides.swap ∙ h)) s
-    (sym is.decides.swap ∙ ap (λ (d : Decision). d.swap) (sym c.decision.ensures) ∙ e)
+returns-clause-lawful g c = c.decide_by.ensures.lawful
 
 pub returns-clause-decides : goal.returns-clause-decides
-returns-clause-decides g c =
-    let r = run_for g.W.Words.moves c.args.given.now in
-    let o = c.args.owner.now in
-    subst (λ d. IsDecision d (judged_here r (standing_of o.state) o.state.done)) (sym c.decision.ensures) c.foresee-fresh.ensures.decides
+returns-clause-decides g c = c.decide_by.ensures.decides

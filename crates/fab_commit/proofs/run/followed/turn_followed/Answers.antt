@@ -46,7 +46,7 @@ tell-requires g c =
     let made = c.in_ok-reserve.ensures.same r (owned_cleared r s cleared alone.owned refl refl refl) in
     let tied = subst (λ o. IfSome o (λ f. IsTied g.S.Pursue.run g.S.Pursue.standing g.S.Follow.after g.J.Origin.start f.0 r t.start)) (sym c.fresh_list.ensures.same) c.requires.alone.2 in
     let leads = subst (Leads r.problem.grid t.start.sites s.swaps.items) (sym (ap (λ (x : Standing). x.sites) made.stands)) c.requires.alone.3 in
-    let is : IsPostOf c.reserve.new.owner.state s.swaps.items c.post_of.result = record { swaps_are = c.post_of.ensures.swaps ∙ ap (λ v. v.items) c.replace-swaps.ensures.value; stage = c.post_of.ensures.stage; rest = c.post_of.ensures.rest } in
+    let is : IsPostOf c.reserve.new.owner.state s.swaps.items c.post_of.result = record { swaps_are = c.post_of.ensures.swaps ∙ ap (λ v. v.items) c.replace-swaps.ensures.value; stage = c.post_of.ensures.stage; rest = c.post_of.ensures.rest; cost = c.post_of.ensures.cost } in
     record { may = if_some _ _ c.fresh_list.new.followers tied (λ f h. (r, t.start, h, may_follow r t.start c.reserve.new.owner.state s.swaps.items c.post_of.result made.owned.sound leads is)) }
 
 pub commit_by-requires-clause-owned : goal.commit_by-requires-clause-owned
@@ -151,7 +151,7 @@ returns-clause-tied g c =
     let made = c.in_ok-reserve.ensures.same r (owned_cleared r s cleared alone.owned refl refl refl) in
     let tied = subst (λ o. IfSome o (λ f. IsTied g.S.Pursue.run g.S.Pursue.standing g.S.Follow.after g.J.Origin.start f.0 r t.start)) (sym c.fresh_list.ensures.same) c.requires.alone.2 in
     let leads = subst (Leads r.problem.grid t.start.sites s.swaps.items) (sym (ap (λ (x : Standing). x.sites) made.stands)) c.requires.alone.3 in
-    let is : IsPostOf o.state s.swaps.items c.post_of.result = record { swaps_are = c.post_of.ensures.swaps ∙ ap (λ v. v.items) c.replace-swaps.ensures.value; stage = c.post_of.ensures.stage; rest = c.post_of.ensures.rest } in
+    let is : IsPostOf o.state s.swaps.items c.post_of.result = record { swaps_are = c.post_of.ensures.swaps ∙ ap (λ v. v.items) c.replace-swaps.ensures.value; stage = c.post_of.ensures.stage; rest = c.post_of.ensures.rest; cost = c.post_of.ensures.cost } in
     let on = c.tell.ensures.tied r t.start tied in
     subst (λ o. IfSome o (λ f. IsTied g.S.Pursue.run g.S.Pursue.standing g.S.Follow.after g.J.Origin.start f.0 r (standing_of s.state))) (sym c.commit_by.ensures.same)
     (subst (λ x. IfSome c.tell.new.followers (λ f. IsTied g.S.Pursue.run g.S.Pursue.standing g.S.Follow.after g.J.Origin.start f.0 r x)) (after_is r t.start o.state s.swaps.items c.post_of.result leads is ∙ made.stands) on)

@@ -1,6 +1,7 @@
-use Rattle.std.proofs.Common.{◌≡◌, ◌+ℤ◌, to_z, of_z, w64, FitsSigned, rules, sym, ap, subst, ◌∙◌, refl}
+use Rattle.std.proofs.Common.{◌≡◌, ◌<◌, length, ◌+ℤ◌, to_z, of_z, w64, FitsSigned, rules, sym, ap, subst, ◌∙◌, refl}
 use Rattle.std.specs.Prelude.{slice_index}
 use Rattle.fab_arch.specs.Grid.{kind_at}
+use Rattle.fab_net.specs.Netlist.{Netlist}
 use Rattle.fab_site.specs.declared.pieces.Swap.{Swap}
 use Rattle.fab_cost.specs.Runs.{few_of}
 use Rattle.fab_cost.specs.Swapping.{change}
@@ -9,8 +10,9 @@ use Rattle.fab_move.specs.Accept.{is_accepted}
 use Rattle.fab_move.specs.declared.proposals.Proposal.TheVariants.{Move}
 use Rattle.fab_move.specs.Propose.{proposal}
 use Rattle.fab_commit.specs.Serial.{or_zero}
+use Rattle.fab_commit.specs.Model.Worlds.{IsBlock}
 use Rattle.fab_commit.specs.Run.Commits.{heat_of, run_for, standing_of}
-use Rattle.fab_commit.specs.Run.Foreseen.{IsForeseen, swap_in}
+use Rattle.fab_commit.specs.Run.Foreseen.{AreKept, IsForeseen, swap_in}
 use Rattle.fab_commit.specs.Run.StampTables.{IsWithin}
 use Rattle.fab_commit.proofs.RunLemmas.Foreseeing.{foreseen_by, foreseen_none, move_is}
 use Rattle.fab_commit.proofs.RunLemmas.Owning.{within_of}
@@ -22,8 +24,9 @@ returns-in-Nothing g c =
     let v = c.view_of-view.ensures in
     let r = run_for g.W.Words.moves given in
     let is = c.propose-proposal.ensures.value ∙ (λ i. proposal (v.design i) (v.grid i) (v.fixed i) (v.placement i).sites (v.range i) (c.requires.words i)) in
-    subst (IsForeseen r (standing_of c.args.state.now) c.args.number) (sym c.without_swap.ensures)
-    (foreseen_none r (standing_of c.args.state.now) c.args.number c.propose-proposal.result c.args.words is c.requires.words (ap swap_in c.in-Nothing.is))
+    let e = c.without_swap.ensures in
+    foreseen_none r (standing_of c.args.state.now) c.args.number c.propose-proposal.result c.args.words c.without_swap.result
+    (record { proposal = e.0; delta = e.2; words = e.3; accepted = e.4 }) is c.requires.words (ap swap_in c.in-Nothing.is)
 
 pub returns-in-Void : goal.returns-in-Void
 returns-in-Void g c =
@@ -31,8 +34,27 @@ returns-in-Void g c =
     let v = c.view_of-view.ensures in
     let r = run_for g.W.Words.moves given in
     let is = c.propose-proposal.ensures.value ∙ (λ i. proposal (v.design i) (v.grid i) (v.fixed i) (v.placement i).sites (v.range i) (c.requires.words i)) in
-    subst (IsForeseen r (standing_of c.args.state.now) c.args.number) (sym c.without_swap-in-Void.ensures)
-    (foreseen_none r (standing_of c.args.state.now) c.args.number c.propose-proposal.result c.args.words is c.requires.words (ap swap_in c.in-Void.is))
+    let e = c.without_swap-in-Void.ensures in
+    foreseen_none r (standing_of c.args.state.now) c.args.number c.propose-proposal.result c.args.words c.without_swap-in-Void.result
+    (record { proposal = e.0; delta = e.2; words = e.3; accepted = e.4 }) is c.requires.words (ap swap_in c.in-Void.is)
+
+pub of-requires-clause-block : goal.of-requires-clause-block
+of-requires-clause-block g c =
+    let given = c.args.given.now in
+    let v = c.view_of-view.ensures in
+    let s = c.in-Move.swap in
+    let lawful = rw (v.grid, v.placement) at (c.propose-proposal.ensures.lawful s c.in-Move.is) in
+    let within = within_of given.design.now given.grid.now given.fixed c.args.state.now.placement.sites s c.requires.sound.legal lawful in
+    subst (λ (k : Netlist). s.block.0 < length k.kinds) (sym v.design) within.block
+
+pub of-requires-clause-other : goal.of-requires-clause-other
+of-requires-clause-other g c b e =
+    let given = c.args.given.now in
+    let v = c.view_of-view.ensures in
+    let s = c.in-Move.swap in
+    let lawful = rw (v.grid, v.placement) at (c.propose-proposal.ensures.lawful s c.in-Move.is) in
+    let within = within_of given.design.now given.grid.now given.fixed c.args.state.now.placement.sites s c.requires.sound.legal lawful in
+    subst (λ (k : Netlist). b.0 < length k.kinds) (sym v.design) (subst (IsBlock given.design.now) e within.other)
 
 pub delta_parts-few-requires-clause-lawful : goal.delta_parts-few-requires-clause-lawful
 delta_parts-few-requires-clause-lawful g c = c.propose-proposal.ensures.lawful c.in-Move.swap c.in-Move.is
@@ -76,4 +98,5 @@ returns-in-Move g c =
       few = λ z e. few ∙ ap (change (few_of d) grid sites) (move_is s z e);
       within = λ z e. subst (λ (u : Swap). IsWithin d grid u) (move_is s z e) within;
       kind = λ z e. subst (λ (u : Swap). kind_at grid u.to ≡ kind_at grid u.from) (move_is s z e) lawful.kind;
+      nets = λ z e. subst (λ (u : Swap). AreKept d u c.of.result) (move_is s z e) (subst (λ k. AreKept k s c.of.result) v.design c.of.ensures);
     })

@@ -1,10 +1,6 @@
-use Rattle.std.proofs.Common.{◌≡◌, ◌+◌, length, refl, sym, ap, subst, ◌∙◌, arith}
-use Rattle.fab_move.specs.declared.verdicts.Decision.{Decision}
-use Rattle.fab_move.specs.Judge.{IsDecision}
-use Rattle.fab_commit.specs.Serial.{judged_here}
-use Rattle.fab_commit.specs.Run.Commits.{run_for, standing_of}
+use Rattle.std.proofs.Common.{◌≡◌, ◌+◌, length, subst, arith}
+use Rattle.fab_commit.specs.Run.Commits.{run_for}
 use Rattle.fab_commit.specs.Run.Uncounted.{IsFurther}
-use Rattle.fab_commit.proofs.ModelLemmas.Happening.{taken_lawful}
 use Rattle.fab_commit.proofs.RunLemmas.Further.{further_going, further_more, further_none, further_one}
 use Rattle.fab_commit.proofs.RunLemmas.Noting.{room_less}
 use Rattle.fab_commit.proofs.run.uncounted.commit_uncounted.Goals as goal
@@ -14,11 +10,11 @@ moves-init g c =
     let s = c.args.state.now in
     (further_none (run_for g.W.Words.moves c.args.given.now) s c.requires.sound, (λ n h. room_less s.accepted (0 + n) n (omega arith) h))
 
-pub foresee-foreseen-requires-clause-sound : goal.foresee-foreseen-requires-clause-sound
-foresee-foreseen-requires-clause-sound g c = c.moves.invariant.0.sound
+pub decide_by-decision-requires-clause-sound : goal.decide_by-decision-requires-clause-sound
+decide_by-decision-requires-clause-sound g c = c.moves.invariant.0.sound
 
-pub foresee-foreseen-requires-clause-going : goal.foresee-foreseen-requires-clause-going
-foresee-foreseen-requires-clause-going g c =
+pub decide_by-decision-requires-clause-going : goal.decide_by-decision-requires-clause-going
+decide_by-decision-requires-clause-going g c =
     let low = c.moves-test.true in
     let left = c.requires.left in
     further_going (run_for g.W.Words.moves c.args.given.now) c.args.state.now c.moves.state c.moves.i c.moves.invariant.0 (omega (arith, low, left))
@@ -35,18 +31,10 @@ commit-requires-clause-room g c =
     c.moves.invariant.1 1 (room_less c.args.state.now.accepted (length c.args.words.now) (c.moves.i + 1) (omega (arith, low)) c.requires.room)
 
 pub commit-requires-clause-lawful : goal.commit-requires-clause-lawful
-commit-requires-clause-lawful g c = λ s e.
-    let r = run_for g.W.Words.moves c.args.given.now in
-    let mid = c.moves.state in
-    let is = c.foresee-foreseen.ensures in
-    taken_lawful r mid (judged_here r (standing_of mid) mid.done) mid.done c.moves.invariant.0.sound refl (λ z h. is.kind z (is.decides.swap ∙ h)) s
-    (sym is.decides.swap ∙ ap (λ (d : Decision). d.swap) (sym c.decision-decision.ensures) ∙ e)
+commit-requires-clause-lawful g c = c.decide_by-decision.ensures.lawful
 
 pub commit-requires-clause-decides : goal.commit-requires-clause-decides
-commit-requires-clause-decides g c =
-    let r = run_for g.W.Words.moves c.args.given.now in
-    let mid = c.moves.state in
-    subst (λ d. IsDecision d (judged_here r (standing_of mid) mid.done)) (sym c.decision-decision.ensures) c.foresee-foreseen.ensures.decides
+commit-requires-clause-decides g c = c.decide_by-decision.ensures.decides
 
 pub moves-preserved : goal.moves-preserved
 moves-preserved g c =

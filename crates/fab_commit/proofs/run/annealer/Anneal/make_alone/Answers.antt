@@ -87,8 +87,8 @@ invariant_of-self g c =
     let made = subst (λ (v : Given g.row.W.Denot). AreMadeUncounted (run_for moves v) batch count s.owner.state now.owner.state answer old new) c.deref-given.ensures c.finish_uncounted.ensures.made in
     (subst (λ (v : Given g.row.W.Denot). HasTurn (run_for moves v) now) c.deref-given.ensures c.finish_uncounted.ensures.left, since_further (run_for moves given) g.K.Keeping.numbers a.before (standing_of a.began.value) batch count s.owner.state now.owner.state answer old new made c.self.invariant.1)
 
-pub returns-then-not-counts-clause-made : goal.returns-then-not-counts-clause-made
-returns-then-not-counts-clause-made g c =
+pub returns-then-not-tells_redone-clause-made : goal.returns-then-not-tells_redone-clause-made
+returns-then-not-tells_redone-clause-made g c =
     let a = c.self.inside in
     let moves = g.W.Words.moves in
     let given = arc_value a.given in
@@ -103,4 +103,4 @@ returns-then-not-counts-clause-made g c =
     let x = standing_of a.began.value in
     let made = subst (λ (v : Given g.row.W.Denot). AreMadeUncounted (run_for moves v) batch count s.owner.state now.owner.state answer old new) c.deref-given.ensures c.finish_uncounted.ensures.made in
     subst (λ m. IsMade moves batch count m (seen moves given x now) answer old new) c.self.view_is
-    (made_uncounted moves given x batch count s now answer old new since.after since.here made c.finish_uncounted.ensures.idle)
+    (made_uncounted moves given x batch count s now answer old new since.after since.here made c.finish_uncounted.ensures.idle (subst (λ (v : Given g.row.W.Denot). HasTurn (run_for moves v) now) c.deref-given.ensures c.finish_uncounted.ensures.left))
