@@ -9,14 +9,14 @@ use Rattle.fab_commit.proofs.RunLemmas.Owning.{made_more}
 use Rattle.fab_commit.proofs.RunLemmas.Pipelining.{count_both}
 use Rattle.fab_commit.proofs.run.followed.commit_followed.Goals as goal
 
-pub commit_next-requires-clause-room : goal.commit_next-requires-clause-room
-commit_next-requires-clause-room g c κs within =
+pub commit_next-made-requires-clause-room : goal.commit_next-made-requires-clause-room
+commit_next-made-requires-clause-room g c κs within =
     let low = c.loop-made.invariant.low in
     let more = c.loop-made-test.true in
     c.loop-made.invariant.room (c.args.share.moves - c.loop-made.made) (has_less c.args.owner.now c.args.share.moves (c.loop-made.made + (c.args.share.moves - c.loop-made.made)) (omega (arith, low, more)) c.requires.room)
 
-pub commit_next-requires-clause-due : goal.commit_next-requires-clause-due
-commit_next-requires-clause-due g c κs within =
+pub commit_next-made-requires-clause-due : goal.commit_next-made-requires-clause-due
+commit_next-made-requires-clause-due g c κs within =
     let r = run_for g.W.Words.moves c.args.given.now in
     let low = c.loop-made.invariant.low in
     let more = c.loop-made-test.true in
@@ -28,28 +28,28 @@ loop-made-preserved g c =
     let r = run_for g.W.Words.moves c.args.given.now in
     let o = c.args.owner.now in
     let mid = c.loop-made.owner in
-    let now = c.commit_next.new.owner in
+    let now = c.commit_next-made.new.owner in
     let n = c.loop-made.made in
-    let m = c.commit_next.result in
+    let m = c.commit_next-made.result in
     let inv = c.loop-made.invariant in
-    let some = c.commit_next.ensures.some in
+    let some = c.commit_next-made.ensures.some in
     let low = inv.low in
     let more = c.loop-made-test.true in
     record {
       low = omega (arith, low, more, some);
-      same = c.commit_next.ensures.same ∙ inv.same;
-      has = made_more r o mid now n m inv.has c.commit_next.ensures.made;
+      same = c.commit_next-made.ensures.same ∙ inv.same;
+      has = made_more r o mid now n m inv.has c.commit_next-made.ensures.made;
       redone = λ due.
           let next = open_later r o mid c.args.share.first c.args.share.moves n (c.args.share.moves - n) due inv.has (omega (arith, low, more)) in
           let before = inv.redone due in
-          let after = c.commit_next.ensures.redone next.due in
+          let after = c.commit_next-made.ensures.redone next.due in
           let done = inv.has.done in
           let p = is_redone r due.start c.args.share.first in
           let part : count_by (is_redone r next.due.start c.args.share.first) (range_with_len mid.state.done m) ≡ count_by p (range_with_len (o.state.done + n) m) =
           (λ i. count_by (is_redone r (next.is i) c.args.share.first) (range_with_len (done i) m)) in
           let both = count_both p o.state.done n m in
           omega (arith, before, after, part, both);
-      room = λ k h. c.commit_next.ensures.room k (inv.room (m + k) (has_less o (n + m + k) (n + (m + k)) (omega arith) h));
+      room = λ k h. c.commit_next-made.ensures.room k (inv.room (m + k) (has_less o (n + m + k) (n + (m + k)) (omega arith) h));
     }
 
 pub returns-clause-redone : goal.returns-clause-redone
