@@ -369,6 +369,13 @@ impl<S: Follow<E, T>, E: Drop, T: Drop, J: Naming + Boarding + Origin<S>> Shared
         }
     }
 
+    /// Keeps a unit, whose turn is not posted yet, from the workers.
+    pub(crate) fn keep(&self, unit: u64) {
+        if let Some(place) = self.place_of(unit) {
+            place.word.store(ready(unit), Ordering::SeqCst);
+        }
+    }
+
     /// Waits until a unit that somebody has taken is judged.
     pub(crate) fn wait_for<R: Wait>(&self, rt: &R, unit: u64) {
         if let Some(place) = self.place_of(unit) {

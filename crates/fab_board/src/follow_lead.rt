@@ -10,6 +10,7 @@ use crate::claimer::Boarding;
 use crate::follow::{Follow, Follower, Origin, Posted, Sheet, judge_unit};
 use crate::follow_crew::{Fetched, Shared, new_shared};
 use crate::plan::Plan;
+use crate::shares::Shares;
 use std::alloc::{AllocError, Global};
 use std::marker::Model;
 use std::mem;
@@ -32,6 +33,8 @@ pub struct Lead<S: Follow<E, T>, E: Drop, T: Drop, J: Naming + Boarding + Origin
     helped: u64,
     /// A sheet for a unit that the owner helps with.
     spare: Sheet<S, E, T, J>,
+    /// Which units are the owner's own. None are kept from the workers where it judges on its own state.
+    shares: Option<Shares>,
 }
 
 impl<S: Follow<E, T>, E: Drop, T: Drop, J: Naming + Boarding + Origin<S>> Model
@@ -60,6 +63,7 @@ impl<S: Follow<E, T>, E: Drop, T: Drop, J: Naming + Boarding + Origin<S>> Lead<S
         self.make_room(rt, number);
         self.due = self.asked;
         self.asked = self.mine.asked(&post);
+        self.keep_units(number);
         let old = self
             .shared
             .put(rt, number, Posted::new(post, front.again()));
@@ -74,9 +78,90 @@ impl<S: Follow<E, T>, E: Drop, T: Drop, J: Naming + Boarding + Origin<S>> Lead<S
         if self.shared.is_room(self.followed, number) {
             return;
         }
-        self.shared.follow_to(rt, &mut self.mine, number);
+        if self.shares.is_none() {
+            self.shared.follow_to(rt, &mut self.mine, number);
+        }
         self.shared.wait_for_all(rt, self.shared.goal_for(number));
         self.followed = self.shared.followed_by_all();
+    }
+
+    /// From now on the owner's own state follows nothing, and what no worker judges is left to the owner. [`Lead::look`] says so.
+    pub fn leave_to_owner(&mut self)
+        ensures { self.new ≡ self.old }
+    {
+        self.shares = Some(Shares::none());
+    }
+
+    /// Before a turn is posted, keeps some of its units from the workers.
+    fn keep_units(&mut self, turn: u64)
+        ensures { self.new ≡ self.old }
+    {
+        let plan = self.shared.plan;
+        if let Some(shares) = &mut self.shares {
+            let kept = shares.next_turn(plan.units());
+            let first = plan.unit_of(turn, 0);
+            for i in 0..kept {
+                self.shared.keep(first.saturating_add(i));
+            }
+        }
+    }
+
+    /// Brings the sheet with the number's answer, as [`Lead::seek`] does, if a worker has judged it, and waits for one that does. Returns 0
+    /// then, and else how many numbers from this one on no worker judges. Where the owner judges on its own state, it seeks the answer.
+    pub fn look<R: Wait>(&mut self, rt: &R, number: u64, sheet: &mut Sheet<S, E, T, J>) -> u64
+        ensures { self.new ≡ self.old }
+    {
+        if sheet.has(number) && sheet.is_after(&self.base) {
+            return 0;
+        }
+        if self.shares.is_none() {
+            self.seek(rt, number, sheet);
+            return 0;
+        }
+        let Some(unit) = self.unit_of(number) else {
+            return 0;
+        };
+        if self.is_left(rt, unit, sheet) {
+            self.shared.plan.size()
+        } else {
+            0
+        }
+    }
+
+    /// Whether a unit is left to the owner. If not, brings its sheet once it is judged.
+    fn is_left<R: Wait>(&mut self, rt: &R, unit: u64, sheet: &mut Sheet<S, E, T, J>) -> bool
+        ensures { self.new ≡ self.old }
+    {
+        let Some(shares) = &mut self.shares else {
+            return false;
+        };
+        if shares.is_kept(unit % self.shared.plan.units().max(1)) {
+            return true;
+        }
+        for _ in rt.forever() {
+            match self.shared.fetch(rt, unit, sheet) {
+                Fetched::Here => return false,
+                Fetched::Mine => return true,
+                Fetched::Taken => {
+                    shares.was_late();
+                    self.shared.wait_for(rt, unit);
+                }
+            }
+        }
+        unreachable!()
+    }
+
+    /// The unit of a number that this turn asked for; `None` if it did not.
+    fn unit_of(&self, number: u64) -> Option<u64> {
+        let begin = number.saturating_sub(self.due.0);
+        let plan = self.shared.plan;
+        if number < self.due.0
+            || begin >= self.due.1
+            || begin >= plan.units().saturating_mul(plan.size())
+        {
+            return None;
+        }
+        Some(plan.unit_of(self.base.len().saturating_sub(1), begin))
     }
 
     /// Brings the sheet with the number's answer, judged on the state after the posts of this turn's base, and leaves a used one.
@@ -123,17 +208,13 @@ impl<S: Follow<E, T>, E: Drop, T: Drop, J: Naming + Boarding + Origin<S>> Lead<S
     fn fetch<R: Wait>(&mut self, rt: &R, number: u64, sheet: &mut Sheet<S, E, T, J>)
         ensures { self.new ≡ self.old }
     {
-        let begin = number.saturating_sub(self.due.0);
-        let plan = self.shared.plan;
-        if number < self.due.0
-            || begin >= self.due.1
-            || begin >= plan.units().saturating_mul(plan.size())
-        {
+        let Some(unit) = self.unit_of(number) else {
             return;
-        }
+        };
         let turn = self.base.len().saturating_sub(1);
-        let unit = plan.unit_of(turn, begin);
-        let end = plan
+        let end = self
+            .shared
+            .plan
             .unit_of(turn, self.due.1.saturating_sub(1))
             .saturating_add(1);
         for _ in rt.forever() {
@@ -216,6 +297,7 @@ impl<S: Follow<E, T>, E: Drop, T: Drop, J: Naming + Boarding + Origin<S>> Drop
             followed: _,
             helped: _,
             spare: _,
+            shares: _,
         } = self;
         shared.send_home();
     }
@@ -260,6 +342,7 @@ pub fn new_crew<S: Follow<E, T>, E: Drop, T: Drop, J: Naming + Boarding + Origin
         followed: 0,
         helped: 0,
         spare,
+        shares: None,
     };
     Ok((crew, lead))
 }

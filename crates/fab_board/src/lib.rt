@@ -12,6 +12,7 @@ mod gate;
 mod judge;
 mod plan;
 mod rule;
+mod shares;
 mod slots;
 mod waiting;
 

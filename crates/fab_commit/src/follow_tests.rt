@@ -1,5 +1,5 @@
-// A crew of fab_board whose workers have states of this test's own: an owner that gets far ahead of late workers, and one that keeps its end of
-// a crew that has ended.
+// A crew of fab_board whose workers have states of this test's own: an owner that gets far ahead of late workers, one that keeps its end of a
+// crew that has ended, and one to which is left what no worker judges.
 ghost use Rattle.std.specs.Prelude.{All, ◌≡◌, ◌<◌, ◌≤◌, Some, IfOk, length};
 ghost use Rattle.std.specs.Thread.{IsSync};
 
@@ -20,6 +20,9 @@ use std::time::Duration;
 // More posts than the ring of posts has slots.
 const POSTS: u64 = 70;
 
+// So many numbers are posted where some are left to the owner.
+const NUMBERS: u64 = 200;
+
 // What is posted: a number to judge.
 #[derive(Clone, Copy)]
 struct Step {
@@ -33,6 +36,24 @@ struct Watch<'a> {
     begun: AtomicU64,
     judged: AtomicU64,
     failed: AtomicU64,
+    // Whether a worker takes a millisecond over each number. Then how many numbers were left to the owner, and how many answers were right.
+    is_slow: bool,
+    left: AtomicU64,
+    right: AtomicU64,
+}
+
+impl<'a> Watch<'a> {
+    fn new(rt: &'a HostRuntime, is_slow: bool) -> Watch<'a> {
+        Watch {
+            rt,
+            begun: AtomicU64::new(0),
+            judged: AtomicU64::new(0),
+            failed: AtomicU64::new(0),
+            is_slow,
+            left: AtomicU64::new(0),
+            right: AtomicU64::new(0),
+        }
+    }
 }
 
 // Counts the posts that it has followed, and answers with that count. A worker's takes a second over its first post. Contracts see nothing of
@@ -100,6 +121,9 @@ impl<'a> Follow<Step, u64> for Counted<'a> {
         }
         places[0] = self.posts;
         if self.is_late {
+            if self.watch.is_slow {
+                thread::sleep(self.watch.rt, Duration::from_millis(1));
+            }
             self.watch.judged.fetch_add(1, Ordering::SeqCst);
         }
         count == 1
@@ -177,6 +201,29 @@ fn run_ahead<S: Follow<Step, u64>, J: Naming + Boarding + Origin<S>, R: Wait>(
     hold(watch.rt, &watch.judged, POSTS / 2, &watch.failed);
 }
 
+// Posts numbers beside slow workers, and looks for each when it is due. What no worker judges is left to the owner.
+fn leave<S: Follow<Step, u64>, J: Naming + Boarding + Origin<S>, R: Wait>(
+    rt: &R,
+    desk: &mut Desk<S, J>,
+    watch: &Watch<'_>,
+)
+    requires may { (s : S) (e : Step) → S.may s e }
+{
+    desk.lead.leave_to_owner();
+    post_each(rt, desk, 0, 1);
+    for number in 1..NUMBERS {
+        let _ = desk.lead.post(rt, Step { number });
+        let due = number.saturating_sub(1);
+        if desk.lead.look(rt, due, &mut desk.sheet) > 0 {
+            watch.left.fetch_add(1, Ordering::SeqCst);
+        } else if let Some(posts) = desk.lead.answer(due, &desk.sheet) {
+            if *posts == number {
+                watch.right.fetch_add(1, Ordering::SeqCst);
+            }
+        }
+    }
+}
+
 // Posts as often again, and asks for each number when it is due. Returns how many answers are right: as many posts as there were up to the
 // number's own.
 fn go_on<S: Follow<Step, u64>, J: Naming + Boarding + Origin<S>, R: Wait>(
@@ -199,8 +246,8 @@ fn go_on<S: Follow<Step, u64>, J: Naming + Boarding + Origin<S>, R: Wait>(
     right
 }
 
-// Runs ahead of a crew of this name, and goes on where it has ended. Returns how many answers were right then, and how many units were claimed,
-// if all workers have ended.
+// Runs ahead of a crew of this name, and goes on where it has ended; or, beside slow workers, makes what is left to the owner. Returns how many
+// answers were right then, and how many units were claimed, if all workers have ended.
 fn posted_by<
     S: Follow<Step, u64> + Send,
     J: Naming + Boarding + Origin<S> + Send + Sync,
@@ -244,9 +291,19 @@ fn posted_by<
         &mut desk,
         &mut |d: &mut Desk<S, J>| -> ()
             requires { IsSync R.row × ((s : S) (e : Step) → S.may s e) }
-        { run_ahead(rt, d, watch, workers) },
+        {
+            if watch.is_slow {
+                leave(rt, d, watch);
+            } else {
+                run_ahead(rt, d, watch, workers);
+            }
+        },
     );
-    let right = go_on(rt, &mut desk);
+    let right = if watch.is_slow {
+        watch.right.load(Ordering::SeqCst)
+    } else {
+        go_on(rt, &mut desk)
+    };
     drop(desk);
     let Some(retired) = retire(crew) else {
         return Ok((right, None));
@@ -259,6 +316,7 @@ fn posted_by<
 struct Told {
     failed: u64,
     judged: u64,
+    left: u64,
     right: u64,
     taken: Option<u64>,
 }
@@ -269,15 +327,11 @@ fn late_run<R: Threads + Wait + Sync>(
     alloc: Global,
     clock: &HostRuntime,
     workers: u64,
+    is_slow: bool,
 ) -> Result<Told, AllocError>
     requires { (0 < workers) × (workers ≤ 64) }
 {
-    let watch = Watch {
-        rt: clock,
-        begun: AtomicU64::new(0),
-        judged: AtomicU64::new(0),
-        failed: AtomicU64::new(0),
-    };
+    let watch = Watch::new(clock, is_slow);
     let founded = found(alloc, &watch, workers)?;
     let (right, taken) = posted_by::<Counted<'_>, Brand, R>(
         rt,
@@ -290,6 +344,7 @@ fn late_run<R: Threads + Wait + Sync>(
     Ok(Told {
         failed: watch.failed.load(Ordering::SeqCst),
         judged: watch.judged.load(Ordering::SeqCst),
+        left: watch.left.load(Ordering::SeqCst),
         right,
         taken,
     })
@@ -302,13 +357,37 @@ fn an_owner_waits_for_late_workers_and_outlives_its_crew(rt: HostRuntime) -> Res
         &rt,
         &mut || -> Result<(), Fail> {
             for workers in 1..3u64 {
-                let told = late_run(&rt, rt.alloc(), &rt, workers)?;
+                let told = late_run(&rt, rt.alloc(), &rt, workers, false)?;
                 assert_eq!(rt; (told.failed, told.right), (0, POSTS), "{workers} workers");
                 let Some(taken) = told.taken else {
                     return Err(Fail::from("a worker has not ended"));
                 };
                 assert!(rt; told.judged <= taken, "{workers} workers");
                 assert!(rt; taken <= POSTS + workers, "{workers} workers");
+            }
+            Ok(())
+        },
+    )
+}
+
+// Before a worker has begun, 63 numbers are left to the owner. After that it has to wait for slow workers, so it keeps some of the others. Each
+// number is either left or answered.
+#[test]
+fn what_no_worker_judges_is_left_to_the_owner(rt: HostRuntime) -> Result<(), Fail> {
+    in_time(
+        &rt,
+        &mut || -> Result<(), Fail> {
+            for workers in 1..3u64 {
+                let told = late_run(&rt, rt.alloc(), &rt, workers, true)?;
+                assert_eq!(rt;
+                    told.left.saturating_add(told.right),
+                    NUMBERS - 1,
+                    "{workers} workers"
+                );
+                assert!(rt; told.left > 80, "{workers} workers");
+                assert!(rt; told.right > 0, "{workers} workers");
+                assert!(rt; told.right <= told.judged, "{workers} workers");
+                assert!(rt; told.taken.is_some(), "{workers} workers");
             }
             Ok(())
         },

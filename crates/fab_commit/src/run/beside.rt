@@ -118,9 +118,13 @@ fn made_beside<
     ) else {
         return without_crew::<W, G, S, J, R>(rt, given, state, plan, shower);
     };
-    let Ok(followers) = Followers::new(alloc, lead) else {
+    let Ok(mut followers) = Followers::new(alloc, lead) else {
         return without_crew::<W, G, S, J, R>(rt, given, state, plan, shower);
     };
+    // A gate that does something may hold a commit until a later move is judged, so with it the crew judges all.
+    if plan.gate.does_nothing() {
+        followers.leave_to_owner();
+    }
     let mut followers = Some(followers);
     let made = beside(
         rt,

@@ -13,6 +13,7 @@ ghost use Rattle.fab_commit.specs.Run.Owners.{AreAnswers, AreDue, HasCounted, Ha
 ghost use Rattle.fab_commit.specs.Run.Pipelines.{IsBehind, TurnsOn};
 ghost use Rattle.fab_commit.specs.Model.TurnEvents.{LastTurn};
 
+use crate::run::alone::AT_ONCE;
 use crate::run::behind::{Behind, Pursue};
 use crate::run::beside::{Founded, found};
 use crate::run::followed::{Followers, commit_followed, post_of};
@@ -154,7 +155,16 @@ fn make_moves<W: Words, G: Gate, S: Pursue, J: Naming + Boarding + Origin<S>, R:
         first: start,
         moves: due.moves,
     };
-    commit_followed(rt, given, &mut state.owner, followers, here, gate);
+    let mut words = [[0u32; 4]; AT_ONCE];
+    commit_followed(
+        rt,
+        given,
+        &mut state.owner,
+        followers,
+        here,
+        gate,
+        &mut words,
+    );
     judged_ahead(rt, given, followers, last, next)
 }
 

@@ -58,6 +58,13 @@ impl<S: Pursue, J: Naming + Boarding + Origin<S>> Model for Followers<S, J> {
 }
 
 impl<S: Pursue, J: Naming + Boarding + Origin<S>> Followers<S, J> {
+    /// From now on what no worker judges is left to the owner.
+    pub(crate) fn leave_to_owner(&mut self)
+        ensures { self.new ≡ self.old }
+    {
+        self.lead.leave_to_owner();
+    }
+
     /// The owner's end of a crew, and a sheet. An error means that memory ran out.
     pub(crate) fn new(
         alloc: Global,
@@ -78,6 +85,14 @@ impl<S: Pursue, J: Naming + Boarding + Origin<S>> Followers<S, J> {
         ensures { self.new ≡ self.old }
     {
         self.lead.seek(rt, number, &mut self.sheet)
+    }
+
+    /// Has ready what is foreseen of a move, on the placement of this turn's base, if a worker judges it. Returns 0 then, and else how many
+    /// moves from this one on no worker judges.
+    pub(crate) fn look<R: Wait>(&mut self, rt: &R, number: u64) -> u64
+        ensures { self.new ≡ self.old }
+    {
+        self.lead.look(rt, number, &mut self.sheet)
     }
 
     /// What is foreseen of a move, if it is ready.
@@ -225,8 +240,44 @@ fn decided_followed<W: Words, G: Gate>(
     }
 }
 
-/// Makes the next moves of the running stage, which the crew judges on the placement after as many moves as the share's first. Allocates
-/// nothing of its own.
+/// Makes the next move of the running stage as the crew has judged it, or, where no worker judges the next moves, some of these. Returns how
+/// many it made. The share says on the placement after how many moves they count as judged, and how many moves are due. Allocates nothing
+/// of its own.
+#[inline(always)]
+fn commit_next<W: Words, G: Gate, S: Pursue, J: Naming + Boarding + Origin<S>, R: Wait>(
+    rt: &R,
+    given: &Given<'_, W>,
+    owner: &mut Owner,
+    followers: &mut Followers<S, J>,
+    share: Share,
+    gate: &G,
+    words: &mut [[u32; 4]; AT_ONCE],
+) -> u64
+    requires plan { IsLawful given.now.schedule }
+    requires owned { IsOwned (run_for W.moves given.now) owner.old }
+    requires some { 0 < share.moves }
+    requires room { HasRoom owner.old share.moves }
+    requires due { (due : AreOpen (run_for W.moves given.now) owner.old share.first share.moves) × IsTied S.run S.standing S.after J.start followers.old.1 (run_for W.moves given.now) due.start }
+    ensures some { (0 < result) × (result ≤ share.moves) }
+    ensures same { followers.new ≡ followers.old }
+    ensures made { HasMade (run_for W.moves given.now) owner.old result owner.new }
+    ensures redone { (due : AreOpen (run_for W.moves given.now) owner.old share.first share.moves) → owner.new.redone ≡ owner.old.redone + count_by (is_redone (run_for W.moves given.now) due.start share.first) (range_with_len owner.old.state.done result) }
+    ensures room { (n : ℕ) → HasRoom owner.old (result + n) → HasRoom owner.new n }
+{
+    let number = owner.state.done;
+    let left = followers.look(rt, number).min(share.moves);
+    if left > 0 {
+        commit_alone(given, owner, left, share.first, gate, words);
+        return left;
+    }
+    let foreseen = followers.foreseen(number);
+    let (decision, again) = decided_followed(given, owner, share.first, foreseen, gate);
+    make_one(given, owner, &decision, again);
+    1
+}
+
+/// Makes the next moves of the running stage, which the crew judges on the placement after as many moves as the share's first. What no worker
+/// judges the owner decides on the live placement. `words` is room for the words of some moves. Allocates nothing of its own.
 pub(crate) fn commit_followed<
     W: Words,
     G: Gate,
@@ -240,6 +291,7 @@ pub(crate) fn commit_followed<
     followers: &mut Followers<S, J>,
     share: Share,
     gate: &G,
+    words: &mut [[u32; 4]; AT_ONCE],
 )
     requires plan { IsLawful given.now.schedule }
     requires owned { IsOwned (run_for W.moves given.now) owner.old }
@@ -250,12 +302,13 @@ pub(crate) fn commit_followed<
     ensures redone { (due : AreOpen (run_for W.moves given.now) owner.old share.first share.moves) → owner.new.redone ≡ owner.old.redone + count_by (is_redone (run_for W.moves given.now) due.start share.first) (range_with_len owner.old.state.done share.moves) }
     ensures room { (n : ℕ) → HasRoom owner.old (share.moves + n) → HasRoom owner.new n }
 {
-    'moves: for _i in 0..share.moves {
-        let number = owner.state.done;
-        followers.seek(rt, number);
-        let foreseen = followers.foreseen(number);
-        let (decision, again) = decided_followed(given, owner, share.first, foreseen, gate);
-        make_one(given, owner, &decision, again);
+    let mut made = 0;
+    while made < share.moves {
+        let rest = Share {
+            first: share.first,
+            moves: share.moves - made,
+        };
+        made += commit_next(rt, given, owner, followers, rest, gate, words);
     }
 }
 
@@ -280,7 +333,7 @@ fn commit_by<W: Words, G: Gate, S: Pursue, J: Naming + Boarding + Origin<S>, R: 
     ensures room { (n : ℕ) → HasRoom owner.old (share.moves + n) → HasRoom owner.new n }
 {
     match followers {
-        Some(crew) => commit_followed(rt, given, owner, crew, share, gate),
+        Some(crew) => commit_followed(rt, given, owner, crew, share, gate, words),
         None => commit_alone(given, owner, share.moves, share.first, gate, words),
     }
 }
