@@ -87,8 +87,8 @@ impl<S: Pursue, J: Naming + Boarding + Origin<S>> Followers<S, J> {
         self.lead.seek(rt, number, &mut self.sheet)
     }
 
-    /// Has ready what is foreseen of a move, on the placement of this turn's base, if a worker judges it. Returns 0 then, and else how many
-    /// moves from this one on no worker judges.
+    /// Has ready what is foreseen of a move, on the placement of this turn's base, if a worker has judged it. Returns 0 then, and else how many
+    /// moves from this one on are left to the owner.
     pub(crate) fn look<R: Wait>(&mut self, rt: &R, number: u64) -> u64
         ensures { self.new ≡ self.old }
     {
@@ -240,9 +240,9 @@ fn decided_followed<W: Words, G: Gate>(
     }
 }
 
-/// Makes the next move of the running stage as the crew has judged it, or, where no worker judges the next moves, some of these. Returns how
-/// many it made. The share says on the placement after how many moves they count as judged, and how many moves are due. Allocates nothing
-/// of its own.
+/// Makes the next move of the running stage as the crew has judged it, or, where the next moves are left to the owner, some of these. Returns
+/// how many it made. The share says on the placement after how many moves they count as judged, and how many moves are due. Allocates
+/// nothing of its own.
 #[inline(always)]
 fn commit_next<W: Words, G: Gate, S: Pursue, J: Naming + Boarding + Origin<S>, R: Wait>(
     rt: &R,
@@ -276,8 +276,8 @@ fn commit_next<W: Words, G: Gate, S: Pursue, J: Naming + Boarding + Origin<S>, R
     1
 }
 
-/// Makes the next moves of the running stage, which the crew judges on the placement after as many moves as the share's first. What no worker
-/// judges the owner decides on the live placement. `words` is room for the words of some moves. Allocates nothing of its own.
+/// Makes the next moves of the running stage, which the crew judges on the placement after as many moves as the share's first. What is left to
+/// the owner it decides on the live placement. `words` is room for the words of some moves. Allocates nothing of its own.
 pub(crate) fn commit_followed<
     W: Words,
     G: Gate,
