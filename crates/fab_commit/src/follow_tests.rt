@@ -207,11 +207,13 @@ fn leave<S: Follow<Step, u64>, J: Naming + Boarding + Origin<S>, R: Wait>(
     rt: &R,
     desk: &mut Desk<S, J>,
     watch: &Watch<'_>,
+    workers: u64,
 )
     requires may { (s : S) (e : Step) → S.may s e }
 {
     desk.lead.leave_to_owner();
     post_each(rt, desk, 0, 1);
+    hold(watch.rt, &watch.begun, workers, &watch.failed);
     for number in 1..NUMBERS {
         let _ = desk.lead.post(rt, Step { number });
         let due = number.saturating_sub(1);
@@ -297,7 +299,7 @@ fn posted_by<
             requires { IsSync R.row × ((s : S) (e : Step) → S.may s e) }
         {
             if watch.is_slow {
-                leave(rt, d, watch);
+                leave(rt, d, watch, workers);
             } else {
                 run_ahead(rt, d, watch, workers);
             }
@@ -387,6 +389,7 @@ fn what_no_worker_judges_is_left_to_the_owner(rt: HostRuntime) -> Result<(), Fai
                     NUMBERS - 1,
                     "{workers} workers"
                 );
+                assert_eq!(rt; told.failed, 0, "{workers} workers");
                 assert!(rt; told.left >= 63, "{workers} workers");
                 assert!(rt; told.right > 0, "{workers} workers");
                 assert!(rt; told.right <= told.judged, "{workers} workers");
