@@ -13,12 +13,8 @@ use crate::plan::Plan;
 use crate::shares::Shares;
 use std::alloc::{AllocError, Global};
 use std::marker::Model;
+use std::mem;
 use std::sync::{Arc, Wait};
-use std::{hint, mem};
-
-/// So often the owner looks for a unit that a worker judges, some microseconds long. To make the unit itself takes no longer, and a worker
-/// without a processor may take any time.
-const LOOKS: u64 = 400;
 
 /// The owner's end of a crew. Contracts see it as all that it posted, and those posts on which the answers of this turn are judged: all but
 /// the last.
@@ -110,7 +106,7 @@ impl<S: Follow<E, T>, E: Drop, T: Drop, J: Naming + Boarding + Origin<S>> Lead<S
         }
     }
 
-    /// Brings the sheet with the number's answer, as [`Lead::seek`] does, if a worker has judged it, or does so soon. Returns 0 then, and else
+    /// Brings the sheet with the number's answer, as [`Lead::seek`] does, if a worker has taken it, once it is judged. Returns 0 then, and else
     /// how many numbers from this one on are left to the owner. Where the owner judges on its own state, it seeks the answer.
     pub fn look<R: Wait>(&mut self, rt: &R, number: u64, sheet: &mut Sheet<S, E, T, J>) -> u64
         ensures { self.new ≡ self.old }
@@ -132,7 +128,7 @@ impl<S: Follow<E, T>, E: Drop, T: Drop, J: Naming + Boarding + Origin<S>> Lead<S
         }
     }
 
-    /// Whether a unit is left to the owner. If not, brings its sheet. What a worker has not judged soon is left to the owner, too.
+    /// Whether a unit is left to the owner. If not, brings its sheet once it is judged.
     fn is_left<R: Wait>(&mut self, rt: &R, unit: u64, sheet: &mut Sheet<S, E, T, J>) -> bool
         ensures { self.new ≡ self.old }
     {
@@ -142,17 +138,17 @@ impl<S: Follow<E, T>, E: Drop, T: Drop, J: Naming + Boarding + Origin<S>> Lead<S
         if shares.is_kept(unit % self.shared.plan.units().max(1)) {
             return true;
         }
-        for _look in 0..LOOKS {
+        for _ in rt.forever() {
             match self.shared.fetch(rt, unit, sheet) {
                 Fetched::Here => return false,
                 Fetched::Mine => return true,
                 Fetched::Taken => {
                     shares.was_late();
-                    hint::spin_loop();
+                    self.shared.wait_for(rt, unit);
                 }
             }
         }
-        true
+        unreachable!()
     }
 
     /// The unit of a number that this turn asked for; `None` if it did not.
