@@ -72,14 +72,14 @@ pub(crate) fn helpers_of<R: Threads>(rt: &R, workers: u64) -> u64 {
 /// Founding a crew takes the time of some thousands of moves.
 const FEWEST_MOVES: u64 = 5_000;
 
+/// One of two takes longer to found, and saves less.
+const FEWEST_MOVES_OF_TWO: u64 = 100_000;
+
 /// With a smaller batch, handing over costs as much time as judging.
 const LEAST_BATCH: u64 = 16;
 
-/// From so many blocks on, a crew of three or more saves time before the stages are cold, too.
+/// From so many blocks on, a crew saves time before the stages are cold, too.
 const MIDDLE_DESIGN: usize = 2_500;
-
-/// From so many blocks on, a crew of two does.
-const LARGE_DESIGN: usize = 15_000;
 
 /// The least range of a stage, in thousandths. A stage has it where few moves of the stages before were accepted.
 const LEAST_RANGE: u64 = 1000;
@@ -98,12 +98,17 @@ pub(crate) fn is_judged_ahead(
     if !does_nothing {
         return true;
     }
-    if pace.helpers < 2 || pace.batch < LEAST_BATCH || pace.moves < FEWEST_MOVES {
+    let fewest = if pace.helpers >= 3 {
+        FEWEST_MOVES
+    } else {
+        FEWEST_MOVES_OF_TWO
+    };
+    if pace.helpers < 2 || pace.batch < LEAST_BATCH || pace.moves < fewest {
         return false;
     }
     let is_cold = stage.frozen || stage.range <= LEAST_RANGE;
     let is_cooler = stage.range <= pace.side.saturating_mul(750);
-    is_cold || is_cooler && (blocks >= LARGE_DESIGN || blocks >= MIDDLE_DESIGN && pace.helpers >= 3)
+    is_cold || is_cooler && blocks >= MIDDLE_DESIGN
 }
 
 /// How many workers a crew has, one at least: those that find a processor, since one without a processor holds the others up. With a gate that
