@@ -56,7 +56,7 @@ pub const BATCH: OptionRow = (
 pub const WORKERS: OptionRow = (
     "workers",
     Takes::Whole(Some("4")),
-    "How many threads judge moves, 1 to 64; the placement does not depend on it",
+    "At most how many threads judge moves ahead, 1 to 64; the placement does not depend on it",
 );
 
 pub const STOP: OptionRow = (

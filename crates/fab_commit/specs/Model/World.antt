@@ -15,9 +15,11 @@ use Rattle.fab_commit.specs.declared.model.events.Event.{Event}
 use Rattle.fab_commit.specs.declared.model.events.Event.TheVariants.{Claim, Judge, Lose, Commit, Refresh}
 use Rattle.fab_commit.specs.Serial.{Run, Standing, after_move, judged_here}
 
+-- the live placement, on which moves are committed, and the older one, on which workers judge; what is claimed and not judged yet, what is
+-- judged and not committed yet, and the swaps accepted so far, in order
 pub record World : Type 0 where
   pub live : Standing
-  pub older : Standing  -- what workers judge on
+  pub older : Standing
   pub claims : List Claimed
   pub verdicts : List JudgedMove
   pub accepted : List Accepted
@@ -26,6 +28,7 @@ pub record World : Type 0 where
 abbrev pub world : Standing → World
 world x = record { live = x; older = x; claims = []; verdicts = []; accepted = [] }
 
+-- the number after the last move of the stage in which move `n` is; `n` itself once the run is over
 abbrev pub stage_end_at : Run → ℕ → Option ℕ → ℕ
 stage_end_at p n None = n
 stage_end_at p n (Some t) = (n / p.plan.moves + 1) * p.plan.moves
@@ -42,23 +45,29 @@ end p w = stage_end p w.older
 abbrev pub clash : Netlist → List Accepted → ℕ → List Mark → Bool
 clash d log base marks = list_any (λ (a : Accepted). nat_le base a.number && meet (touched d a.swap) marks) log
 
+-- a worker has claimed the move
 abbrev pub is_claimed : ℕ → List Claimed → Bool
 is_claimed k claims = list_any (λ (c : Claimed). k == c.number) claims
 
+-- the move that the worker has claimed, if there is one
 abbrev pub claim_of : ℕ → List Claimed → Option ℕ
 claim_of worker [] = None
 claim_of worker (c ∷ rest) = if c.worker == worker then Some c.number else claim_of worker rest
 
+-- the first verdict of the move, if there is one
 abbrev pub verdict_for : ℕ → List JudgedMove → Option JudgedMove
 verdict_for k [] = None
 verdict_for k (v ∷ rest) = if v.number == k then Some v else verdict_for k rest
 
+-- there is a verdict of the move
 abbrev pub is_judged : ℕ → List JudgedMove → Bool
 is_judged k verdicts = list_any (λ (v : JudgedMove). k == v.number) verdicts
 
+-- the claims of the other workers
 abbrev pub without_worker : ℕ → List Claimed → List Claimed
 without_worker worker claims = filter (λ (c : Claimed). not (c.worker == worker)) claims
 
+-- the verdicts of the other moves
 abbrev pub without_number : ℕ → List JudgedMove → List JudgedMove
 without_number k verdicts = filter (λ (v : JudgedMove). not (v.number == k)) verdicts
 
@@ -68,9 +77,11 @@ first_free claims verdicts [] = None
 first_free claims verdicts (k ∷ rest) =
     if is_claimed k claims || is_judged k verdicts then first_free claims verdicts rest else Some k
 
+-- the moves that may be claimed, if nobody has claimed or judged them yet
 abbrev pub open_numbers : Run → World → List ℕ
 open_numbers p w = range_with_len w.live.done (end p w - w.live.done)
 
+-- the worker claims the move, if there is one
 abbrev pub claimed : World → ℕ → Option ℕ → World
 claimed w worker None = w
 claimed w worker (Some k) = record w { claims = w.claims ++ record { worker = worker; number = k } ∷ [] }
@@ -80,6 +91,7 @@ abbrev pub claimed_by : Run → World → ℕ → Option ℕ → World
 claimed_by p w worker None = claimed w worker (first_free w.claims w.verdicts (open_numbers p w))
 claimed_by p w worker (Some k) = w
 
+-- the worker's verdict of a move: its judgement on the older placement
 abbrev pub verdict : Run → World → ℕ → ℕ → JudgedMove
 verdict p w worker k =
     record { worker = worker; number = k; base = w.older.done; judged = judged_here p w.older k }
@@ -104,6 +116,7 @@ is_last worker verdicts k = not (list_any (λ (v : JudgedMove). v.worker == work
 abbrev pub lost_verdict : World → ℕ → World
 lost_verdict w worker = record w { verdicts = filter (λ (v : JudgedMove). not (v.worker == worker && is_last worker w.verdicts v.number)) w.verdicts }
 
+-- the worker gives its claim up, or, if it has none, its last verdict
 abbrev pub lost : World → ℕ → Option ℕ → World
 lost w worker None = lost_verdict w worker
 lost w worker (Some k) = record w { claims = without_worker worker w.claims }
@@ -113,6 +126,7 @@ abbrev pub usable : Run → World → Option JudgedMove → Option JudgedMove
 usable p w None = None
 usable p w (Some v) = if clash p.problem.design w.accepted v.base v.judged.footprint then None else Some v
 
+-- the verdict of the next move, if there is one
 abbrev pub verdict_here : World → Option JudgedMove
 verdict_here w = verdict_for w.live.done w.verdicts
 
@@ -121,13 +135,16 @@ abbrev pub answer : Run → World → Option JudgedMove → Judged
 answer p w None = judged_here p w.live w.live.done
 answer p w (Some v) = v.judged
 
+-- the swap, if there is one, as accepted by the move
 abbrev pub accepted_as : ℕ → Option Swap → List Accepted
 accepted_as k None = []
 accepted_as k (Some s) = record { number = k; swap = s } ∷ []
 
+-- what the move adds to the accepted swaps
 abbrev pub accepted_now : ℕ → Judged → List Accepted
 accepted_now k j = if j.accepted then accepted_as k j.swap else []
 
+-- the next move is made as it was judged, and its verdicts are dropped
 abbrev pub committed : Run → World → Judged → World
 committed p w j =
     record {
@@ -142,6 +159,7 @@ committed p w j =
 abbrev pub can_commit : Run → World → Bool
 can_commit p w = nat_lt w.live.done (end p w)
 
+-- the next move is made: by its verdict, if that is usable, and else judged on the live placement
 abbrev pub commit : Run → World → World
 commit p w = committed p w (answer p w (usable p w (verdict_here w)))
 
@@ -155,6 +173,7 @@ happens p w (Lose worker) = lost w worker (claim_of worker w.claims)
 happens p w Commit = if can_commit p w then commit p w else w
 happens p w Refresh = record w { older = w.live }
 
+-- the events happen in order
 abbrev pub run_through : Run → World → List Event → World
 run_through p w [] = w
 run_through p w (e ∷ events) = run_through p (happens p w e) events
@@ -165,6 +184,7 @@ way_of found (Some v) = Taken
 way_of None None = Late
 way_of (Some v) None = Redone
 
+-- the way of the move that the event commits, if it commits one
 abbrev pub ways_now : Run → World → Event → List Way
 ways_now p w Commit = if can_commit p w then way_of (verdict_here w) (usable p w (verdict_here w)) ∷ [] else []
 ways_now p w _ = []

@@ -25,7 +25,7 @@ abbrev pub run_for : {W : Type 0} → (W → ℕ → List ℕ) → Given W → R
 run_for moves g = run g.design.now g.grid.now g.fixed (moves g.words) g.schedule
 
 -- an annealer: what its run is given, its standing, the verdicts judged ahead, the swaps that its last turn accepted, the numbers of
--- all moves that it accepted, and how many moves it judged again
+-- the moves that it accepted since it began, and how many of its moves it has counted as judged again
 pub record AnnealOf (W : Type 0) : Type 0 where
   pub design : Netlist
   pub grid : GridShape

@@ -96,25 +96,29 @@ fn side_of(grid: &Grid) -> u16
     grid.nx().max(grid.ny())
 }
 
-/// The stage after one more of its moves, and whether that was the last move of all.
-fn advanced(schedule: &Schedule, side: u16, stage: Stage, accepted: bool) -> (Stage, bool)
+/// Counts one more move of a stage, and goes on to the next stage after its last one. Returns whether that was the last move of all.
+fn advance(schedule: &Schedule, side: u16, stage: &mut Stage, accepted: bool) -> bool
     requires side { (1 ≤ side) × (side ≤ 1000) }
-    requires stage { IsStage schedule.now side stage }
-    requires left { stage.done < schedule.now.moves }
-    ensures { IsAdvanced schedule.now side stage accepted result.0 result.1 }
+    requires stage { IsStage schedule.now side stage.old }
+    requires left { stage.old.done < schedule.now.moves }
+    ensures { IsAdvanced schedule.now side stage.old accepted stage.new result }
 {
     let moves = schedule.moves();
-    let made = Stage {
-        done: stage.done + 1,
-        accepted: stage.accepted + u64::from(accepted),
-        ..stage
-    };
-    if made.done < moves {
-        return (made, false);
+    stage.done += 1;
+    stage.accepted += u64::from(accepted);
+    if stage.done < moves {
+        return false;
     }
+    let made = *stage;
     match schedule.next_stage(&made, made.accepted, side) {
-        Some(next) => (next, false),
-        None => (behind_the_last(schedule, side, &made), true),
+        Some(next) => {
+            *stage = next;
+            false
+        }
+        None => {
+            *stage = behind_the_last(schedule, side, &made);
+            true
+        }
     }
 }
 
@@ -181,9 +185,7 @@ pub(crate) fn commit<W: Words>(given: &Given<'_, W>, state: &mut State, decision
         state.done,
         decision.accepted,
     );
-    let (stage, ended) = advanced(&given.schedule, side, state.stage, decision.accepted);
-    state.stage = stage;
-    state.ended = ended;
+    state.ended = advance(&given.schedule, side, &mut state.stage, decision.accepted);
     state.done += 1;
 }
 

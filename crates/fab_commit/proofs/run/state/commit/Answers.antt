@@ -39,7 +39,7 @@ swapped g c =
     ]
 
 abbrev after : (g : given.Over) (c : goal.After-state-2-1 g) → State
-after g c = record { placement = c.if-decision.state.placement; cost = c.if-decision.state.cost; stage = c.advanced-ended.result.0; ended = c.advanced-ended.result.1; done = c.if-decision.state.done + 1; total = c.count.new.total; accepted = c.count.new.accepted }
+after g c = record { placement = c.if-decision.state.placement; cost = c.if-decision.state.cost; stage = c.advance-state.new.stage; ended = c.advance-state.result; done = c.if-decision.state.done + 1; total = c.count.new.total; accepted = c.count.new.accepted }
 
 -- what the parts of the state are after the move
 parts : (g : given.Over) (c : goal.After-state-2-1 g) → IsCommitted (run_for g.W.Words.moves c.args.given.now) c.args.state.now (judged_here (run_for g.W.Words.moves c.args.given.now) (standing_of c.args.state.now) c.args.state.now.done) (after g c)
@@ -49,7 +49,7 @@ parts g c =
     let j = judged_here r (standing_of s) s.done in
     let own = swapped g c in
     committed r s (after g c) c.args.decision.now j c.side_of-side.result c.requires.decides own.placement (ap (λ n. n + 1) own.done) (c.count.ensures.total ∙ ap (λ n. n + one_if c.args.decision.now.accepted) own.total) c.side_of-side.ensures.value
-    (subst (λ y. IsAdvanced r.plan c.side_of-side.result y c.args.decision.now.accepted c.advanced-ended.result.0 c.advanced-ended.result.1) own.stage c.advanced-ended.ensures)
+    (subst (λ y. IsAdvanced r.plan c.side_of-side.result y c.args.decision.now.accepted c.advance-state.new.stage c.advance-state.result) own.stage c.advance-state.ensures)
     own.cost
 
 pub count-requires-clause-room : goal.count-requires-clause-room
