@@ -318,6 +318,7 @@ fn change_of_larges(
 }
 
 #[tactic(auto, using(crate::proofs::Sited::block_below, crate::proofs::Changes::whole_none, crate::proofs::Changes::whole_some))]
+#[inline(always)]
 /// How the swap changes the cost of the large nets.
 pub(crate) fn change_of_large(
     lanes: &[u16x4],
