@@ -16,7 +16,7 @@ use Rattle.fab_commit.specs.declared.model.events.Event.TheVariants.{Claim, Judg
 use Rattle.fab_commit.specs.Serial.{Run, Standing, after_move, judged_here}
 
 -- the live placement, on which moves are committed, and the older one, on which workers judge; what is claimed and not judged yet, what is
--- judged and not committed yet, and the swaps accepted so far, in order
+-- judged and not committed yet, and accepted swaps, in order
 pub record World : Type 0 where
   pub live : Standing
   pub older : Standing
