@@ -9,6 +9,7 @@ import zlib
 from texts import TOP, read, taken, write
 
 SCHEDULE = "--init-t 10 --exit-t 1 --alpha-t 0.5 --moves 300 --seed 61"
+CREW = "--init-t 1 --exit-t 0.9 --alpha-t 0.5 --moves 6000 --seed 62"
 DESIGN = "--arch arch --net net"
 JOBS = {
     "place": f"place {DESIGN} --pads pads --out out {SCHEDULE}",
@@ -19,7 +20,9 @@ JOBS = {
     "example": "",
     "help": "place --help",
     "wrong": "place --arch",
-    "large": f"place {DESIGN} --out out --init-t 1 --exit-t 0.9 --alpha-t 0.5 --moves 6000 --seed 62",
+    # Its frozen stage is judged ahead by a crew, where three processors are at hand for workers; so is that of the large design.
+    "crew": f"place {DESIGN} --out out {CREW}",
+    "large": f"place {DESIGN} --out out {CREW}",
 }
 # The names at which a run may leave something, and what lies there before.
 PLACES = ("out", "save")
@@ -32,6 +35,7 @@ SUMS = {
     "resume": [845423251, 1006354502, 3800583600],
     "again": [2033249392, 3800583600, 487504751],
     "check": [3925732362, 3800583600, 3800583600],
+    "crew": [2820033926, 1712936651, 3800583600],
     "example": [1949926327, 3800583600, 3800583600],
 }
 LIMIT = 60
