@@ -28,7 +28,7 @@ JOBS = {
 PLACES = ("out", "save")
 OLD = b"old\n"
 # The checksums of the report, and of what lies at the out name and at the save name behind the run: answers of another placer. The text of
-# the help and that of the wrong words are the program's own, and a large design's answers are compared by tests/hostile.
+# the help and that of the wrong words are the program's own, and the large design's answers are those of its undisturbed run.
 SUMS = {
     "place": [1863117661, 3965892762, 3800583600],
     "stop": [2351122740, 3800583600, 4174857206],
