@@ -279,21 +279,21 @@ impl Follow<Swaps, Answer> for Row {
 
 /// The owner's end, and the sheet that it reads.
 #[derive(Drop)]
-struct Desk<J: Naming + Boarding + Origin<Row>> {
+struct OwnerEnd<J: Naming + Boarding + Origin<Row>> {
     lead: Lead<Row, Swaps, Answer, J>,
     sheet: Sheet<Row, Swaps, Answer, J>,
 }
 
 fn read_all<J: Naming + Boarding + Origin<Row>, R: Wait>(
     rt: &R,
-    desk: &mut Desk<J>,
+    owner_end: &mut OwnerEnd<J>,
     first: u64,
     past: u64,
 ) -> u64 {
     let mut sum = 0u64;
     for number in first..past {
-        desk.lead.seek(rt, number, &mut desk.sheet);
-        if let Some(answer) = desk.lead.answer(number, &desk.sheet) {
+        owner_end.lead.seek(rt, number, &mut owner_end.sheet);
+        if let Some(answer) = owner_end.lead.answer(number, &owner_end.sheet) {
             sum = sum
                 .wrapping_add(answer.change)
                 .wrapping_add(answer.rest[5] % 2);
@@ -305,7 +305,7 @@ fn read_all<J: Naming + Boarding + Origin<Row>, R: Wait>(
 fn turns_of<J: Naming + Boarding + Origin<Row>, R: Wait + Clock>(
     rt: &R,
     alloc: Global,
-    desk: &mut Desk<J>,
+    owner_end: &mut OwnerEnd<J>,
     turns: u64,
     batch: u64,
 ) -> Result<Times, AllocError>
@@ -324,12 +324,12 @@ fn turns_of<J: Naming + Boarding + Origin<Row>, R: Wait + Clock>(
         };
         fill(&mut post, batch, turn)?;
         let first = post.first;
-        let Ok(older) = desk.lead.post(rt, post) else {
+        let Ok(older) = owner_end.lead.post(rt, post) else {
             return Err(AllocError);
         };
         used = older;
         if turn > 0 {
-            sum = sum.wrapping_add(read_all(rt, desk, first.saturating_sub(batch), first));
+            sum = sum.wrapping_add(read_all(rt, owner_end, first.saturating_sub(batch), first));
         }
         if turn % TURNS == TURNS - 1 {
             let now = nanoseconds(rt, &start);
@@ -392,12 +392,12 @@ fn run_as<J: Naming + Boarding + Origin<Row> + Send + Sync, R: Threads + Wait + 
         alloc, opened, board, claims, first, others, plan,
     )?;
     let sheet = lead.sheet(alloc)?;
-    let mut desk = Desk { lead, sheet };
+    let mut owner_end = OwnerEnd { lead, sheet };
     beside(
         rt,
         &crew,
-        &mut desk,
-        &mut |d: &mut Desk<J>| -> Result<Times, AllocError> { turns_of(rt, alloc, d, turns, batch) },
+        &mut owner_end,
+        &mut |d: &mut OwnerEnd<J>| -> Result<Times, AllocError> { turns_of(rt, alloc, d, turns, batch) },
     )
 }
 

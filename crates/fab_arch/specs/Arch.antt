@@ -1,5 +1,5 @@
--- What an architecture text means (VPR manual: the lines `io_rat`, `inpin` and `outpin`; all others concern
--- routing and timing, and mean nothing to placement).
+-- What an architecture text means (VPR manual: the lines `io_rat`, `inpin` and `outpin`; all others concern routing and timing, and mean
+-- nothing to placement). The limits, and the order of faults, are our own.
 use Rattle.std.specs.Prelude.{ℕ, ◌<◌, ◌≤◌, ◌≡◌, Bool, false, not, ◌||◌, ◌&&◌, ◌==◌, nat_lt, List, [], ◌∷◌, if◌then◌else◌, length, map, filter, count_by, drop, slice_get, codes, Option, Some, None, Result, Ok, Err}
 use Rattle.std.specs.List.{list_any, list_all, AllByRecursion}
 use Rattle.std.specs.Result.{result_ok}
@@ -32,9 +32,11 @@ is_inpin l = begins_with (codes "inpin") l
 unfoldable pub is_outpin : TextLine → Bool
 is_outpin l = begins_with (codes "outpin") l
 
+-- the line declares a pin
 abbrev pub is_pin : TextLine → Bool
 is_pin l = is_inpin l || is_outpin l
 
+-- an inpin reads its net, an outpin drives it
 abbrev pub kind_of : TextLine → PinKind
 kind_of l = if is_inpin l then Reads else Drives
 
@@ -45,6 +47,7 @@ within n low high (Err num.BadDigit) = Err (BadNumber n)
 within n low high (Err num.TooManyPlaces) = Err (BadNumber n)
 within n low high (Err num.TooLarge) = Err (TooLarge n)
 
+-- the number that a word of line n writes, from low to high, or what is wrong
 abbrev pub number_of : ℕ → ℕ → ℕ → Option (List ℕ) → Result ℕ ArchFault
 number_of n low high None = Err (BadNumber n)
 number_of n low high (Some word) = within n low high (decimal_of word 0)
@@ -65,6 +68,7 @@ without_global (w ∷ ws) = if bytes_eq w (codes "global") then ws else w ∷ ws
 abbrev pub are_sides : List (List ℕ) → Bool
 are_sides ws = list_all is_side ws && not (length ws == 0)
 
+-- the fault of a pin's line whose class was read so
 abbrev pub pin_fault_from : TextLine → Result ℕ ArchFault → Option ArchFault
 pin_fault_from l (Err e) = Some e
 pin_fault_from l (Ok class) = if are_sides (without_global (drop 3 l.words)) then None else Some (BadPinLine l.number)
@@ -73,6 +77,7 @@ pin_fault_from l (Ok class) = if are_sides (without_global (drop 3 l.words)) the
 unfoldable pub pin_fault : TextLine → Option ArchFault
 pin_fault l = if is_word (slice_get l.words 1) (codes "class:") then pin_fault_from l (number_of l.number 0 65535 (slice_get l.words 2)) else Some (BadPinLine l.number)
 
+-- the fault of a result, if it is one
 abbrev pub err_of : {A : Type 0} → Result A ArchFault → Option ArchFault
 err_of (Ok value) = None
 err_of (Err e) = Some e
@@ -100,7 +105,7 @@ fault_after before ls = fault_behind fault_of text_fault before ls
 abbrev pub first_fault : List TextLine → Option ArchFault
 first_fault ls = fault_of_all fault_of text_fault ls
 
--- what lines mean: one of them gives the pads at each position, every pin's line is lawful, and these are the pins
+-- what lines mean: exactly one `io_rat` line, which gives the pads at each position; lawful pin lines; and these pins, 1 to 1,024 of them
 pub record IsArch (ls : List TextLine) (ratio : ℕ) (pins : List PinKind) : Type 0 where
   pub line : TextLine
   pub one : filter is_io_rat ls ≡ line ∷ []
@@ -120,7 +125,7 @@ FaultIs e fault = fault ≡ Some e
 abbrev pub ratio_after : Option ℕ → TextLine → Option ℕ
 ratio_after before l = if is_io_rat l then result_ok (ratio_of l) else before
 
--- the pins of a line
+-- the pin of a line, if it declares one
 abbrev pub pins_in : TextLine → List PinKind
 pins_in l = if is_pin l then kind_of l ∷ [] else []
 

@@ -1,5 +1,5 @@
--- The array of sites, after the VPR manual: logic sites inside, pads around them, corners empty.
--- That a pad may take any sub of its position, with gaps, is our own.
+-- The array of sites, after the VPR manual: logic sites inside, pads around them, corners empty. The limits are our own, and that a pad may
+-- take any sub of its position, with gaps.
 use Rattle.std.specs.Prelude.{ℕ, ◌≡◌, ◌+◌, ◌*◌, ◌<◌, ◌≤◌, Bool, if◌then◌else◌, nat_lt, nat_le, ◌&&◌, ◌==◌, List, [], ◌∷◌, ◌++◌, map, reverse, Option, Some, None, refl}
 use Rattle.std.specs.List.{range_with_len, list_any}
 use Rattle.fab_arch.specs.declared.array.Site.{Site}
@@ -30,6 +30,7 @@ perimeter g =
     ++ reverse (map (λ i. (g.nx + 1, i)) (range_with_len 1 g.ny))
     ++ reverse (map (λ i. (i, 0)) (range_with_len 1 g.nx))
 
+-- a site inside the array; its sub is 0
 abbrev pub is_logic_site : GridShape → Site → Bool
 is_logic_site g s = nat_le 1 s.x && nat_le s.x g.nx && (nat_le 1 s.y && nat_le s.y g.ny) && s.sub == 0
 
@@ -37,6 +38,7 @@ is_logic_site g s = nat_le 1 s.x && nat_le s.x g.nx && (nat_le 1 s.y && nat_le s
 abbrev pub is_position : Site → (ℕ × ℕ) → Bool
 is_position s at = at.0 == s.x && at.1 == s.y
 
+-- a pad site: a position of the perimeter, with a sub below io_rat
 abbrev pub is_pad_site : GridShape → Site → Bool
 is_pad_site g s = list_any (is_position s) (perimeter g) && nat_lt s.sub g.io_rat
 
@@ -44,9 +46,11 @@ is_pad_site g s = list_any (is_position s) (perimeter g) && nat_lt s.sub g.io_ra
 abbrev pub kind_at : GridShape → Site → Option SiteKind
 kind_at g s = if is_logic_site g s then Some Logic else if is_pad_site g s then Some Pad else None
 
+-- there are at least so many logic sites
 abbrev pub HasLogicSites : GridShape → ℕ → Type 0
 HasLogicSites g logic = logic ≤ g.nx * g.ny
 
+-- there are at least so many pad sites
 abbrev pub HasPadSites : GridShape → ℕ → Type 0
 HasPadSites g pads = pads ≤ 2 * (g.nx + g.ny) * g.io_rat
 
@@ -57,11 +61,11 @@ Holds g logic pads = HasLogicSites g logic × HasPadSites g pads
 abbrev pub square : ℕ → ℕ → GridShape
 square n io_rat = shape n n io_rat
 
--- no square with a side of at least 1 and less than `below` holds them
+-- no square with a side of at least 1 and less than `below` holds `logic` logic blocks and `pads` pads
 abbrev pub NoSquareHolds : ℕ → ℕ → ℕ → ℕ → Type 0
 NoSquareHolds below logic pads io_rat = (n : ℕ) → 1 ≤ n → n < below → ¬ Holds (square n io_rat) logic pads
 
--- the least square array with a site for each of `logic` logic blocks and `pads` pads
+-- the least square array within the limits with a site for each of `logic` logic blocks and `pads` pads
 pub record IsLeastSquare (g : GridShape) (logic pads io_rat : ℕ) : Type 0 where
   pub is_square : g ≡ square g.nx io_rat
   pub limits : AreLimits g.nx g.nx io_rat

@@ -72,7 +72,9 @@ impl Grid {
     /// its side would be above 1,000, or if `io_rat` is outside 1 to 64.
     pub fn fit(logic: usize, pads: usize, io_rat: u16) -> Result<Grid, GridFault>
         ensures least { IfOk result (λ g. IsLeastSquare g logic pads io_rat) }
-        ensures fault { IfErr result (λ e. (e ≡ SizeOutOfRange) × ((1 ≤ io_rat) × (io_rat ≤ 64) → NoSquareHolds 1001 logic pads io_rat)) }
+        ensures fault { IfErr result (λ e.
+            (e ≡ SizeOutOfRange) ×
+            ((1 ≤ io_rat) × (io_rat ≤ 64) → NoSquareHolds 1001 logic pads io_rat)) }
     {
         for side in 1..1001u16 {
             let grid = Grid::new(side, side, io_rat)?;
@@ -87,7 +89,8 @@ impl Grid {
     pub fn holds(&self, logic: usize, pads: usize) -> Result<(), GridFault>
         ensures holds { IsOk result ↔ Holds self.now logic pads }
         ensures logic { (result ≡ Err TooFewLogicSites) ↔ (¬ HasLogicSites self.now logic) }
-        ensures pads { (result ≡ Err TooFewPadSites) ↔ (HasLogicSites self.now logic × (¬ HasPadSites self.now pads)) }
+        ensures pads { (result ≡ Err TooFewPadSites) ↔
+            (HasLogicSites self.now logic × (¬ HasPadSites self.now pads)) }
     {
         let nx = usize::from(self.nx);
         let ny = usize::from(self.ny);
@@ -154,7 +157,7 @@ impl Grid {
     fn is_pad_site(&self, site: Site) -> bool
         ensures { result ≡ is_pad_site self.now site }
     {
-        is_round(self.nx, self.ny, site) && site.sub < self.io_rat
+        is_perimeter(self.nx, self.ny, site) && site.sub < self.io_rat
     }
 }
 
@@ -188,13 +191,14 @@ fn is_within(at: u16, side: u16) -> bool
 /// Whether one coordinate is from 1 to `side` and the other is just outside the array.
 fn is_beside(along: u16, side: u16, across: u16, depth: u16) -> bool
     requires { depth ≤ 1000 }
-    ensures { result ≡ ((nat_le 1 along && nat_le along side) && (across == 0 || across == depth + 1)) }
+    ensures { result ≡
+        ((nat_le 1 along && nat_le along side) && (across == 0 || across == depth + 1)) }
 {
     is_within(along, side) && (across == 0 || across == depth + 1)
 }
 
 /// Whether a site's position is one of those around an array.
-fn is_round(nx: u16, ny: u16, site: Site) -> bool
+fn is_perimeter(nx: u16, ny: u16, site: Site) -> bool
     requires { (nx ≤ 1000) × (ny ≤ 1000) }
     ensures { (io_rat : ℕ) → result ≡ list_any (is_position site) (perimeter (shape nx ny io_rat)) }
 {

@@ -1,4 +1,4 @@
-//! Reading an architecture text: its lines one by one, and what they have said so far.
+//! Reads an architecture text: its lines one by one, and what the lines read so far mean.
 
 ghost use Rattle.std.specs.Prelude.{◌≡◌, ℕ, ◌++◌, ◌<◌, ◌≤◌, ◌||◌, length, map, slice_get, IfOk, IfErr, OnOk, MatchResult, List, None, is_some};
 ghost use Rattle.std.specs.Option.{option_map};
@@ -126,7 +126,7 @@ fn check_pin(line: &Line) -> Result<(), ArchFault>
     }
 }
 
-/// What the lines so far have said.
+/// What the lines read so far mean.
 #[derive(Drop)]
 struct Seen {
     io_rat: Option<u16>,
@@ -145,7 +145,8 @@ impl Seen {
     /// Whether a line is lawful after those before it. Needs no memory, so a faulty line always gives its fault.
     #[tactic(auto, unfolding(crate::specs::Arch::line_fault))]
     fn check_line(&self, line: &Line) -> Result<(), ArchFault>
-        ensures { line_fault (is_some self.now.io_rat) (length self.now.pins.items) (shown line.now) ≡ err_of result }
+        ensures { line_fault (is_some self.now.io_rat) (length self.now.pins.items)
+            (shown line.now) ≡ err_of result }
     {
         if is_io_rat(line) {
             if self.io_rat.is_some() {
@@ -166,8 +167,10 @@ impl Seen {
 
     /// Adds what a lawful line says. Fails only if memory runs out.
     fn add_line(&mut self, line: &Line) -> Result<(), AllocError>
-        ensures io_rat { OnOk result (self.new.io_rat ≡ ratio_after self.old.io_rat (shown line.now)) }
-        ensures pins { OnOk result (self.new.pins.items ≡ self.old.pins.items ++ pins_in (shown line.now)) }
+        ensures io_rat { OnOk result
+            (self.new.io_rat ≡ ratio_after self.old.io_rat (shown line.now)) }
+        ensures pins { OnOk result
+            (self.new.pins.items ≡ self.old.pins.items ++ pins_in (shown line.now)) }
     {
         if is_io_rat(line) {
             self.io_rat = ratio_of(line).ok();
@@ -186,7 +189,8 @@ pub fn read_arch(alloc: Global, bytes: &[u8]) -> Result<Arch, ArchFault>
     // What is read is what the lines mean.
     ensures found { IfOk result (λ a. IsArch (lines bytes.now) a.io_rat a.pins.items) }
     // What they mean is read, unless memory runs out.
-    ensures only { (io_rat : ℕ) (pins : List PinKind) → IsArch (lines bytes.now) io_rat pins → MatchResult result (λ a. (a.io_rat ≡ io_rat) × (a.pins.items ≡ pins)) (λ e. e ≡ NoMemory) }
+    ensures only { (io_rat : ℕ) (pins : List PinKind) → IsArch (lines bytes.now) io_rat pins →
+        MatchResult result (λ a. (a.io_rat ≡ io_rat) × (a.pins.items ≡ pins)) (λ e. e ≡ NoMemory) }
     // An error is the first fault, or out of memory.
     ensures fault { IfErr result (λ e. FaultIs e (first_fault (lines bytes.now))) }
 {

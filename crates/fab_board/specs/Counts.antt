@@ -1,4 +1,4 @@
--- How often a number occurs in a list. Our own words.
+-- How often a number occurs in a list. Our own.
 use Rattle.std.specs.Prelude.{ℕ, List, count_by, if◌then◌else◌, nat_lt, ◌==◌}
 
 -- 1 if the two numbers are equal, otherwise 0

@@ -11,6 +11,7 @@ use Rattle.fab_board.specs.Counts.{times, once_below}
 abbrev pub sized : ℕ → ℕ → Size
 sized count seats = record { count = count; seats = seats }
 
+-- what a seat knows
 abbrev pub knows : ℕ → ℕ → List ℕ → ℕ → View
 knows count parts list told = record { count = count; parts = parts; list = list; told = told }
 
@@ -18,7 +19,7 @@ knows count parts list told = record { count = count; parts = parts; list = list
 abbrev pub given : List View → ℕ
 given vs = sum_by (λ v. length v.list) vs
 
--- how often the seats were told that no number is left
+-- how often a seat found no number left
 abbrev pub tellings : List View → ℕ
 tellings vs = sum_by (λ v. v.told) vs
 
@@ -59,6 +60,7 @@ Claimed st v found w = (w.1 ≡ v.1) × MatchBool (nat_lt found v.0.count)
 abbrev pub kept_back : View → View
 kept_back v = knows v.count (v.parts - 1) v.list v.told
 
+-- what the new seat of a split knows
 abbrev pub one_part : View → View
 one_part v = knows v.count 1 [] 0
 
@@ -66,5 +68,6 @@ one_part v = knows v.count 1 [] 0
 abbrev pub together : View → View → View
 together v w = knows v.count (v.parts + w.parts) (v.list ++ w.list) (v.told + w.told)
 
+-- what a seat knows that knows nothing
 abbrev pub nothing : View
 nothing = knows 0 0 [] 0

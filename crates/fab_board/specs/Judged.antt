@@ -1,4 +1,4 @@
--- Answers by number. Our own words.
+-- Answers by number. Our own.
 use Rattle.std.specs.Prelude.{ℕ, ◌<◌, List, length, Option, IfSome, slice_index_or}
 
 -- each slot that is full has an answer for its number

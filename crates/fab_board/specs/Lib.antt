@@ -1,3 +1,4 @@
+-- The definitions of fab_board, by file.
 pub mod Counts
 pub mod Views
 pub mod Dealt

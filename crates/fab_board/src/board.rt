@@ -21,13 +21,19 @@ pub struct Board {
 impl Model for Board {
     ghost Value = { BoardModel };
 
-    ghost view = { λ b. record { name = record { table = b.table.shared.table_id; count = b.count }; seats = b.seats } };
+    ghost view = { λ b.
+        record {
+          name = record { table = b.table.shared.table_id; count = b.count };
+          seats = b.seats;
+        } };
 
-    ghost invariant = { λ b. (b.table.shared.table_id.words ≡ 1) × (b.table.shared.table_id.slots ≡ 0) × (b.table.shared.key ≡ sized b.count b.seats) × (0 < b.seats) };
+    ghost invariant = { λ b.
+        (b.table.shared.table_id.words ≡ 1) × (b.table.shared.table_id.slots ≡ 0) ×
+        (b.table.shared.key ≡ sized b.count b.seats) × (0 < b.seats) };
 }
 
 /// The right of one thread to claim numbers of one board. Contracts see it as its board, the list of numbers that it was given, and
-/// whether it was told that none is left.
+/// whether one of its claims found no number left.
 #[derive(Drop)]
 pub struct ClaimSeat {
     seat: Seat<(), View>,
@@ -37,9 +43,15 @@ pub struct ClaimSeat {
 impl Model for ClaimSeat {
     ghost Value = { SeatModel };
 
-    ghost view = { λ s. record { board = record { table = s.seat.table_id; count = s.seat.me.0.count }; list = s.seat.me.0.list; told = s.told } };
+    ghost view = { λ s.
+        record {
+          board = record { table = s.seat.table_id; count = s.seat.me.0.count };
+          list = s.seat.me.0.list;
+          told = s.told;
+        } };
 
-    ghost invariant = { λ s. (s.seat.me.1 ≡ []) × (s.seat.me.0.parts ≡ 1) × (s.seat.me.0.told ≡ cond s.told 1 0) };
+    ghost invariant = { λ s.
+        (s.seat.me.1 ≡ []) × (s.seat.me.0.parts ≡ 1) × (s.seat.me.0.told ≡ cond s.told 1 0) };
 }
 
 /// What was claimed from a board that is closed.
@@ -55,7 +67,9 @@ impl Board {
         requires count { count ≤ 2 ^ 62 }
         requires seats { (0 < seats) × (seats ≤ 64) }
         ensures board { IfOk result (λ r. (r.0.name.count ≡ count) × (r.0.seats ≡ seats)) }
-        ensures seats { IfOk result (λ r. (length r.1.items ≡ seats) × All (λ s. (s.board ≡ r.0.name) × (s.list ≡ []) × (s.told ≡ false)) r.1.items) }
+        ensures seats { IfOk result (λ r.
+            (length r.1.items ≡ seats) ×
+            All (λ s. (s.board ≡ r.0.name) × (s.list ≡ []) × (s.told ≡ false)) r.1.items) }
     {
         let (table, mut seat) = Table::of_words(alloc, &[0], &Size { count, seats })?;
         let mut all = Vec::with_capacity(alloc, seats as usize)?;
@@ -89,7 +103,8 @@ impl Board {
         ensures board { seat.new.board ≡ seat.old.board }
 
         // The number goes to the end of the seat's list, and is above those already there.
-        ensures some { IfSome result (λ i. (seat.new.list ≡ seat.old.list ++ i ∷ []) × (seat.new.told ≡ false)) }
+        ensures some { IfSome result (λ i.
+            (seat.new.list ≡ seat.old.list ++ i ∷ []) × (seat.new.told ≡ false)) }
         ensures below { IfSome result (λ i. i < self.now.name.count) }
         ensures above { IfSome result (λ i. All (λ x. x < i) seat.old.list) }
 
@@ -139,8 +154,10 @@ fn gather(shared: &Shared<(), View, Size, Deal>, mut seats: Vec<ClaimSeat>) -> S
     requires some { 0 < length seats.items }
     requires table { shared.now.table_id.words ≡ 1 }
     requires own { All (λ s. s.board.table ≡ shared.now.table_id) seats.items }
-    ensures seat { (result.table_id ≡ shared.now.table_id) × (result.me.1 ≡ []) × (result.me.0.parts ≡ length seats.items) }
-    ensures numbers { (x : ℕ) → times x result.me.0.list ≡ sum_by (λ s. times x s.list) seats.items }
+    ensures seat { (result.table_id ≡ shared.now.table_id) × (result.me.1 ≡ []) ×
+        (result.me.0.parts ≡ length seats.items) }
+    ensures numbers { (x : ℕ) →
+        times x result.me.0.list ≡ sum_by (λ s. times x s.list) seats.items }
     ensures told { result.me.0.told ≡ sum_by (λ s. cond s.told 1 0) seats.items }
 {
     let Some(first) = seats.pop() else {

@@ -176,7 +176,8 @@ impl<E, J: Naming> Front<E, J> {
 
     /// Whether the other front is one entry longer. Then it is this one with that entry at its end.
     pub fn is_next(&self, other: &Front<E, J>) -> bool
-        ensures { result ≡ true → (e : E) → latest other.now ≡ Some e → other.now ≡ self.now ++ e ∷ [] }
+        ensures { result ≡ true → (e : E) → latest other.now ≡ Some e →
+            other.now ≡ self.now ++ e ∷ [] }
     {
         let mut both = self.seen.again();
         both.learn(&other.seen);

@@ -5,7 +5,8 @@ ghost use Rattle.std.specs.Prelude.{◌≡◌};
 use crate::board::{Board, ClaimSeat};
 use std::marker::{Brand, PhantomData};
 
-/// Names a claim board. The name is part of a crew's type, so its threads claim on no other board. Each call that makes a crew picks its own.
+/// Names a claim board. The name is part of a crew's type, so its threads claim on no other board. Each call that makes a crew picks its
+/// own.
 pub trait Boarding {
     ghost use Rattle.fab_board.specs.Views.{BoardName};
 
@@ -15,12 +16,23 @@ pub trait Boarding {
 impl Boarding for Brand {
     ghost use Rattle.std.specs.Prelude.{[]};
 
-    ghost board = { record { table = record { words = 0; slots = 0; views_name = 0; atom = 0; block = 0; offset = 0; slot_names = [] }; count = 0 } };
+    ghost board = { record {
+      table = record {
+        words = 0;
+        slots = 0;
+        views_name = 0;
+        atom = 0;
+        block = 0;
+        offset = 0;
+        slot_names = [];
+      };
+      count = 0;
+    } };
 }
 
 /// The claim board of a crew.
 #[derive(Drop)]
-pub(crate) struct Desk<J: Boarding> {
+pub(crate) struct CrewBoard<J: Boarding> {
     board: Board,
     of: PhantomData<J>,
     ghost named: { board.name ≡ J.board },
@@ -34,11 +46,11 @@ pub(crate) struct Claimer<J: Boarding> {
     ghost named: { seat.board ≡ J.board },
 }
 
-impl<J: Boarding> Desk<J> {
-    pub(crate) fn new(board: Board) -> Desk<J>
+impl<J: Boarding> CrewBoard<J> {
+    pub(crate) fn new(board: Board) -> CrewBoard<J>
         requires { board.name ≡ J.board }
     {
-        Desk {
+        CrewBoard {
             board,
             of: PhantomData,
         }
@@ -48,7 +60,7 @@ impl<J: Boarding> Desk<J> {
     pub(crate) fn into_board(self) -> Board
         ensures { result.name ≡ J.board }
     {
-        let Desk { board, of: _ } = self;
+        let CrewBoard { board, of: _ } = self;
         board
     }
 

@@ -1,5 +1,5 @@
 //! What follows posts, and the sheets on which answers go from thread to thread.
-ghost use Rattle.std.specs.Prelude.{◌≡◌, ℕ, ◌+◌, ◌-◌, ◌^◌, ◌<◌, ◌≤◌, List, ◌++◌, ◌∷◌, [], length, true, Option, Some, None, IfOk, IfSome, slice_index_or, vec_len};
+ghost use Rattle.std.specs.Prelude.{◌≡◌, ℕ, ◌+◌, ◌-◌, ◌^◌, ◌<◌, ◌≤◌, List, ◌++◌, ◌∷◌, [], length, true, Option, Some, None, IfOk, IfSome, slice_index_or, vec_len, min};
 ghost use Rattle.fab_board.specs.Posts.{latest};
 ghost use Rattle.fab_board.specs.Follows.{IsAnswerAfter, MayFollow};
 
@@ -37,7 +37,8 @@ pub trait Follow<E, T>: Drop {
         requires low { first < 2 ^ 62 }
         ensures same { self.new ≡ self.old }
         ensures many { length places.new ≡ length places.old }
-        ensures judged { result ≡ true → (k : ℕ) (d : _) → k < count → answer self.old (first + k) (slice_index_or places.new k d) };
+        ensures judged { result ≡ true → (k : ℕ) (d : _) → k < count →
+            answer self.old (first + k) (slice_index_or places.new k d) };
 }
 
 /// The state that all threads start from. Each call of a program picks it.
@@ -71,7 +72,8 @@ impl<S: Follow<E, T>, E: Drop, T: Drop, J: Naming + Origin<S>> Model for Posted<
 
     ghost view = { λ p. (p.post, p.front) };
 
-    ghost invariant = { λ p. (latest p.front ≡ Some p.post) × MayFollow S.may S.after J.start p.front p.post };
+    ghost invariant = { λ p.
+        (latest p.front ≡ Some p.post) × MayFollow S.may S.after J.start p.front p.post };
 }
 
 impl<S: Follow<E, T>, E: Drop, T: Drop, J: Naming + Origin<S>> Posted<S, E, T, J> {
@@ -201,7 +203,9 @@ impl<S: Follow<E, T>, E: Drop, T: Drop, J: Naming + Origin<S>> Model for Sheet<S
 
     ghost view = { λ s. (s.front, s.first, s.filled, s.places.items) };
 
-    ghost invariant = { λ s. (s.filled ≤ length s.places.items) × AreAnswersAfter S.after S.answer J.start s.front s.first s.filled s.places.items };
+    ghost invariant = { λ s.
+        (s.filled ≤ length s.places.items) ×
+        AreAnswersAfter S.after S.answer J.start s.front s.first s.filled s.places.items };
 }
 
 impl<S: Follow<E, T>, E: Drop, T: Drop, J: Naming + Origin<S>> Sheet<S, E, T, J> {
@@ -249,8 +253,22 @@ impl<S: Follow<E, T>, E: Drop, T: Drop, J: Naming + Origin<S>> Sheet<S, E, T, J>
         &self.places[(number - self.first) as usize]
     }
 
-    /// Takes the answer for the number, judged where the sheet's posts were followed, and leaves another value in its place. The answers for
-    /// later numbers are wiped.
+    /// The answers for numbers in a row from this one on, as many as there are, but at most so many. They were judged where the sheet's
+    /// posts were followed.
+    pub fn answers(&self, number: u64, most: u64) -> &[T]
+        requires { (self.now.1 ≤ number) × (number - self.now.1 < self.now.2) }
+        ensures many { length result.now ≡ min most (self.now.2 - (number - self.now.1)) }
+        ensures each { (k : ℕ) (d : T) → k < length result.now →
+            IsAnswerAfter S.after S.answer J.start self.now.0 (number + k)
+            (slice_index_or result.now k d) }
+    {
+        let begin = number - self.first;
+        let count = most.min(self.filled - begin);
+        &self.places[begin as usize..(begin + count) as usize]
+    }
+
+    /// Takes the answer for the number, judged where the sheet's posts were followed, and leaves another value in its place. The answers
+    /// for later numbers are wiped.
     pub fn take(&mut self, number: u64, other: T) -> T
         requires { (self.old.1 ≤ number) × (number - self.old.1 < self.old.2) }
         ensures answer { IsAnswerAfter S.after S.answer J.start self.old.0 number result }

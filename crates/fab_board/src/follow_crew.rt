@@ -1,5 +1,5 @@
-//! The threads of a crew. Each worker has a state of its own, follows what the owner posts, and judges units of numbers that it claims on the
-//! board.
+//! The threads of a crew. Each worker has a state of its own, follows what the owner posts, and judges units of numbers that it claims on
+//! the board.
 
 ghost use Rattle.std.specs.Prelude.{All, ◌≡◌, ℕ, ◌+◌, ◌<◌, ◌≤◌, List, [], length, true, Some, IfOk, IfSome, IsPermutation, vec_len};
 ghost use Rattle.std.specs.List.{range_with_len};
@@ -9,10 +9,10 @@ ghost use Rattle.fab_board.specs.Views.{all_numbers};
 
 use crate::board::{Board, ClaimSeat, Claims};
 use crate::book::{Book, Front, Naming};
-use crate::claimer::{Boarding, Claimer, Desk};
+use crate::claimer::{Boarding, Claimer, CrewBoard};
 use crate::follow::{Follow, Follower, Origin, Posted, Sheet, judge_unit};
 use crate::plan::Plan;
-use crate::waiting::{Lone, look_past, wait_past};
+use crate::waiting::{PaddedAtomic, look_past, wait_past};
 use std::alloc::{AllocError, Global};
 use std::marker::Model;
 use std::sync::atomic::{AtomicU64, Ordering};
@@ -39,33 +39,35 @@ struct Kit<S: Follow<E, T>, E: Drop, T: Drop, J: Naming + Boarding + Origin<S>> 
 
 /// A worker's place in the crew.
 #[derive(Drop)]
-struct Seat<S: Follow<E, T>, E: Drop, T: Drop, J: Naming + Boarding + Origin<S>> {
+struct WorkerSlot<S: Follow<E, T>, E: Drop, T: Drop, J: Naming + Boarding + Origin<S>> {
     /// What the worker begins with, until it does.
     start: Mutex<Option<Kit<S, E, T, J>>>,
     /// The same, once the worker has ended.
     end: Mutex<Option<Kit<S, E, T, J>>>,
     /// How many posts the worker has followed.
-    followed: Lone,
+    followed: PaddedAtomic,
 }
 
 /// What the threads of a crew share.
 #[derive(Drop)]
 pub struct Shared<S: Follow<E, T>, E: Drop, T: Drop, J: Naming + Boarding + Origin<S>> {
     pub(crate) book: Book<E, J>,
-    desk: Desk<J>,
+    crew_board: CrewBoard<J>,
     pub(crate) plan: Plan,
     posts: Vec<RwLock<Option<Posted<S, E, T, J>>>>,
     places: Vec<Place<S, E, T, J>>,
-    seats: Vec<Seat<S, E, T, J>>,
+    workers: Vec<WorkerSlot<S, E, T, J>>,
     /// Room for the seats of the claim board, once the workers have ended. Threads do not share seats, so it has a lock.
     room: Mutex<Vec<ClaimSeat>>,
     /// How many posts there are.
-    posted: Lone,
-    /// So many claims were made at least.
-    claimed: Lone,
-    asleep: Lone,
-    owner_asleep: Lone,
-    stop: Lone,
+    posted: PaddedAtomic,
+    /// A lower bound of the claims that were made.
+    claimed: PaddedAtomic,
+    asleep: PaddedAtomic,
+    owner_asleep: PaddedAtomic,
+    /// How many workers have begun, or are left out.
+    begun: PaddedAtomic,
+    stop: PaddedAtomic,
 }
 
 impl<S: Follow<E, T>, E: Drop, T: Drop, J: Naming + Boarding + Origin<S>> Model
@@ -75,7 +77,7 @@ impl<S: Follow<E, T>, E: Drop, T: Drop, J: Naming + Boarding + Origin<S>> Model
     /// How many workers it has.
     ghost Value = { ℕ };
 
-    ghost view = { λ c. length c.seats.items };
+    ghost view = { λ c. length c.workers.items };
 }
 
 /// What the owner finds where it looks for a unit.
@@ -85,7 +87,7 @@ pub(crate) enum Fetched {
     Here,
     /// Somebody judges it.
     Taken,
-    /// Nobody had taken it: it is the owner's.
+    /// Nobody had taken it; now the owner has.
     Mine,
 }
 
@@ -99,13 +101,13 @@ fn ready(unit: u64) -> u64 {
     unit.min(1 << 61) * 2 + 2
 }
 
-/// A worker that is gone has followed so many posts. Who sleeps on a word compares its low 32 bits, so these are not those of a number of posts.
+/// The count of posts of a worker that is gone. Sleepers compare the low 32 bits of a word; no real count has these.
 const GONE: u64 = u64::MAX;
 
 /// How many posts may wait for a worker that is late.
 const POSTS: u64 = 64;
 
-/// Of how many turns there are places.
+/// How many turns have places at a time.
 const TURNS: u64 = 4;
 
 impl<S: Follow<E, T>, E: Drop, T: Drop, J: Naming + Boarding + Origin<S>> Shared<S, E, T, J> {
@@ -196,14 +198,14 @@ impl<S: Follow<E, T>, E: Drop, T: Drop, J: Naming + Boarding + Origin<S>> Shared
         }
     }
 
-    /// Waits until the turn of a unit is posted, and follows its post: that of the unit which the worker has claimed, or else of the next one
-    /// that nobody has claimed. Returns whether it is: not if the crew is sent home.
+    /// Waits until the turn of the unit that the worker has claimed is posted, or without one the turn of the next unit that nobody has
+    /// claimed, and follows the post. Returns false if the crew was sent home.
     ///
     /// A worker that waits has followed all that is posted. The owner may wait for that, before it posts again.
-    fn is_posted<R: Wait>(
+    fn wait_for_turn<R: Wait>(
         &self,
         rt: &R,
-        followed: &Lone,
+        followed: &PaddedAtomic,
         by: &mut Follower<S, E, T, J>,
         unit: Option<u64>,
     ) -> bool {
@@ -229,16 +231,16 @@ impl<S: Follow<E, T>, E: Drop, T: Drop, J: Naming + Boarding + Origin<S>> Shared
     }
 
     /// Claims units and judges them, until the crew is sent home.
-    fn work_on<R: Wait>(&self, rt: &R, followed: &Lone, kit: &mut Kit<S, E, T, J>) {
+    fn work_on<R: Wait>(&self, rt: &R, followed: &PaddedAtomic, kit: &mut Kit<S, E, T, J>) {
         for _ in rt.forever() {
-            if !self.is_posted(rt, followed, &mut kit.follower, None) {
+            if !self.wait_for_turn(rt, followed, &mut kit.follower, None) {
                 return;
             }
-            let Some(unit) = self.desk.claim(&mut kit.claimer) else {
+            let Some(unit) = self.crew_board.claim(&mut kit.claimer) else {
                 return;
             };
             self.claimed.add_one();
-            if !self.is_posted(rt, followed, &mut kit.follower, Some(unit)) {
+            if !self.wait_for_turn(rt, followed, &mut kit.follower, Some(unit)) {
                 return;
             }
             // The last units of a short turn are empty.
@@ -250,68 +252,99 @@ impl<S: Follow<E, T>, E: Drop, T: Drop, J: Naming + Boarding + Origin<S>> Shared
     }
 
     /// Tells the owner how many posts a worker has followed. It may sleep until some are.
-    fn tell_followed(&self, followed: &Lone, posts: u64) {
+    fn tell_followed(&self, followed: &PaddedAtomic, posts: u64) {
         followed.store(posts);
         if self.owner_asleep.load() != 0 {
             followed.word.wake_all();
         }
     }
 
+    /// Counts a worker that begins or is left out.
+    fn count_begun(&self) {
+        self.begun.add_one();
+        if self.begun.load() >= self.workers.len() as u64 {
+            self.begun.word.wake_all();
+        }
+    }
+
+    /// Counts this worker, and sleeps until all have begun or are left out. Threads that are woken together get processors of their own; of
+    /// threads just started two often share one for some ten milliseconds.
+    fn begin_together<R: Wait>(&self, rt: &R) {
+        self.count_begun();
+        for _ in rt.forever() {
+            let begun = self.begun.load();
+            if begun >= self.workers.len() as u64 {
+                return;
+            }
+            self.begun.word.park(rt, (begun % 4294967296) as u32);
+        }
+    }
+
     /// A worker's life.
     fn work<R: Wait>(&self, rt: &R, me: usize) {
-        let Some(seat) = self.seats.get(me) else {
+        let Some(worker) = self.workers.get(me) else {
             return;
         };
-        let taken = seat.start.lock(rt).take();
+        let taken = worker.start.lock(rt).take();
         if let Some(mut kit) = taken {
-            self.work_on(rt, &seat.followed, &mut kit);
-            *seat.end.lock(rt) = Some(kit);
+            self.begin_together(rt);
+            self.work_on(rt, &worker.followed, &mut kit);
+            *worker.end.lock(rt) = Some(kit);
         }
-        self.tell_followed(&seat.followed, GONE);
+        self.tell_followed(&worker.followed, GONE);
     }
 
     /// How many posts each worker has followed at least.
     pub(crate) fn followed_by_all(&self) -> u64 {
         let mut least = GONE;
-        for seat in &self.seats {
-            least = least.min(seat.followed.load());
+        for worker in &self.workers {
+            least = least.min(worker.followed.load());
         }
         least
     }
 
-    /// Waits until each worker has followed so many posts. A worker that has not begun by then, since the system is slow to start its thread
-    /// or refuses to, is left out. All together get the time of one to begin.
+    /// Waits until each worker has followed so many posts. A worker that has not begun by then, since the system is slow to start its
+    /// thread or refuses to, is left out. All together get the time of one to begin.
     pub(crate) fn wait_for_all<R: Wait>(&self, rt: &R, goal: u64) {
+        self.leave_out_late(rt);
+        for worker in &self.workers {
+            self.wait_for_one(rt, &worker.followed, goal);
+        }
+    }
+
+    /// Leaves the workers out that do not begin in time. Who has begun may sleep until all have, so they are left out before anybody is
+    /// waited for.
+    fn leave_out_late<R: Wait>(&self, rt: &R) {
         let mut has_time = true;
-        for seat in &self.seats {
-            if seat.followed.load() == 0 {
-                has_time = has_time && look_past(&seat.followed.word, 0) != 0;
+        for worker in &self.workers {
+            if worker.followed.load() == 0 {
+                has_time = has_time && look_past(&worker.followed.word, 0) != 0;
                 if !has_time {
-                    self.leave_out(rt, seat);
+                    self.leave_out(rt, worker);
                 }
             }
-            self.wait_for_one(rt, &seat.followed, goal);
         }
     }
 
     /// Takes what a worker begins with, if it has not begun, so that it never begins.
-    fn leave_out<R: Wait>(&self, rt: &R, seat: &Seat<S, E, T, J>) {
-        let taken = seat.start.lock(rt).take();
+    fn leave_out<R: Wait>(&self, rt: &R, worker: &WorkerSlot<S, E, T, J>) {
+        let taken = worker.start.lock(rt).take();
         if let Some(kit) = taken {
-            *seat.end.lock(rt) = Some(kit);
-            self.tell_followed(&seat.followed, GONE);
+            *worker.end.lock(rt) = Some(kit);
+            self.tell_followed(&worker.followed, GONE);
+            self.count_begun();
         }
     }
 
     /// Leaves a worker out that was not started.
     fn go_without<R: Wait>(&self, rt: &R, me: usize) {
-        if let Some(seat) = self.seats.get(me) {
-            self.leave_out(rt, seat);
+        if let Some(worker) = self.workers.get(me) {
+            self.leave_out(rt, worker);
         }
     }
 
     /// Waits until a worker has followed so many posts.
-    fn wait_for_one<R: Wait>(&self, rt: &R, followed: &Lone, goal: u64) {
+    fn wait_for_one<R: Wait>(&self, rt: &R, followed: &PaddedAtomic, goal: u64) {
         let mut seen = followed.load();
         for _ in rt.forever() {
             if seen >= goal {
@@ -342,7 +375,7 @@ impl<S: Follow<E, T>, E: Drop, T: Drop, J: Naming + Boarding + Origin<S>> Shared
         }
     }
 
-    /// Brings the sheet of a judged unit for a used one. If nobody has taken the unit, takes it for the owner.
+    /// If the unit is judged, exchanges `sheet` for the unit's sheet. If nobody has taken the unit, takes it for the owner.
     pub(crate) fn fetch<R: Wait>(
         &self,
         rt: &R,
@@ -429,52 +462,52 @@ fn all_posts<S: Follow<E, T>, E: Drop, T: Drop, J: Naming + Boarding + Origin<S>
     Ok(posts)
 }
 
-fn new_seat<S: Follow<E, T>, E: Drop, T: Drop, J: Naming + Boarding + Origin<S>>(
+fn new_worker<S: Follow<E, T>, E: Drop, T: Drop, J: Naming + Boarding + Origin<S>>(
     alloc: Global,
     state: S,
     seat: ClaimSeat,
     front: &Front<E, J>,
     plan: Plan,
-) -> Result<Seat<S, E, T, J>, AllocError>
+) -> Result<WorkerSlot<S, E, T, J>, AllocError>
     requires start { J.start ≡ Some state }
     requires seat { seat.board ≡ J.board }
     requires empty { front.now ≡ [] }
 {
     let follower = Follower::new(state, front.again());
     let sheet = Sheet::new(front.again(), follower.places(alloc, plan.size())?);
-    Ok(Seat {
+    Ok(WorkerSlot {
         start: Mutex::new(Some(Kit {
             follower,
             sheet,
             claimer: Claimer::new(seat),
         })),
         end: Mutex::new(None),
-        followed: Lone::new(0),
+        followed: PaddedAtomic::new(0),
     })
 }
 
 /// A worker's place for each state, and the list of the board's seats, which is empty now and has room for them.
-fn all_seats<S: Follow<E, T>, E: Drop, T: Drop, J: Naming + Boarding + Origin<S>>(
+fn all_workers<S: Follow<E, T>, E: Drop, T: Drop, J: Naming + Boarding + Origin<S>>(
     alloc: Global,
     mut states: Vec<S>,
     mut claims: Vec<ClaimSeat>,
     front: &Front<E, J>,
     plan: Plan,
-) -> Result<(Vec<Seat<S, E, T, J>>, Vec<ClaimSeat>), AllocError>
+) -> Result<(Vec<WorkerSlot<S, E, T, J>>, Vec<ClaimSeat>), AllocError>
     requires start { All (λ s. J.start ≡ Some s) states.items }
     requires claims { All (λ s. s.board ≡ J.board) claims.items }
     requires many { length claims.items ≡ length states.items }
     requires empty { front.now ≡ [] }
     ensures many { IfOk result (λ r. length r.0.items ≡ length states.items) }
 {
-    let mut seats = Vec::new(alloc);
+    let mut workers = Vec::new(alloc);
     while let Some(state) = states.pop() {
         let Some(claim) = claims.pop() else {
             unreachable!()
         };
-        seats.push(new_seat(alloc, state, claim, front, plan)?)?;
+        workers.push(new_worker(alloc, state, claim, front, plan)?)?;
     }
-    Ok((seats, claims))
+    Ok((workers, claims))
 }
 
 /// What the threads of a crew share before any has joined: a worker for each of the states, with a seat of the board.
@@ -497,20 +530,21 @@ pub(crate) fn new_shared<S: Follow<E, T>, E: Drop, T: Drop, J: Naming + Boarding
 {
     let posts = all_posts(alloc)?;
     let places = all_places(alloc, by, front, plan)?;
-    let (seats, room) = all_seats(alloc, states, claims, front, plan)?;
+    let (workers, room) = all_workers(alloc, states, claims, front, plan)?;
     Ok(Shared {
         book,
-        desk: Desk::new(board),
+        crew_board: CrewBoard::new(board),
         plan,
         posts,
         places,
-        seats,
+        workers,
         room: Mutex::new(room),
-        posted: Lone::new(0),
-        claimed: Lone::new(0),
-        asleep: Lone::new(0),
-        owner_asleep: Lone::new(0),
-        stop: Lone::new(0),
+        posted: PaddedAtomic::new(0),
+        claimed: PaddedAtomic::new(0),
+        asleep: PaddedAtomic::new(0),
+        owner_asleep: PaddedAtomic::new(0),
+        begun: PaddedAtomic::new(0),
+        stop: PaddedAtomic::new(0),
     })
 }
 
@@ -523,7 +557,7 @@ fn work_all<
     J: Naming + Boarding + Origin<S> + Send + Sync,
     R: Threads + Wait + Sync,
 >(rt: &R, crew: &Shared<S, E, T, J>) {
-    let workers = crew.seats.len();
+    let workers = crew.workers.len();
     thread::scope(thread::scope_env(), rt, |scope| {
         for me in 1..workers {
             if scope.spawn(move || crew.work(rt, me)).is_err() {
@@ -566,7 +600,8 @@ pub fn beside<
         { work_all(rt, crew) },
         &mut || -> X
             requires { (x : _) → x.now ≡ owner.now → F.pre make.now x }
-            ensures { CalledAtMut F.FnMut make.entry.now owner.entry.now result make.exit.now owner.exit.now }
+            ensures { CalledAtMut F.FnMut make.entry.now owner.entry.now result make.exit.now
+                owner.exit.now }
         {
             let made = called(make, owner);
             crew.send_home();
@@ -590,7 +625,8 @@ impl Model for Retired {
 
     ghost view = { λ r. all_numbers r.seats.items };
 
-    ghost invariant = { λ r. (length r.seats.items ≡ r.board.seats) × All (λ s. s.board ≡ r.board.name) r.seats.items };
+    ghost invariant = { λ r.
+        (length r.seats.items ≡ r.board.seats) × All (λ s. s.board ≡ r.board.name) r.seats.items };
 }
 
 impl Retired {
@@ -611,16 +647,17 @@ pub fn retire<S: Follow<E, T>, E: Drop, T: Drop, J: Naming + Boarding + Origin<S
     let Ok(crew) = Arc::try_unwrap(crew) else {
         return None;
     };
-    let (desk, seats, room) = crew.into_parts();
-    let board = desk.into_board();
-    let seats = seats_of(seats, room)?;
+    let (crew_board, workers, room) = crew.into_parts();
+    let board = crew_board.into_board();
+    let seats = seats_of(workers, room)?;
     if seats.len() as u64 != board.seats() {
         return None;
     }
     Some(Retired { board, seats })
 }
 
-/// Closes the claim board of a crew that has ended. Returns how many units of work its workers claimed; `None` if one of them is still at work.
+/// Closes the claim board of a crew that has ended. Returns how many units of work its workers claimed; `None` if one of them is still at
+/// work.
 pub fn close_board<S: Follow<E, T>, E: Drop, T: Drop, J: Naming + Boarding + Origin<S>>(
     crew: Arc<Shared<S, E, T, J>>,
 ) -> Option<Claims> {
@@ -629,14 +666,14 @@ pub fn close_board<S: Follow<E, T>, E: Drop, T: Drop, J: Naming + Boarding + Ori
 
 /// The seats of the claim board that the workers have given back. `None` if one has not.
 fn seats_of<S: Follow<E, T>, E: Drop, T: Drop, J: Naming + Boarding + Origin<S>>(
-    mut seats: Vec<Seat<S, E, T, J>>,
+    mut workers: Vec<WorkerSlot<S, E, T, J>>,
     mut room: Vec<ClaimSeat>,
 ) -> Option<Vec<ClaimSeat>>
     ensures { IfSome result (λ v. All (λ s. s.board ≡ J.board) v.items) }
 {
     room.clear();
-    while let Some(seat) = seats.pop() {
-        let claimer = claimer_of(seat)?;
+    while let Some(worker) = workers.pop() {
+        let claimer = claimer_of(worker)?;
         let Ok(()) = room.push(claimer.into_seat()) else {
             return None;
         };
@@ -646,13 +683,13 @@ fn seats_of<S: Follow<E, T>, E: Drop, T: Drop, J: Naming + Boarding + Origin<S>>
 
 /// A worker's right to claim, which it has given back.
 fn claimer_of<S: Follow<E, T>, E: Drop, T: Drop, J: Naming + Boarding + Origin<S>>(
-    seat: Seat<S, E, T, J>,
+    worker: WorkerSlot<S, E, T, J>,
 ) -> Option<Claimer<J>> {
-    let Seat {
+    let WorkerSlot {
         start,
         end,
         followed: _,
-    } = seat;
+    } = worker;
     let kit = match end.into_inner() {
         Some(kit) => Some(kit),
         None => start.into_inner(),
@@ -667,21 +704,22 @@ fn claimer_of<S: Follow<E, T>, E: Drop, T: Drop, J: Naming + Boarding + Origin<S
 
 impl<S: Follow<E, T>, E: Drop, T: Drop, J: Naming + Boarding + Origin<S>> Shared<S, E, T, J> {
     /// What is left of a crew that has ended: its claim board, its workers' places, and room for the board's seats.
-    fn into_parts(self) -> (Desk<J>, Vec<Seat<S, E, T, J>>, Vec<ClaimSeat>) {
+    fn into_parts(self) -> (CrewBoard<J>, Vec<WorkerSlot<S, E, T, J>>, Vec<ClaimSeat>) {
         let Shared {
             book: _,
-            desk,
+            crew_board,
             plan: _,
             posts: _,
             places: _,
-            seats,
+            workers,
             room,
             posted: _,
             claimed: _,
             asleep: _,
             owner_asleep: _,
+            begun: _,
             stop: _,
         } = self;
-        (desk, seats, room.into_inner())
+        (crew_board, workers, room.into_inner())
     }
 }

@@ -1,6 +1,6 @@
 //! The owner's end of a crew: it posts, and takes the answers in order of number.
 
-ghost use Rattle.std.specs.Prelude.{All, ◌≡◌, ℕ, ◌+◌, ◌-◌, ◌<◌, ◌≤◌, List, ◌++◌, ◌∷◌, [], length, true, Some, IfOk, OnOk, OnErr, IfSome};
+ghost use Rattle.std.specs.Prelude.{All, ◌≡◌, ℕ, ◌+◌, ◌-◌, ◌<◌, ◌≤◌, List, ◌++◌, ◌∷◌, [], length, true, Some, IfOk, OnOk, OnErr, IfSome, slice_index_or};
 ghost use Rattle.std.specs.Arc.{arc_value};
 ghost use Rattle.fab_board.specs.Follows.{MayNow, IsAnswerAfter};
 
@@ -9,8 +9,8 @@ use crate::book::{Front, Naming, Opened};
 use crate::claimer::Boarding;
 use crate::follow::{Follow, Follower, Origin, Posted, Sheet, judge_unit};
 use crate::follow_crew::{Fetched, Shared, new_shared};
+use crate::own_units::OwnUnits;
 use crate::plan::Plan;
-use crate::shares::Shares;
 use std::alloc::{AllocError, Global};
 use std::marker::Model;
 use std::mem;
@@ -27,14 +27,14 @@ pub struct Lead<S: Follow<E, T>, E: Drop, T: Drop, J: Naming + Boarding + Origin
     asked: (u64, u64),
     /// What the post before it asks for.
     due: (u64, u64),
-    /// How many posts each worker had followed when that was looked at.
+    /// A lower bound of the posts that each worker had followed when that was last looked at.
     followed: u64,
-    /// The owner has looked at the units before this one, whether it can help with them.
+    /// The first unit that the owner has not tried to help with.
     helped: u64,
     /// A sheet for a unit that the owner helps with.
     spare: Sheet<S, E, T, J>,
-    /// Which units are the owner's own. None are kept from the workers where it judges on its own state.
-    shares: Option<Shares>,
+    /// The units that the owner keeps from the workers. `None` if it judges on its own state; then it keeps none.
+    own_units: Option<OwnUnits>,
 }
 
 impl<S: Follow<E, T>, E: Drop, T: Drop, J: Naming + Boarding + Origin<S>> Model
@@ -47,8 +47,8 @@ impl<S: Follow<E, T>, E: Drop, T: Drop, J: Naming + Boarding + Origin<S>> Model
 }
 
 impl<S: Follow<E, T>, E: Drop, T: Drop, J: Naming + Boarding + Origin<S>> Lead<S, E, T, J> {
-    #[tactic(auto, using(crate::proofs::Placing::latest_push, crate::proofs::Steps::may_push))]
     /// Posts, and gives an older post back, which may be filled anew. An error gives this one back: the crew was not given it.
+    #[tactic(auto, using(crate::proofs::Placing::latest_push, crate::proofs::Steps::may_push))]
     pub fn post<R: Wait>(&mut self, rt: &R, post: E) -> Result<Option<E>, E>
         requires may { MayNow S.may S.after J.start self.old.0 post }
         ensures posts { OnOk result (self.new.0 ≡ self.old.0 ++ post ∷ []) }
@@ -71,14 +71,14 @@ impl<S: Follow<E, T>, E: Drop, T: Drop, J: Naming + Boarding + Origin<S>> Lead<S
         Ok(old)
     }
 
-    /// Waits until nobody needs the post whose slot this one takes.
+    /// Waits until every worker has followed the post whose slot is used again.
     fn make_room<R: Wait>(&mut self, rt: &R, number: u64)
         ensures { self.new ≡ self.old }
     {
         if self.shared.is_room(self.followed, number) {
             return;
         }
-        if self.shares.is_none() {
+        if self.own_units.is_none() {
             self.shared.follow_to(rt, &mut self.mine, number);
         }
         self.shared.wait_for_all(rt, self.shared.goal_for(number));
@@ -89,7 +89,7 @@ impl<S: Follow<E, T>, E: Drop, T: Drop, J: Naming + Boarding + Origin<S>> Lead<S
     pub fn leave_to_owner(&mut self)
         ensures { self.new ≡ self.old }
     {
-        self.shares = Some(Shares::none());
+        self.own_units = Some(OwnUnits::none());
     }
 
     /// Before a turn is posted, keeps some of its units from the workers.
@@ -97,8 +97,8 @@ impl<S: Follow<E, T>, E: Drop, T: Drop, J: Naming + Boarding + Origin<S>> Lead<S
         ensures { self.new ≡ self.old }
     {
         let plan = self.shared.plan;
-        if let Some(shares) = &mut self.shares {
-            let kept = shares.next_turn(plan.units());
+        if let Some(own_units) = &mut self.own_units {
+            let kept = own_units.next_turn(plan.units());
             let first = plan.unit_of(turn, 0);
             for i in 0..kept {
                 self.shared.keep(first.saturating_add(i));
@@ -106,22 +106,23 @@ impl<S: Follow<E, T>, E: Drop, T: Drop, J: Naming + Boarding + Origin<S>> Lead<S
         }
     }
 
-    /// Brings the sheet with the number's answer, as [`Lead::seek`] does, if a worker has taken it, once it is judged. Returns 0 then, and else
-    /// how many numbers from this one on are left to the owner. Where the owner judges on its own state, it seeks the answer.
+    /// Brings the sheet with the number's answer, as [`Lead::seek`] does, if a worker has taken it, once it is judged. Returns how many
+    /// numbers from this one on are left to the owner; 0 if the answer is ready, or if there is none. If the owner judges on its own state,
+    /// it seeks the answer.
     pub fn look<R: Wait>(&mut self, rt: &R, number: u64, sheet: &mut Sheet<S, E, T, J>) -> u64
         ensures { self.new ≡ self.old }
     {
         if sheet.has(number) && sheet.is_after(&self.base) {
             return 0;
         }
-        if self.shares.is_none() {
+        if self.own_units.is_none() {
             self.seek(rt, number, sheet);
             return 0;
         }
         let Some(unit) = self.unit_of(number) else {
             return 0;
         };
-        if self.is_left(rt, unit, sheet) {
+        if self.is_left_to_owner(rt, unit, sheet) {
             self.shared.plan.size()
         } else {
             0
@@ -129,13 +130,18 @@ impl<S: Follow<E, T>, E: Drop, T: Drop, J: Naming + Boarding + Origin<S>> Lead<S
     }
 
     /// Whether a unit is left to the owner. If not, brings its sheet once it is judged.
-    fn is_left<R: Wait>(&mut self, rt: &R, unit: u64, sheet: &mut Sheet<S, E, T, J>) -> bool
+    fn is_left_to_owner<R: Wait>(
+        &mut self,
+        rt: &R,
+        unit: u64,
+        sheet: &mut Sheet<S, E, T, J>,
+    ) -> bool
         ensures { self.new ≡ self.old }
     {
-        let Some(shares) = &mut self.shares else {
+        let Some(own_units) = &mut self.own_units else {
             return false;
         };
-        if shares.is_kept(unit % self.shared.plan.units().max(1)) {
+        if own_units.is_kept(unit % self.shared.plan.units().max(1)) {
             return true;
         }
         for _ in rt.forever() {
@@ -143,7 +149,7 @@ impl<S: Follow<E, T>, E: Drop, T: Drop, J: Naming + Boarding + Origin<S>> Lead<S
                 Fetched::Here => return false,
                 Fetched::Mine => return true,
                 Fetched::Taken => {
-                    shares.was_late();
+                    own_units.was_late();
                     self.shared.wait_for(rt, unit);
                 }
             }
@@ -164,12 +170,13 @@ impl<S: Follow<E, T>, E: Drop, T: Drop, J: Naming + Boarding + Origin<S>> Lead<S
         Some(plan.unit_of(self.base.len().saturating_sub(1), begin))
     }
 
-    /// Brings the sheet with the number's answer, judged on the state after the posts of this turn's base, and leaves a used one.
-    /// False if the number must be judged here and memory runs out.
+    /// Brings the sheet with the number's answer, judged on the state after the posts of this turn's base, and leaves a used one. False if
+    /// there is no answer, since the owner's own state judges none.
     pub fn seek<R: Wait>(&mut self, rt: &R, number: u64, sheet: &mut Sheet<S, E, T, J>) -> bool
         ensures same { self.new ≡ self.old }
         ensures after { result ≡ true → sheet.new.0 ≡ self.old.1 }
-        ensures has { result ≡ true → (sheet.new.1 ≤ number) × (number - sheet.new.1 < sheet.new.2) }
+        ensures has { result ≡ true → (sheet.new.1 ≤ number) ×
+            (number - sheet.new.1 < sheet.new.2) }
     {
         if sheet.has(number) && sheet.is_after(&self.base) {
             return true;
@@ -184,7 +191,8 @@ impl<S: Follow<E, T>, E: Drop, T: Drop, J: Naming + Boarding + Origin<S>> Lead<S
 
     /// The answer for the number, if the sheet has one that was judged on the state after the posts of this turn's base.
     pub fn answer<'s>(&self, number: u64, sheet: &'s Sheet<S, E, T, J>) -> Option<&'s T>
-        ensures { IfSome result (λ x. IsAnswerAfter S.after S.answer J.start self.now.1 number x.now) }
+        ensures { IfSome result (λ x.
+            IsAnswerAfter S.after S.answer J.start self.now.1 number x.now) }
     {
         if !sheet.has(number) || !sheet.is_after(&self.base) {
             return None;
@@ -192,8 +200,22 @@ impl<S: Follow<E, T>, E: Drop, T: Drop, J: Naming + Boarding + Origin<S>> Lead<S
         Some(sheet.at(number))
     }
 
-    /// Takes the answer for the number out of the sheet, if it has one that was judged on the state after the posts of this turn's base, and
-    /// leaves another value in its place. The sheet's answers for later numbers are wiped.
+    /// The answers for numbers in a row from this one on, at most so many, if the sheet has them and they were judged on the state after
+    /// the posts of this turn's base; else none.
+    pub fn answers<'s>(&self, number: u64, most: u64, sheet: &'s Sheet<S, E, T, J>) -> &'s [T]
+        ensures most { length result.now ≤ most }
+        ensures each { (k : ℕ) (d : T) → k < length result.now →
+            IsAnswerAfter S.after S.answer J.start self.now.1 (number + k)
+            (slice_index_or result.now k d) }
+    {
+        if !sheet.is_after(&self.base) || !sheet.has(number) {
+            return &[];
+        }
+        sheet.answers(number, most)
+    }
+
+    /// Takes the answer for the number out of the sheet, if it has one that was judged on the state after the posts of this turn's base,
+    /// and leaves another value in its place. The sheet's answers for later numbers are wiped.
     pub fn take(&self, number: u64, sheet: &mut Sheet<S, E, T, J>, other: T) -> Option<T>
         ensures { IfSome result (λ x. IsAnswerAfter S.after S.answer J.start self.now.1 number x) }
     {
@@ -203,8 +225,8 @@ impl<S: Follow<E, T>, E: Drop, T: Drop, J: Naming + Boarding + Origin<S>> Lead<S
         Some(sheet.take(number, other))
     }
 
-    /// Brings the sheet of the number's unit: from whoever has taken it, or judged here if nobody has. While somebody judges it, later units
-    /// of the turn are judged here that nobody has taken.
+    /// Brings the sheet of the number's unit: from whoever has taken it, or judged here if nobody has. While somebody judges it, later
+    /// units of the turn are judged here that nobody has taken.
     fn fetch<R: Wait>(&mut self, rt: &R, number: u64, sheet: &mut Sheet<S, E, T, J>)
         ensures { self.new ≡ self.old }
     {
@@ -224,13 +246,13 @@ impl<S: Follow<E, T>, E: Drop, T: Drop, J: Naming + Boarding + Origin<S>> Lead<S
                     self.judge_own(rt, unit, sheet);
                     break;
                 }
-                Fetched::Taken => self.pass_time(rt, unit, end),
+                Fetched::Taken => self.help_or_wait(rt, unit, end),
             }
         }
     }
 
     /// While somebody judges a unit, judges a later one before `end` that nobody has taken, or waits if there is none.
-    fn pass_time<R: Wait>(&mut self, rt: &R, unit: u64, end: u64)
+    fn help_or_wait<R: Wait>(&mut self, rt: &R, unit: u64, end: u64)
         ensures { self.new ≡ self.old }
     {
         let from = self.helped.max(unit.saturating_add(1));
@@ -297,7 +319,7 @@ impl<S: Follow<E, T>, E: Drop, T: Drop, J: Naming + Boarding + Origin<S>> Drop
             followed: _,
             helped: _,
             spare: _,
-            shares: _,
+            own_units: _,
         } = self;
         shared.send_home();
     }
@@ -342,7 +364,7 @@ pub fn new_crew<S: Follow<E, T>, E: Drop, T: Drop, J: Naming + Boarding + Origin
         followed: 0,
         helped: 0,
         spare,
-        shares: None,
+        own_units: None,
     };
     Ok((crew, lead))
 }

@@ -1,4 +1,4 @@
-//! What a caller does around judgements and commits.
+//! Calls that a caller hooks in before and after judgements, and before commits.
 
 /// What a caller does before and after each judgement that is made ahead, and before each commit. For example, a test holds one back
 /// until another is made. `k` is the number that is judged or committed. Threads call it concurrently, and each call must return. Where

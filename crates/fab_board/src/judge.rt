@@ -1,4 +1,4 @@
-//! A batch of numbers that a crew judges with one borrowed closure.
+//! A batch of numbers that a crew judges with one borrowed closure. Tests alone call this; a run of the program does not.
 ghost use Rattle.std.specs.Prelude.{◌≡◌, ℕ, ◌+◌, ◌-◌, ◌^◌, ◌<◌, ◌≤◌, [], All, true, length, Ok, Some, None, IfOk, IfSome, OnOk, slice_index_or};
 ghost use Rattle.std.specs.Fn.{CalledAtMut};
 ghost use Rattle.std.specs.Thread.{IsSync};
@@ -133,7 +133,7 @@ impl<'r, T: Drop, G: Gate, B: Judging<Answer = T>> Follow<Ask, Option<T>> for Le
 
 /// What a crew is made of: a claim board with its workers' seats, a state for the owner and one for each worker, and how the numbers are
 /// shared out.
-struct Founded<S> {
+struct CrewParts<S> {
     board: Board,
     claims: Vec<ClaimSeat>,
     first: S,
@@ -143,13 +143,13 @@ struct Founded<S> {
 
 /// The owner's end of a crew, and the sheet that it reads.
 #[derive(Drop)]
-struct Desk<S: Follow<Ask, Option<T>>, T: Drop, J: Naming + Boarding + Origin<S>> {
+struct OwnerEnd<S: Follow<Ask, Option<T>>, T: Drop, J: Naming + Boarding + Origin<S>> {
     lead: Lead<S, Ask, Option<T>, J>,
     sheet: Sheet<S, Ask, Option<T>, J>,
 }
 
-/// Judges the `count` numbers from `first` on, with `workers` workers, or with `count` workers if that is less. The workers are threads, which
-/// claim the numbers; the calling thread judges what none of them has claimed. Each calls `judge` for a number between the gate's two
+/// Judges the `count` numbers from `first` on, with `workers` workers, or with `count` workers if that is less. The workers are threads,
+/// which claim the numbers; the calling thread judges what none of them has claimed. Each calls `judge` for a number between the gate's two
 /// calls, and all have ended when this returns. Entry j is an answer for `first + j`.
 ///
 /// An error means that memory ran out, in `judge` or here. A worker that the system refuses to start leaves its numbers to the others.
@@ -172,7 +172,9 @@ pub fn judge_batch<
     requires workers { (0 < workers) × (workers ≤ 64) }
     requires calls { (k : ℕ) → k < count → F.pre judge.now (first + k) }
     ensures len { IfOk result (λ v. length v.items ≡ count) }
-    ensures each { IfOk result (λ v. (j : ℕ) (d : T) → j < count → F.post judge.now (first + j) (Ok (slice_index_or v.items j d))) }
+    ensures each { IfOk result (λ v.
+        (j : ℕ) (d : T) → j < count →
+        F.post judge.now (first + j) (Ok (slice_index_or v.items j d))) }
 {
     judge_with(rt, alloc, first, count, workers, gate, Called { by: judge })
 }
@@ -197,25 +199,26 @@ fn judge_with<T: Send + Drop, G: Gate, B: Judging<Answer = T> + Send, R: Threads
     if count == 0 {
         return Ok(Vec::new(alloc));
     }
-    let founded = found(alloc, first, count, workers.min(count), gate, by)?;
-    judged_by::<Lent<'_, T, G, B>, T, Brand, R>(rt, alloc, Opened::new(), founded, first, count)
+    let parts = crew_parts(alloc, first, count, workers.min(count), gate, by)?;
+    judged_by::<Lent<'_, T, G, B>, T, Brand, R>(rt, alloc, Opened::new(), parts, first, count)
 }
 
 /// What a crew of so many workers is made of, which judges these numbers.
-fn found<'r, T, G: Gate, B: Judging<Answer = T>>(
+fn crew_parts<'r, T, G: Gate, B: Judging<Answer = T>>(
     alloc: Global,
     first: u64,
     count: u64,
     workers: u64,
     gate: &'r G,
     by: B,
-) -> Result<Founded<Lent<'r, T, G, B>>, AllocError>
+) -> Result<CrewParts<Lent<'r, T, G, B>>, AllocError>
     requires workers { (0 < workers) × (workers ≤ 64) }
     requires calls { (k : ℕ) → k < count → B.may by (first + k) }
     ensures claims { IfOk result (λ f. All (λ s. s.board ≡ f.board.name) f.claims.items) }
     ensures first { IfOk result (λ f. f.first ≡ by) }
     ensures others { IfOk result (λ f. All (λ s. s ≡ by) f.others.items) }
-    ensures many { IfOk result (λ f. (length f.claims.items ≡ workers) × (length f.others.items ≡ workers)) }
+    ensures many { IfOk result (λ f.
+        (length f.claims.items ≡ workers) × (length f.others.items ≡ workers)) }
 {
     let mut others = Vec::new(alloc);
     for _worker in 0..workers {
@@ -228,7 +231,7 @@ fn found<'r, T, G: Gate, B: Judging<Answer = T>>(
     } else {
         Plan::single(count)
     };
-    Ok(Founded {
+    Ok(CrewParts {
         board,
         claims,
         first: lend(first, count, gate, by),
@@ -266,44 +269,47 @@ fn judged_by<
     rt: &R,
     alloc: Global,
     opened: Opened<Ask>,
-    founded: Founded<S>,
+    parts: CrewParts<S>,
     first: u64,
     count: u64,
 ) -> Result<Vec<T>, AllocError>
     requires book { opened ≡ J.book }
-    requires board { founded.board.name ≡ J.board }
-    requires claims { All (λ s. s.board ≡ J.board) founded.claims.items }
-    requires start { J.start ≡ Some founded.first }
-    requires starts { All (λ s. J.start ≡ Some s) founded.others.items }
-    requires many { length founded.claims.items ≡ length founded.others.items }
+    requires board { parts.board.name ≡ J.board }
+    requires claims { All (λ s. s.board ≡ J.board) parts.claims.items }
+    requires start { J.start ≡ Some parts.first }
+    requires starts { All (λ s. J.start ≡ Some s) parts.others.items }
+    requires many { length parts.claims.items ≡ length parts.others.items }
     requires may { (s : S) (e : Ask) → S.may s e }
     requires room { first + count < 2 ^ 64 }
     ensures len { IfOk result (λ v. length v.items ≡ count) }
-    ensures each { IfOk result (λ v. AllAnswered (λ k x. IsAnswered S.after S.answer J.start (first + k) (Some x)) v.items) }
+    ensures each { IfOk result (λ v.
+        AllAnswered (λ k x. IsAnswered S.after S.answer J.start (first + k) (Some x)) v.items) }
 {
-    let Founded {
+    let CrewParts {
         board,
         claims,
         first: state,
         others,
         units,
-    } = founded;
+    } = parts;
     let (crew, lead) = new_crew::<S, Ask, Option<T>, J>(
         alloc, opened, board, claims, state, others, units,
     )?;
     let sheet = lead.sheet(alloc)?;
-    let mut desk = Desk { lead, sheet };
+    let mut owner_end = OwnerEnd { lead, sheet };
     let answers = beside(
         rt,
         &crew,
-        &mut desk,
-        &mut |d: &mut Desk<S, T, J>| -> Result<Vec<T>, AllocError>
+        &mut owner_end,
+        &mut |d: &mut OwnerEnd<S, T, J>| -> Result<Vec<T>, AllocError>
             requires { IsSync R.row × ((s : S) (e : Ask) → S.may s e) × (first + count < 2 ^ 64) }
             ensures len { IfOk result (λ v. length v.items ≡ count) }
-            ensures each { IfOk result (λ v. AllAnswered (λ k x. IsAnswered S.after S.answer J.start (first + k) (Some x)) v.items) }
+            ensures each { IfOk result (λ v.
+                AllAnswered (λ k x.
+                IsAnswered S.after S.answer J.start (first + k) (Some x)) v.items) }
         { collect(rt, alloc, d, first, count) },
     );
-    drop(desk);
+    drop(owner_end);
     close_board(crew);
     answers
 }
@@ -313,25 +319,26 @@ fn judged_by<
 fn collect<S: Follow<Ask, Option<T>>, T: Drop, J: Naming + Boarding + Origin<S>, R: Wait>(
     rt: &R,
     alloc: Global,
-    desk: &mut Desk<S, T, J>,
+    owner_end: &mut OwnerEnd<S, T, J>,
     first: u64,
     count: u64,
 ) -> Result<Vec<T>, AllocError>
     requires may { (s : S) (e : Ask) → S.may s e }
     requires room { first + count < 2 ^ 64 }
     ensures len { IfOk result (λ v. length v.items ≡ count) }
-    ensures each { IfOk result (λ v. AllAnswered (λ k x. IsAnswered S.after S.answer J.start (first + k) (Some x)) v.items) }
+    ensures each { IfOk result (λ v.
+        AllAnswered (λ k x. IsAnswered S.after S.answer J.start (first + k) (Some x)) v.items) }
 {
     let mut slots = vacant(alloc, count)?;
     // What one post asks for is due once the next one is posted.
-    let _ = desk.lead.post(rt, Ask { first, count });
-    let _ = desk.lead.post(rt, Ask { first, count: 0 });
+    let _ = owner_end.lead.post(rt, Ask { first, count });
+    let _ = owner_end.lead.post(rt, Ask { first, count: 0 });
     let mut place = count;
     while place > 0 {
         place -= 1;
         let number = first + place;
-        desk.lead.seek(rt, number, &mut desk.sheet);
-        if let Some(answer) = desk.lead.take(number, &mut desk.sheet, None) {
+        owner_end.lead.seek(rt, number, &mut owner_end.sheet);
+        if let Some(answer) = owner_end.lead.take(number, &mut owner_end.sheet, None) {
             slots[place as usize] = answer;
         }
     }

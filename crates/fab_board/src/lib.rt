@@ -1,5 +1,5 @@
-//! A board of numbers that threads claim, each number once; a crew of threads that claim on it, each with a state of its own that follows what
-//! the owner posts; and a batch of numbers that such a crew judges with one borrowed closure.
+//! A board of numbers that threads claim, each number once; a crew of threads that claim on it, each with a state of its own that follows
+//! what the owner posts; and a batch of numbers that such a crew judges with one borrowed closure.
 #![tactic(auto)]
 
 mod board;
@@ -10,9 +10,9 @@ pub mod follow_crew;
 pub mod follow_lead;
 mod gate;
 mod judge;
+mod own_units;
 mod plan;
 mod rule;
-mod shares;
 mod slots;
 mod waiting;
 

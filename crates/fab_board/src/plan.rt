@@ -9,12 +9,12 @@ pub struct Plan {
     units: u32,
 }
 
-/// A unit has at most so many numbers, in batches of up to 128 numbers and in longer ones.
+/// The most numbers of a unit, in batches of up to 128 numbers and in longer ones.
 const LONGEST: [u64; 2] = [16, 32];
 
 impl Plan {
-    /// The plan for turns of at most `batch` numbers, at most 4,096, and so many workers: a unit for each worker, if there are numbers
-    /// enough.
+    /// The plan for turns of at most `batch` numbers, at most 4,096, and so many workers. There is a unit for each worker at least, if
+    /// there are numbers enough.
     pub fn of(batch: u64, workers: u64) -> Plan {
         let longest = if batch > 128 { LONGEST[1] } else { LONGEST[0] };
         let share = (batch / workers.max(1)).clamp(1, longest);

@@ -2,15 +2,15 @@
 use atomic_table::{Join, Play, Split, TableRule};
 use std::collections::LinkedList;
 
-// How many numbers a board has, and how many seats.
+/// How many numbers a board has, and how many seats.
 #[derive(Clone, Copy)]
 pub struct Size {
     pub count: u64,
     pub seats: u64,
 }
 
-// What a seat knows: the board's count, its parts of the right to close, the numbers that it was given, and how often it was
-// told that none is left. It exists only in proofs: no value of it is made.
+/// What a seat knows: the board's count, its parts of the right to close, the numbers that it was given, and how many of its claims found
+/// no number left. It exists only in proofs: no value of it is made.
 pub struct View {
     pub count: u64,
     pub parts: u64,
@@ -18,7 +18,7 @@ pub struct View {
     pub told: u64,
 }
 
-// The rule of the table.
+/// The rule of the table.
 pub struct Deal;
 
 impl TableRule<(), View, Size> for Deal {
@@ -29,7 +29,7 @@ impl TableRule<(), View, Size> for Deal {
     ghost first = { opened };
 }
 
-// The one step that changes the word: a seat adds 1.
+/// The one step that changes the word: a seat adds 1.
 pub struct Claim;
 
 impl Play<(), View> for Claim {
@@ -38,7 +38,7 @@ impl Play<(), View> for Claim {
     ghost then = { Claimed };
 }
 
-// A seat gives one of its parts to a new seat.
+/// A seat gives one of its parts to a new seat.
 pub struct OnePart;
 
 impl Split<View> for OnePart {
@@ -49,7 +49,7 @@ impl Split<View> for OnePart {
     ghost right = { one_part };
 }
 
-// Two seats become one, which knows what both knew.
+/// Two seats become one, which knows what both knew.
 pub struct Gather;
 
 impl Join<View> for Gather {

@@ -1,9 +1,9 @@
-//! A slot for each number's answer.
+//! A slot for each number's answer, for tests of the crew. A run of the program does not use it.
 ghost use Rattle.std.specs.Prelude.{◌≡◌, map, Some, None, IfOk, replicate};
 
 use std::alloc::{AllocError, Global};
 
-// An empty slot for each number.
+/// An empty slot for each number.
 pub fn vacant<T: Drop>(alloc: Global, count: u64) -> Result<Vec<Option<T>>, AllocError>
     ensures { IfOk result (λ v. v.items ≡ replicate count None) }
 {
@@ -14,7 +14,7 @@ pub fn vacant<T: Drop>(alloc: Global, count: u64) -> Result<Vec<Option<T>>, Allo
     Ok(slots)
 }
 
-// Takes the answers out of their slots. An empty slot is that of a number for which memory ran out.
+/// Takes the answers out of their slots. An empty slot is that of a number for which memory ran out.
 pub fn unwrap_all<T: Drop>(alloc: Global, slots: Vec<Option<T>>) -> Result<Vec<T>, AllocError>
     ensures { IfOk result (λ v. map (λ answer. Some answer) v.items ≡ slots.items) }
 {

@@ -6,14 +6,14 @@ use std::{hint, thread};
 
 /// A word with a cache line of its own.
 #[derive(Drop)]
-pub(crate) struct Lone {
+pub(crate) struct PaddedAtomic {
     pub(crate) word: AtomicU64,
     room: [u64; 15],
 }
 
-impl Lone {
-    pub(crate) fn new(x: u64) -> Lone {
-        Lone {
+impl PaddedAtomic {
+    pub(crate) fn new(x: u64) -> PaddedAtomic {
+        PaddedAtomic {
             word: AtomicU64::new(x),
             room: [0; 15],
         }
@@ -59,7 +59,12 @@ pub(crate) fn look_past(word: &AtomicU64, seen: u64) -> u64 {
 
 /// Waits until the word is no longer `seen`: looks for a while, then sleeps. Whoever changes the word wakes its sleepers, if `asleep` says
 /// that there are some.
-pub(crate) fn wait_past<R: Wait>(rt: &R, word: &AtomicU64, asleep: &Lone, seen: u64) -> u64 {
+pub(crate) fn wait_past<R: Wait>(
+    rt: &R,
+    word: &AtomicU64,
+    asleep: &PaddedAtomic,
+    seen: u64,
+) -> u64 {
     let now = look_past(word, seen);
     if now != seen {
         return now;

@@ -23,4 +23,5 @@ pub mod Followed
 pub mod Foreseeing
 pub mod Larger
 pub mod Further
-pub mod SwapNets
+pub mod LargeNets
+pub mod Near

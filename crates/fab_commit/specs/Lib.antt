@@ -1,3 +1,4 @@
+-- The definitions of fab_commit, by file.
 pub mod Serial
 pub mod Run
 pub mod Model

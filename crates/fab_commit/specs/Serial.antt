@@ -38,10 +38,11 @@ at_start r sites =
       total = 0;
     }
 
+-- 1 if so, else 0
 abbrev pub one_if : Bool → ℕ
 one_if b = if b then 1 else 0
 
--- one more move is made, with this answer; at the end of a stage the next begins, if there is one
+-- one more move is made, with this judgement; at the end of a stage the next begins, if there is one
 abbrev pub after_move : Run → Standing → Judged → Standing
 after_move r x j =
     let over = (x.done + 1) % r.plan.moves == 0 in
@@ -55,6 +56,7 @@ after_move r x j =
       total = x.total + one_if j.accepted;
     }
 
+-- the temperature, or 0 once the run is over
 abbrev pub or_zero : Option ℕ → ℕ
 or_zero None = 0
 or_zero (Some t) = t
@@ -67,11 +69,12 @@ judged_here r x k = judged r.problem x.sites k (or_zero x.heat) x.range
 abbrev pub step : Run → Standing → Standing
 step r x = if is_some x.heat then after_move r x (judged_here r x x.done) else x
 
--- n moves, one at a time
+-- the standing after n moves, one at a time, or after the last one if fewer are left
 abbrev pub from : Run → Standing → ℕ → Standing
 from r x zero = x
 from r x (suc n) = from r (step r x) n
 
+-- the move's number, if it is accepted
 abbrev pub numbers_if : ℕ → Bool → List ℕ
 numbers_if k b = if b then k ∷ [] else []
 
@@ -98,7 +101,7 @@ abbrev pub HeatStands : Plan → ℕ → Option ℕ → Type 0
 HeatStands p n (Some t) = MayStand p (n / p.moves) t
 HeatStands p n None = (x : ℕ) × (n ≡ (x + 1) * p.moves) × MayStand p x 0
 
--- the standing fits the run
+-- a standing of the run: a legal placement, a lawful range and temperature, and no more moves accepted than made
 pub record IsStanding (r : Run) (x : Standing) : Type 0 where
   pub legal : IsLegal r.problem.design r.problem.grid r.problem.fixed x.sites
   pub range : (1000 ≤ x.range) × (x.range ≤ 1000 * side r)
@@ -106,6 +109,7 @@ pub record IsStanding (r : Run) (x : Standing) : Type 0 where
   pub total : (x.accepted ≤ x.total) × (x.total ≤ x.done)
   pub heat : HeatStands r.plan x.done x.heat
 
+-- the running stage at this temperature; none once the run is over
 abbrev pub stage_at : Plan → Standing → Option ℕ → Option Stage
 stage_at p x None = None
 stage_at p x (Some t) =

@@ -255,8 +255,8 @@ fn the_first_number_is_judged_while_the_second_is_held(rt: HostRuntime) -> Resul
 // The first number of a batch.
 const FIRST: u64 = 10;
 
-// Follows the judgement of each number of a batch: 0 before it, and one more with each of the gate's calls and with the closure's. Contracts of
-// threads tell nothing of that.
+// Follows the judgement of each number of a batch: 0 before it, and one more with each of the gate's calls and with the closure's.
+// Contracts of threads tell nothing of that.
 #[derive(Drop)]
 struct Rounds {
     steps: Vec<AtomicU64>,
@@ -442,8 +442,8 @@ fn all_workers_of_a_batch_judge_at_once(rt: HostRuntime) -> Result<(), Fail> {
     )
 }
 
-// The last number's judgement waits until that of the first has begun, for at most ten seconds, and the first one's takes a second. The owner
-// begins with the last number. So a worker judges the first one, and the owner has to sleep for it.
+// The last number's judgement waits until that of the first has begun, for at most ten seconds, and the first one's takes a second. The
+// owner begins with the last number. So a worker judges the first one, and the owner has to sleep for it.
 #[derive(Drop)]
 struct Slow<'a> {
     rt: &'a HostRuntime,
@@ -499,8 +499,8 @@ fn the_owner_of_a_batch_is_woken_and_wakes_its_workers(rt: HostRuntime) -> Resul
     )
 }
 
-// Judges six numbers, of which the closure refuses those from one on, so many. Whether want of memory is told, and each number is judged once
-// all the same, between the two calls of the gate: no thread stops there, no answer is asked for again, and all have ended.
+// Judges six numbers, of which the closure refuses those from one on, so many. Whether want of memory is told, and each number is judged
+// once all the same, between the two calls of the gate: no thread stops there, no answer is asked for again, and all have ended.
 fn is_refused<R: Threads + Wait + Sync>(
     rt: &R,
     alloc: Global,

@@ -1,5 +1,5 @@
-// Crews as the calls of a run found them: each worker judges, whoever sleeps is woken, and each move is judged once and committed in turn. A
-// gate holds what must not come first for at most ten seconds, and a test that hangs fails with its time.
+// Crews as the calls of a run found them: each worker judges, whoever sleeps is woken, and each move is judged once and committed in turn.
+// A gate holds what must not come first for at most ten seconds, and a test that hangs fails with its time.
 
 use crate::beside_tests::{STAGE, Silent, Together, WORKERS, random, random_hubs, random_net};
 use crate::end_tests::{Maker, ended, random_end};
@@ -19,8 +19,8 @@ use std::thread;
 use std::thread::Threads;
 use std::time::{CpuClock, Duration};
 
-// Follows the calls for each move: 0 before them, and one more with each. They are right if those for a move come before its judgement, after
-// it, and before its commit, each once, and if moves are committed in order of number.
+// Follows the calls for each move: 0 before them, and one more with each. They are right if those for a move come before its judgement,
+// after it, and before its commit, each once, and if moves are committed in order of number.
 #[derive(Drop)]
 struct Calls {
     steps: Vec<AtomicU64>,
@@ -172,8 +172,8 @@ fn asked<G: Gate, R: Threads + Wait + Sync>(
     Ok((asked.load(Ordering::SeqCst), judged))
 }
 
-// No answer is lost and made again, also where a worker judges some moves in a row, and where most moves that are judged again are so by their
-// nets of many terminals alone.
+// No answer is lost and made again, also where a worker judges some moves in a row, and where most moves that are judged again are so by
+// their nets of many terminals alone.
 #[test]
 fn words_are_asked_for_once_for_each_judgement(rt: HostRuntime) -> Result<(), Fail> {
     in_time(
@@ -342,8 +342,8 @@ fn all_workers_of_a_turn_judge_at_once(rt: HostRuntime) -> Result<(), Fail> {
 // How many moves a small batch has.
 const FEW: u64 = 3;
 
-// The owner is held in its first commit until so many judgements of the second batch have begun, and each of these until all have: so as many
-// workers judge at once, and the owner is none of them.
+// The owner is held in its first commit until so many judgements of the second batch have begun, and each of these until all have: so as
+// many workers judge at once, and the owner is none of them.
 #[derive(Drop)]
 struct Each<'a> {
     rt: &'a HostRuntime,
@@ -421,8 +421,8 @@ fn was_busy(rt: &HostRuntime) -> bool {
     }
 }
 
-// The first judgement of the second batch takes a second. A worker makes it, since the owner begins to commit the first batch only then. So the
-// owner has to sleep for it, and so do the other workers, which have judged the third batch by then.
+// The first judgement of the second batch takes a second. A worker makes it, since the owner begins to commit the first batch only then. So
+// the owner has to sleep for it, and so do the other workers, which have judged the third batch by then.
 #[derive(Drop)]
 struct Slow<'a> {
     rt: &'a HostRuntime,
@@ -481,8 +481,8 @@ fn the_owner_sleeps_and_is_woken_by_a_slow_worker(rt: HostRuntime) -> Result<(),
 }
 
 // The owner takes a second before the last commit of the first batch: the crew has judged the second batch by then, and sleeps. Before the
-// first commit of the second batch it waits until each worker makes a judgement of the third batch, all at once. The crew sleeps at the end of
-// the first stage too.
+// first commit of the second batch it waits until each worker makes a judgement of the third batch, all at once. The crew sleeps at the end
+// of the first stage too.
 #[derive(Drop)]
 struct Sleepy<'a> {
     rt: &'a HostRuntime,
@@ -545,8 +545,8 @@ fn a_sleeping_crew_is_woken_whole_and_sent_home(rt: HostRuntime) -> Result<(), F
     )
 }
 
-// The only worker judges the first move of the second batch, since the owner begins to commit the first batch only then. It is held there until
-// the owner has judged the next move.
+// The only worker judges the first move of the second batch, since the owner begins to commit the first batch only then. It is held there
+// until the owner has judged the next move.
 #[derive(Drop)]
 struct Helped<'a> {
     rt: &'a HostRuntime,
@@ -605,8 +605,8 @@ const PAIR: &[u8] = b".clb b1\npinlist: x\n.clb b2\npinlist: y\n";
 
 const PAIR_ARCH: &[u8] = b"io_rat 1\noutpin class: 0 top\n";
 
-// Words of moves that send the first block to the second column of the first row and to the first one, in turn. It starts in the first column.
-// So each move is a swap, and none changes the cost.
+// Words of moves that send the first block to the second column of the first row and to the first one, in turn. It starts in the first
+// column. So each move is a swap, and none changes the cost.
 fn to_and_fro(alloc: Global, moves: u64) -> Result<ListWords, AllocError> {
     let mut words = Vec::new(alloc);
     for k in 0..moves {
@@ -619,8 +619,8 @@ fn to_and_fro(alloc: Global, moves: u64) -> Result<ListWords, AllocError> {
     })
 }
 
-// How many of 12,288 such moves are made, accepted and judged again, beside a crew that judges the next batch while one is committed. Only the
-// first move rests on nothing that was touched since.
+// How many of 12,288 such moves are made, accepted and judged again, beside a crew that judges the next batch while one is committed. Only
+// the first move rests on nothing that was touched since.
 fn all_accepted<R: Threads + Wait + Sync>(
     rt: &R,
     alloc: Global,

@@ -192,7 +192,8 @@ fn small_stage<R: Threads + Wait + Sync>(
     Ok(text)
 }
 
-// The first batch of up to 40 moves with which that stage of a random design of nine blocks ends elsewhere beside so many workers than alone.
+// The first batch of up to 40 moves with which that stage of a random design of nine blocks ends elsewhere beside so many workers than
+// alone.
 fn other_end<R: Threads + Wait + Sync>(
     rt: &R,
     alloc: Global,
@@ -229,8 +230,8 @@ fn other_ends<R: Threads + Wait + Sync>(
     Ok(told)
 }
 
-// Fifty designs, each with every batch from 1 to 40, by 1, 2, 3 and 7 workers: 8,000 crews. On a machine in use by others a crew of seven may
-// take some milliseconds to end, and each test has a limit of time, so there are several.
+// Fifty designs, each with every batch from 1 to 40, by 1, 2, 3 and 7 workers: 8,000 crews. On a machine in use by others a crew of seven
+// may take some milliseconds to end, and each test has a limit of time, so there are several.
 #[test]
 fn stages_of_each_batch_are_made_by_one_worker_as_alone(rt: HostRuntime) -> Result<(), Fail> {
     in_time(

@@ -1,5 +1,5 @@
-// A crew of fab_board whose workers have states of this test's own: an owner that gets far ahead of late workers, one that keeps its end of a
-// crew that has ended, and one to which is left what no worker judges.
+// A crew of fab_board whose workers have states of this test's own: an owner that gets far ahead of late workers, one that keeps its end of
+// a crew that has ended, and one to which is left what no worker judges.
 ghost use Rattle.std.specs.Prelude.{All, ◌≡◌, ◌<◌, ◌≤◌, Some, IfOk, length};
 ghost use Rattle.std.specs.Thread.{IsSync};
 
@@ -56,8 +56,8 @@ impl<'a> Watch<'a> {
     }
 }
 
-// Counts the posts that it has followed, and answers with that count. A worker's takes a second over its first post. Contracts see nothing of
-// it.
+// Counts the posts that it has followed, and answers with that count. A worker's takes a second over its first post. Contracts see nothing
+// of it.
 #[derive(Drop)]
 struct Counted<'a> {
     watch: &'a Watch<'a>,
@@ -131,7 +131,7 @@ impl<'a> Follow<Step, u64> for Counted<'a> {
 }
 
 // What a crew is made of.
-struct Founded<S> {
+struct CrewParts<S> {
     board: Board,
     claims: Vec<ClaimSeat>,
     first: S,
@@ -143,19 +143,20 @@ fn found<'a>(
     alloc: Global,
     watch: &'a Watch<'a>,
     workers: u64,
-) -> Result<Founded<Counted<'a>>, AllocError>
+) -> Result<CrewParts<Counted<'a>>, AllocError>
     requires workers { (0 < workers) × (workers ≤ 64) }
     ensures claims { IfOk result (λ f. All (λ s. s.board ≡ f.board.name) f.claims.items) }
     ensures first { IfOk result (λ f. f.first ≡ 0) }
     ensures others { IfOk result (λ f. All (λ s. s ≡ 0) f.others.items) }
-    ensures many { IfOk result (λ f. (length f.claims.items ≡ workers) × (length f.others.items ≡ workers)) }
+    ensures many { IfOk result (λ f.
+        (length f.claims.items ≡ workers) × (length f.others.items ≡ workers)) }
 {
     let mut others = Vec::new(alloc);
     for _worker in 0..workers {
         others.push(Counted::new(watch, true))?;
     }
     let (board, claims) = Board::new(alloc, 1 << 62, workers)?;
-    Ok(Founded {
+    Ok(CrewParts {
         board,
         claims,
         first: Counted::new(watch, false),
@@ -165,7 +166,7 @@ fn found<'a>(
 
 // The owner's end of a crew, and the sheet that it reads.
 #[derive(Drop)]
-struct Desk<S: Follow<Step, u64>, J: Naming + Boarding + Origin<S>> {
+struct OwnerEnd<S: Follow<Step, u64>, J: Naming + Boarding + Origin<S>> {
     lead: Lead<S, Step, u64, J>,
     sheet: Sheet<S, Step, u64, J>,
 }
@@ -173,56 +174,56 @@ struct Desk<S: Follow<Step, u64>, J: Naming + Boarding + Origin<S>> {
 // Posts these numbers.
 fn post_each<S: Follow<Step, u64>, J: Naming + Boarding + Origin<S>, R: Wait>(
     rt: &R,
-    desk: &mut Desk<S, J>,
+    owner_end: &mut OwnerEnd<S, J>,
     first: u64,
     past: u64,
 )
     requires may { (s : S) (e : Step) → S.may s e }
 {
     for number in first..past {
-        let _ = desk.lead.post(rt, Step { number });
+        let _ = owner_end.lead.post(rt, Step { number });
     }
 }
 
-// Posts beside late workers and asks for nothing: once, and when each of them has begun with that post, more often than the ring has slots. So
-// the owner has to wait for them, for longer than it looks, and is woken by the last one. Then the workers judge; a number is passed by where
-// its worker is slow to take it.
+// Posts beside late workers and asks for nothing: once, and when each of them has begun with that post, more often than the ring has slots.
+// So the owner has to wait for them, for longer than it looks, and is woken by the last one. Then the workers judge; a number is passed by
+// where its worker is slow to take it.
 fn run_ahead<S: Follow<Step, u64>, J: Naming + Boarding + Origin<S>, R: Wait>(
     rt: &R,
-    desk: &mut Desk<S, J>,
+    owner_end: &mut OwnerEnd<S, J>,
     watch: &Watch<'_>,
     workers: u64,
 )
     requires may { (s : S) (e : Step) → S.may s e }
 {
-    post_each(rt, desk, 0, 1);
+    post_each(rt, owner_end, 0, 1);
     hold(watch.rt, &watch.begun, workers, &watch.failed);
-    post_each(rt, desk, 1, POSTS);
+    post_each(rt, owner_end, 1, POSTS);
     hold(watch.rt, &watch.judged, POSTS / 2, &watch.failed);
 }
 
-// Posts numbers beside slow workers, and looks for each when it is due, for the later ones when workers had time to judge them. What these have
-// not judged is left to the owner.
+// Posts numbers beside slow workers, and looks for each when it is due, for the later ones when workers had time to judge them. What these
+// have not judged is left to the owner.
 fn leave<S: Follow<Step, u64>, J: Naming + Boarding + Origin<S>, R: Wait>(
     rt: &R,
-    desk: &mut Desk<S, J>,
+    owner_end: &mut OwnerEnd<S, J>,
     watch: &Watch<'_>,
     workers: u64,
 )
     requires may { (s : S) (e : Step) → S.may s e }
 {
-    desk.lead.leave_to_owner();
-    post_each(rt, desk, 0, 1);
+    owner_end.lead.leave_to_owner();
+    post_each(rt, owner_end, 0, 1);
     hold(watch.rt, &watch.begun, workers, &watch.failed);
     for number in 1..NUMBERS {
-        let _ = desk.lead.post(rt, Step { number });
+        let _ = owner_end.lead.post(rt, Step { number });
         let due = number.saturating_sub(1);
         if number > NUMBERS / 2 {
             thread::sleep(watch.rt, Duration::from_millis(5));
         }
-        if desk.lead.look(rt, due, &mut desk.sheet) > 0 {
+        if owner_end.lead.look(rt, due, &mut owner_end.sheet) > 0 {
             watch.left.fetch_add(1, Ordering::SeqCst);
-        } else if let Some(posts) = desk.lead.answer(due, &desk.sheet) {
+        } else if let Some(posts) = owner_end.lead.answer(due, &owner_end.sheet) {
             if *posts == number {
                 watch.right.fetch_add(1, Ordering::SeqCst);
             }
@@ -234,16 +235,16 @@ fn leave<S: Follow<Step, u64>, J: Naming + Boarding + Origin<S>, R: Wait>(
 // number's own.
 fn go_on<S: Follow<Step, u64>, J: Naming + Boarding + Origin<S>, R: Wait>(
     rt: &R,
-    desk: &mut Desk<S, J>,
+    owner_end: &mut OwnerEnd<S, J>,
 ) -> u64
     requires may { (s : S) (e : Step) → S.may s e }
 {
     let mut right = 0u64;
     for number in POSTS..2 * POSTS {
-        let _ = desk.lead.post(rt, Step { number });
+        let _ = owner_end.lead.post(rt, Step { number });
         let due = number.saturating_sub(1);
-        desk.lead.seek(rt, due, &mut desk.sheet);
-        if let Some(posts) = desk.lead.answer(due, &desk.sheet) {
+        owner_end.lead.seek(rt, due, &mut owner_end.sheet);
+        if let Some(posts) = owner_end.lead.answer(due, &owner_end.sheet) {
             if *posts == number {
                 right = right.saturating_add(1);
             }
@@ -252,8 +253,8 @@ fn go_on<S: Follow<Step, u64>, J: Naming + Boarding + Origin<S>, R: Wait>(
     right
 }
 
-// Runs ahead of a crew of this name, and goes on where it has ended; or, beside slow workers, makes what is left to the owner. Returns how many
-// answers were right then, and how many units were claimed, if all workers have ended.
+// Runs ahead of a crew of this name, and goes on where it has ended; or, beside slow workers, makes what is left to the owner. Returns how
+// many answers were right then, and how many units were claimed, if all workers have ended.
 fn posted_by<
     S: Follow<Step, u64> + Send,
     J: Naming + Boarding + Origin<S> + Send + Sync,
@@ -262,7 +263,7 @@ fn posted_by<
     rt: &R,
     alloc: Global,
     opened: Opened<Step>,
-    founded: Founded<S>,
+    founded: CrewParts<S>,
     watch: &Watch<'_>,
     workers: u64,
 ) -> Result<(u64, Option<u64>), AllocError>
@@ -274,7 +275,7 @@ fn posted_by<
     requires many { length founded.claims.items ≡ length founded.others.items }
     requires may { (s : S) (e : Step) → S.may s e }
 {
-    let Founded {
+    let CrewParts {
         board,
         claims,
         first,
@@ -290,12 +291,12 @@ fn posted_by<
         Plan::single(1),
     )?;
     let sheet = lead.sheet(alloc)?;
-    let mut desk = Desk { lead, sheet };
+    let mut owner_end = OwnerEnd { lead, sheet };
     beside(
         rt,
         &crew,
-        &mut desk,
-        &mut |d: &mut Desk<S, J>| -> ()
+        &mut owner_end,
+        &mut |d: &mut OwnerEnd<S, J>| -> ()
             requires { IsSync R.row × ((s : S) (e : Step) → S.may s e) }
         {
             if watch.is_slow {
@@ -308,9 +309,9 @@ fn posted_by<
     let right = if watch.is_slow {
         watch.right.load(Ordering::SeqCst)
     } else {
-        go_on(rt, &mut desk)
+        go_on(rt, &mut owner_end)
     };
-    drop(desk);
+    drop(owner_end);
     let Some(retired) = retire(crew) else {
         return Ok((right, None));
     };

@@ -1,5 +1,5 @@
-// Turns that are refused memory. A test passes as it is, and where one growth of its process is refused: tests/refusals/growths refuses each in
-// turn. Since no second one is refused, whatever a test needs beside its turns is made again where it was refused.
+// Turns that are refused memory. A test passes as it is, and where one growth of its process is refused: tests/refusals/growths refuses
+// each in turn. Since no second one is refused, whatever a test needs beside its turns is made again where it was refused.
 
 ghost use Rattle.std.specs.Prelude.{◌≡◌, IfOk};
 
@@ -21,8 +21,8 @@ use std::sync::Wait;
 use std::test::*;
 use std::thread::Threads;
 
-// Tells how many growths later one is refused, if it is among the next 10,000: that is, if what was tried has met none. tests/refusals/growths
-// reads it.
+// Tells how many growths later one is refused, if it is among the next 10,000: that is, if what was tried has met none.
+// tests/refusals/growths reads it.
 fn tell_refusal_to_come(rt: &(impl AllocGlobal + Print)) {
     for later in 0..10_000u64 {
         if Vec::<u8>::with_capacity(rt.alloc(), 1).is_err() {

@@ -1,5 +1,5 @@
 //! What a run executes: an annealer, whose owner commits moves while workers judge the next ones. Callers that make single turns
-//! execute `single_turn`, `crew_turn` and `verdicts`; a run of the program does not.
+//! execute `single_turn`, `crew_turn`, `turn` and `verdicts`; a run of the program does not.
 
 pub mod alone;
 pub mod annealer;
@@ -9,6 +9,7 @@ mod crew_turn;
 mod followed;
 pub mod foreseen;
 pub mod keeping;
+pub(crate) mod kept_nets;
 pub(crate) mod numbers;
 mod owner;
 mod pipeline;
@@ -18,7 +19,6 @@ mod single_turn;
 mod stage;
 mod stamps;
 pub(crate) mod state;
-pub(crate) mod swap_nets;
 pub(crate) mod swaps;
 pub mod turn;
 mod uncounted;

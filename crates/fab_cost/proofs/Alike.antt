@@ -5,7 +5,7 @@ use Rattle.std.proofs.lemmas.Bool.{cases_lt, false≢true}
 use Rattle.std.proofs.lemmas.List.{get_or_past}
 use Rattle.std.proofs.lemmas.List.Elements.{filter_agree}
 use Rattle.std.proofs.lemmas.List.FromFn.{length-map-range_with_len}
-use Rattle.fab_net.specs.declared.pieces.Terminal.{Terminal}
+use Rattle.fab_net.specs.declared.netlist_types.Terminal.{Terminal}
 use Rattle.fab_net.specs.Netlist.{Netlist, net_at, nets_of, block_on, has_number}
 use Rattle.fab_cost.specs.declared.records.Record.{Record}
 use Rattle.fab_cost.specs.declared.runs.Runs.{Runs}
@@ -113,8 +113,8 @@ large_alike d e b is same are =
 
 pub alike : (d e : Netlist) (r : Runs) → counted_blocks d ≡ counted_blocks e → length d.kinds ≡ length e.kinds → HasRecords r d → HasRecords r e
 alike d e r same kinds has = record {
-  small = rows_alike {W = 3} d e 1 4 r.small same kinds has.small;
-  middle = rows_alike {W = 7} d e 4 8 r.middle same kinds has.middle;
-  wide = rows_alike {W = 15} d e 8 16 r.wide same kinds has.wide;
-  large = record { long = has.large.long ∙ kinds; each = λ b h. large_alike d e b (get_or r.large b []) same (has.large.each b (omega (arith, h, kinds))) };
+  small = rows_alike {W = 3} d e 1 4 r.rows.small same kinds has.small;
+  middle = rows_alike {W = 7} d e 4 8 r.rows.middle same kinds has.middle;
+  wide = rows_alike {W = 15} d e 8 16 r.rows.wide same kinds has.wide;
+  large = record { long = has.large.long ∙ kinds; each = λ b h. large_alike d e b (get_or r.rows.large b []) same (has.large.each b (omega (arith, h, kinds))) };
 }

@@ -6,10 +6,10 @@ use Rattle.std.proofs.lemmas.List.{get_or-map, get_or_default, length-map, take_
 use Rattle.std.proofs.lemmas.Simd.{map-map}
 use Rattle.fab_arch.specs.declared.array.Site.{Site}
 use Rattle.fab_arch.specs.Grid.{GridShape}
-use Rattle.fab_net.specs.declared.pieces.BlockId.{BlockId}
-use Rattle.fab_net.specs.declared.pieces.Terminal.{Terminal}
+use Rattle.fab_net.specs.declared.netlist_types.BlockId.{BlockId}
+use Rattle.fab_net.specs.declared.netlist_types.Terminal.{Terminal}
 use Rattle.fab_net.specs.Netlist.{Netlist, block_on, IsLawful}
-use Rattle.fab_site.specs.declared.pieces.Swap.{Swap}
+use Rattle.fab_site.specs.declared.placement_types.Swap.{Swap}
 use Rattle.fab_site.specs.Placement.{nowhere, site_of, swapped, IsSwapOf}
 use Rattle.fab_site.proofs.Swaps.{length-swapped}
 use Rattle.fab_cost.specs.Cost.{Box, clip, least, greatest, xs_of, ys_of, box_on, net_box}

@@ -7,7 +7,7 @@ pub mod Numbers
 pub mod Split
 pub mod Nets
 pub mod Changes
-pub mod Shares
+pub mod PinCounts
 pub mod Renewals
 pub mod TakenOver
 pub mod PlainRenewals
@@ -31,3 +31,5 @@ pub mod Passing
 pub mod Held
 pub mod Most
 pub mod LaneBoxes
+pub mod Columns
+pub mod Lifting

@@ -8,7 +8,7 @@ use Rattle.std.proofs.lemmas.Simd.{length-replicate, get_or-replicate}
 use Rattle.std.specs.Prelude.{replicate}
 use Rattle.std.proofs.lemmas.List.Elements.{filter_more}
 use Rattle.std.proofs.lemmas.List.FromFn.{length-range_with_len, get_or-range_with_len}
-use Rattle.fab_net.specs.declared.pieces.Terminal.{Terminal}
+use Rattle.fab_net.specs.declared.netlist_types.Terminal.{Terminal}
 use Rattle.fab_net.specs.Rows.{row_of, rows_of}
 use Rattle.fab_net.specs.Netlist.{Netlist, block_on, nets_of, has_number, IsLawful}
 use Rattle.fab_net.proofs.Stamps.{row_push}
@@ -18,7 +18,7 @@ use Rattle.fab_cost.specs.Swapping.{blocks_of}
 use Rattle.fab_cost.specs.declared.records.Record.{Record}
 use Rattle.fab_cost.specs.Runs.{AreLarger, ArePacked, nets_to, is_sized, is_large, IsRecord, AreRecords, AreLarge, HasRows, HasLarge}
 use Rattle.fab_cost.proofs.Bounds.{cross_le}
-use Rattle.fab_cost.proofs.Shares.{has_push, same_way}
+use Rattle.fab_cost.proofs.PinCounts.{has_push, same_way}
 
 -- whether a number is among the first terminals
 seen_more : (v : ℕ) (ts : List Terminal) (d : Terminal) (i m : ℕ) (on : Bool) → i < length ts → m ≡ block_on (get_or ts i d) → on ≡ has_number v (map block_on (take i ts)) → (on || eqb m v) ≡ has_number v (map block_on (take (i + 1) ts))

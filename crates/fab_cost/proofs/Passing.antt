@@ -3,9 +3,9 @@ use Rattle.std.proofs.Common.{◌≡◌, ℕ, ◌+◌, ◌<◌, Bool, true, fals
 use Rattle.std.proofs.lemmas.Bool.{cases_Bool, cases_eq}
 use Rattle.fab_arch.specs.declared.array.Site.{Site}
 use Rattle.fab_arch.specs.Grid.{GridShape}
-use Rattle.fab_net.specs.declared.pieces.BlockId.{BlockId}
+use Rattle.fab_net.specs.declared.netlist_types.BlockId.{BlockId}
 use Rattle.fab_net.specs.Netlist.{Netlist, nets_of}
-use Rattle.fab_site.specs.declared.pieces.Swap.{Swap}
+use Rattle.fab_site.specs.declared.placement_types.Swap.{Swap}
 use Rattle.fab_site.specs.Placement.{swapped, IsSwapOf}
 use Rattle.fab_cost.specs.declared.edge_counts.CountedBox.{CountedBox}
 use Rattle.fab_cost.specs.Boxes.{Counts}

@@ -5,8 +5,8 @@ use Rattle.std.proofs.lemmas.List.{length-map}
 use Rattle.fab_arch.specs.declared.array.Site.{Site}
 use Rattle.fab_arch.specs.Grid.{GridShape}
 use Rattle.fab_net.specs.Netlist.{Netlist, has_number, IsLawful}
-use Rattle.fab_net.specs.declared.pieces.BlockId.{BlockId}
-use Rattle.fab_site.specs.declared.pieces.Swap.{Swap}
+use Rattle.fab_net.specs.declared.netlist_types.BlockId.{BlockId}
+use Rattle.fab_site.specs.declared.placement_types.Swap.{Swap}
 use Rattle.fab_site.specs.Placement.{swapped}
 use Rattle.fab_site.proofs.Swaps.{length-swapped}
 use Rattle.fab_cost.specs.declared.edge_counts.CountedBox.{CountedBox}

@@ -6,7 +6,7 @@ use Rattle.fab_arch.specs.declared.array.Site.{Site}
 use Rattle.fab_arch.specs.Grid.{GridShape}
 use Rattle.fab_net.specs.Rows.{row_of}
 use Rattle.fab_net.specs.Netlist.{Netlist, net_at, nets_of, counted, has_number, terminal}
-use Rattle.fab_site.specs.declared.pieces.Swap.{Swap}
+use Rattle.fab_site.specs.declared.placement_types.Swap.{Swap}
 use Rattle.fab_cost.specs.declared.records.Record.{Record}
 use Rattle.fab_cost.specs.declared.runs.Runs.{Runs}
 use Rattle.fab_cost.specs.declared.edge_counts.CountedBox.{CountedBox}
@@ -15,6 +15,7 @@ use Rattle.fab_cost.specs.Boxes.{Counts}
 use Rattle.fab_cost.specs.Edges.{edges_of, times}
 use Rattle.fab_cost.specs.Swapping.{Position, position_at, counted_blocks, counted_at, blocks_of}
 
+-- four lanes
 abbrev pub four : ℕ → ℕ → ℕ → ℕ → List ℕ
 four a b c d = a ∷ b ∷ c ∷ d ∷ []
 
@@ -25,13 +26,15 @@ pub record AreFourBelow (a b c d e f g h : ℕ) : Type 0 where
   pub third : c < g
   pub fourth : d < h
 
--- the clipped column and row, and how far each is from the far end
+-- a position as four lanes: column, 1001 less column, row, 1001 less row. So one minimum finds all four edges of a box
 abbrev pub lanes_for : Position → List ℕ
 lanes_for p = four p.x (1001 - p.x) p.y (1001 - p.y)
 
+-- the lanes of a site
 abbrev pub lanes_at : GridShape → Site → List ℕ
 lanes_at g s = lanes_for (position_at g s)
 
+-- the lesser number of each lane
 abbrev pub least_of : List ℕ → List ℕ → List ℕ
 least_of a b = zip2 (λ x y. min x y) a b
 
@@ -48,13 +51,13 @@ abbrev pub inner_lanes : ℕ → CountedBox → List ℕ
 inner_lanes most b =
     four (lowered most b.x.least.count b.x.least.at) (lowered most b.x.greatest.count (1001 - b.x.greatest.at)) (lowered most b.y.least.count b.y.least.at) (lowered most b.y.greatest.count (1001 - b.y.greatest.at))
 
--- each box has its lanes, by its number in `most`
+-- `inner` has the inner lanes of each box, by its number in `most`
 pub record AreInner (inner : List (List ℕ)) (most : List ℕ) (boxes : List CountedBox) : Type 0 where
   pub long : length inner ≡ length boxes
   pub told : length most ≡ length boxes
   pub each : (n : ℕ) (z : List ℕ) → n < length boxes → slice_index_or inner n z ≡ inner_lanes (slice_index_or most n 0) (counted_at boxes n)
 
--- by net number: no block occurs more often among the net's blocks
+-- for each net, `most` is at least the number of terminals that one block has on it
 pub record AreMost (most : List ℕ) (nets : List (List ℕ)) : Type 0 where
   pub each : (n b : ℕ) → times b (slice_index_or nets n []) ≤ slice_index_or most n 0
 
@@ -64,7 +67,7 @@ pub record AreRaised (d : Netlist) (b i : ℕ) (old new : List ℕ) : Type 0 whe
   pub grown : (n : ℕ) → slice_index_or old n 0 ≤ slice_index_or new n 0
   pub each : (k : ℕ) → k < i → k < length (nets_of d b) → times b (blocks_of d (slice_index (nets_of d b) k)) ≤ slice_index_or new (slice_index (nets_of d b) k) 0
 
--- the lanes of both sites of a swap
+-- lane by lane, the lesser of the swap's two sites
 abbrev pub reach_lanes : GridShape → Swap → List ℕ
 reach_lanes g s = least_of (lanes_at g s.from) (lanes_at g s.to)
 
@@ -84,6 +87,7 @@ table_of g sites = map (lanes_at g) sites ++ no_lanes ∷ []
 abbrev pub positions_in : List (List ℕ) → List Position
 positions_in table = map (λ v. record { x = slice_index v 0; y = slice_index v 2 }) (take (length table - 1) table)
 
+-- the table of some positions; its last vector is that of no block
 abbrev pub table_from : List Position → List (List ℕ)
 table_from positions = map lanes_for positions ++ no_lanes ∷ []
 
@@ -119,6 +123,7 @@ pub record IsRecord (d : Netlist) (b n : ℕ) (others : List ℕ) (q : ℕ) : Ty
   pub each : (k : ℕ) → k < length d.kinds → has_number k others ≡ (has_number k (blocks_of d n) && not (k == b))
   pub within : (i : ℕ) → i < length others → slice_index others i ≤ length d.kinds
 
+-- a net with more than `above` and at most `most` terminals
 abbrev pub is_sized : Netlist → ℕ → ℕ → ℕ → Bool
 is_sized d above most n = nat_lt above (length (blocks_of d n)) && nat_le (length (blocks_of d n)) most
 
@@ -130,10 +135,11 @@ nets_between d above most b = filter (is_sized d above most) (nets_of d b)
 abbrev pub is_large : Netlist → ℕ → Bool
 is_large d n = nat_lt 16 (length (blocks_of d n))
 
--- what a record of a net brings to a sum, where its block stands at a vector and the others are seen so
+-- a net's share of a sum: its cross count times the sum of the least lanes; v is the vector of its own block, f gives those of the others
 abbrev pub weight : {W : ℕ} → (ℕ → List ℕ) → List ℕ → Record W → ℕ
 weight f v r = r.factor * sum_l (least_of (least_among f r.others) v)
 
+-- all numbers of a record are below k
 abbrev pub AreWithin : {W : ℕ} → ℕ → Record W → Type 0
 AreWithin k r = (i : ℕ) → i < length r.others → slice_index r.others i < k
 
@@ -152,16 +158,17 @@ pub record HasRows {W : ℕ} (d : Netlist) (above most : ℕ) (rows : List (List
   pub long : length rows ≡ length d.kinds
   pub each : (b : ℕ) → b < length d.kinds → AreRecords d b (nets_between d above most b) (slice_index_or rows b [])
 
+-- each block has the places of its nets with many terminals
 pub record HasLarge (d : Netlist) (rows : List (List ℕ)) : Type 0 where
   pub long : length rows ≡ length d.kinds
   pub each : (b : ℕ) → b < length d.kinds → AreLarge d b (slice_index_or rows b [])
 
 -- the nets of each block of a design
 pub record HasRecords (p : Runs) (d : Netlist) : Type 0 where
-  pub small : HasRows {W = 3} d 1 4 p.small
-  pub middle : HasRows {W = 7} d 4 8 p.middle
-  pub wide : HasRows {W = 15} d 8 16 p.wide
-  pub large : HasLarge d p.large
+  pub small : HasRows {W = 3} d 1 4 p.rows.small
+  pub middle : HasRows {W = 7} d 4 8 p.rows.middle
+  pub wide : HasRows {W = 15} d 8 16 p.rows.wide
+  pub large : HasLarge d p.rows.large
 
 -- what those of these nets cost that have up to 16 terminals
 abbrev pub few_cost : Netlist → GridShape → List Site → List ℕ → ℕ
@@ -171,7 +178,7 @@ few_cost d g sites ns = sum_by (net_cost d g sites) (filter (λ n. not (is_large
 abbrev pub few_all : Netlist → GridShape → List Site → ℕ
 few_all d g sites = few_cost d g sites (counted d)
 
--- gained less lost is the one less the other, and both are below 2^48
+-- `gained` less `lost` is `after` less `before`; both are below 2^48
 pub record IsStep (before after gained lost : ℕ) : Type 0 where
   pub balance : after + lost ≡ before + gained
   pub gained_few : gained < 2 ^ 48
@@ -181,19 +188,20 @@ pub record IsStep (before after gained lost : ℕ) : Type 0 where
 abbrev pub nets_to : Netlist → ℕ → ℕ → ℕ → List ℕ
 nets_to d k j c = if nat_lt c k then nets_of d c else (if c == k then take j (nets_of d c) else [])
 
+-- the entries are the records of the blocks below k, and of the first j nets of block k
 pub record ArePacked {W : ℕ} (d : Netlist) (above most k j : ℕ) (entries : List (ℕ × Record W)) : Type 0 where
   pub rows : (c : ℕ) → AreRecords d c (filter (is_sized d above most) (nets_to d k j c)) (row_of entries c)
   pub within : (i : ℕ) (z : ℕ × Record W) → i < length entries → (slice_index_or entries i z).0 < length d.kinds
   pub few : length entries ≤ k * 65535 + j
 
--- the places of the nets with many terminals among those of the blocks below one, and the first of that block
+-- the places of the nets with many terminals among those of the blocks below k, and among the first j nets of block k
 pub record AreLarger (d : Netlist) (k j : ℕ) (entries : List (ℕ × ℕ)) : Type 0 where
   pub rows : (c : ℕ) → map (λ i. slice_index (nets_of d c) i) (row_of entries c) ≡ filter (is_large d) (nets_to d k j c)
   pub places : (c i : ℕ) → i < length (row_of entries c) → slice_index (row_of entries c) i < length (nets_of d c)
   pub within : (i : ℕ) (z : ℕ × ℕ) → i < length entries → (slice_index_or entries i z).0 < length d.kinds
   pub few : length entries ≤ k * 65535 + j
 
--- the blocks of the terminals of the nets below one that count
+-- the blocks of the terminals of the nets below n that count
 pub record AreListed (d : Netlist) (n : ℕ) (entries : List (ℕ × ℕ)) : Type 0 where
   pub rows : (c : ℕ) → row_of entries c ≡ (if nat_lt c n then slice_index_or (counted_blocks d) c [] else [])
   pub within : (i : ℕ) (z : ℕ × ℕ) → i < length entries → (slice_index_or entries i z).0 < length d.terminals
@@ -208,6 +216,7 @@ large_of d = record d { globals = map (λ n. not (is_large d n) || (net_at d n).
 abbrev pub few_of : Netlist → Netlist
 few_of d = record d { globals = map (λ n. is_large d n || (net_at d n).global) (range_with_len 0 (length d.terminals)) }
 
+-- the position of no block
 abbrev pub no_position : Position
 no_position = record { x = 0; y = 0 }
 
@@ -223,6 +232,7 @@ counted_over positions blocks =
 abbrev pub box_seen : List (List ℕ) → List Position → List CountedBox → ℕ → CountedBox
 box_seen nets positions kept n = if nat_lt 16 (length (slice_index_or nets n [])) then counted_at kept n else counted_over positions (slice_index_or nets n [])
 
+-- the boxes of all nets, where those with few terminals are made from positions
 unfoldable pub boxes_seen : List (List ℕ) → List Position → List CountedBox → List CountedBox
 boxes_seen nets positions kept = map (box_seen nets positions kept) (range_with_len 0 (length nets))
 

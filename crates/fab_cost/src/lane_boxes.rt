@@ -1,4 +1,4 @@
-//! The box of a net after a swap, made from the lanes of its blocks.
+//! The box of a net after a swap, made from the lanes of its blocks, for a judgement. No kept box changes.
 
 ghost use Rattle.std.specs.Prelude.{◌≡◌, ◌<◌, List, [], map, length, take, slice_index_or};
 ghost use Rattle.std.specs.List.{All};
@@ -11,7 +11,7 @@ ghost use Rattle.fab_cost.specs.Cost.{box_on, net_box};
 ghost use Rattle.fab_cost.specs.Runs.{lanes_at, lanes_in, least_among, table_of};
 ghost use Rattle.fab_cost.specs.Swapping.{ComesBack};
 
-use crate::counting::comes_back;
+use crate::counted_box::comes_back;
 use crate::lanes::{joined, lanes_of, nowhere};
 use crate::net_box::NetBox;
 use fab_arch::Grid;
@@ -19,9 +19,9 @@ use fab_net::{BlockId, Design, NetId, Terminal};
 use fab_site::{Placement, Swap};
 use std::simd::prelude::*;
 
+/// The lanes of the block after the swap, which takes its blocks to `to` and `from`.
 #[tactic(auto, using(crate::proofs::LaneBoxes::moved, crate::proofs::LaneBoxes::back, crate::proofs::LaneBoxes::still))]
 #[inline(always)]
-/// The lanes of the block after the swap, which takes its blocks to `to` and `from`.
 fn lanes_swapped(
     lanes: &[u16x4],
     swap: &Swap,
@@ -32,7 +32,10 @@ fn lanes_swapped(
 ) -> u16x4
     requires within { block.0 < length lanes.now }
     requires back { ComesBack swap.now.block swap.now.other back }
-    ensures { (g : GridShape) (sites : List ArraySite) → IsSwapOf g sites swap.now → lanes.now ≡ table_of g sites → to ≡ lanes_at g swap.now.to → from ≡ lanes_at g swap.now.from → block.0 < length sites → result ≡ lanes_in g (swapped sites swap.now) block.0 }
+    ensures { (g : GridShape) (sites : List ArraySite) → IsSwapOf g sites swap.now →
+        lanes.now ≡ table_of g sites → to ≡ lanes_at g swap.now.to →
+        from ≡ lanes_at g swap.now.from → block.0 < length sites →
+        result ≡ lanes_in g (swapped sites swap.now) block.0 }
 {
     let here = lanes[block.0 as usize];
     if block == swap.block {
@@ -44,9 +47,9 @@ fn lanes_swapped(
     }
 }
 
+/// The lane-wise least of the terminals' lanes after the swap.
 #[tactic(auto, using(crate::proofs::LaneBoxes::low, crate::proofs::LaneBoxes::none, crate::proofs::LaneBoxes::all))]
 #[inline(always)]
-/// The lane-wise least of the terminals' lanes after the swap.
 fn around_swapped(
     lanes: &[u16x4],
     grid: &Grid,
@@ -57,7 +60,9 @@ fn around_swapped(
     requires table { lanes.now ≡ table_of grid.now placement.now.sites }
     requires within { All (λ t. t.block.0 < length placement.now.sites) terminals.now }
     requires lawful { IsSwapOf grid.now placement.now.sites swap.now }
-    ensures { result ≡ least_among (lanes_in grid.now (swapped placement.now.sites swap.now)) (map block_on terminals.now) }
+    ensures { result ≡
+        least_among (lanes_in grid.now (swapped placement.now.sites swap.now))
+        (map block_on terminals.now) }
 {
     let back = comes_back(swap);
     let to = lanes_of(grid, swap.to);
@@ -83,7 +88,8 @@ pub(crate) fn box_by_lanes(
     requires net { Counts design.now net.0 }
     requires lawful { IsSwapOf grid.now placement.now.sites swap.now }
     requires whole { length design.now.kinds ≡ length placement.now.sites }
-    ensures { box_of result ≡ net_box design.now grid.now (swapped placement.now.sites swap.now) net.0 }
+    ensures { box_of result ≡
+        net_box design.now grid.now (swapped placement.now.sites swap.now) net.0 }
 {
     let _nx = grid.nx();
     let _ny = grid.ny();

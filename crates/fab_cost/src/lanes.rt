@@ -2,7 +2,7 @@
 
 ghost use Rattle.std.specs.Prelude.{◌≡◌, ℕ, ◌<◌, IsTrue};
 ghost use Rattle.fab_arch.specs.Grid.{GridShape};
-ghost use Rattle.fab_site.specs.declared.pieces.Swap.{Swap as SwapOf};
+ghost use Rattle.fab_site.specs.declared.placement_types.Swap.{Swap as SwapOf};
 ghost use Rattle.fab_cost.specs.declared.edge_counts.CountedBox.{CountedBox as CountedEdges};
 ghost use Rattle.fab_cost.specs.Changes.{Holds, Surrounds};
 ghost use lib.Lanes.{sum_l};
@@ -21,8 +21,8 @@ pub(crate) fn nowhere() -> u16x4
     u16x4::splat(65535)
 }
 
-#[tactic(auto, unfolding(crate::specs::Cost::clip))]
 /// The clipped column and row, and 1001 less each.
+#[tactic(auto, unfolding(crate::specs::Cost::clip))]
 pub(crate) fn lanes_of(grid: &Grid, site: Site) -> u16x4
     ensures { result ≡ lanes_at grid.now site }
 {
@@ -31,16 +31,16 @@ pub(crate) fn lanes_of(grid: &Grid, site: Site) -> u16x4
     u16x4::from_array([x, 1001 - x, y, 1001 - y])
 }
 
-#[inline(always)]
 /// The lane-wise least.
+#[inline(always)]
 pub(crate) fn joined(one: u16x4, other: u16x4) -> u16x4
     ensures { result ≡ least_of one other }
 {
     one.simd_min(other)
 }
 
+/// The sum of the lanes.
 #[inline(always)]
-/// The lanes together.
 pub(crate) fn total(one: u16x4) -> u16
     requires { sum_l one < 65536 }
     ensures { result ≡ sum_l one }
@@ -85,34 +85,37 @@ pub(crate) fn inner_lanes_of(most: u32, edges: CountedBox) -> u16x4
     ])
 }
 
+/// The lane-wise least of the two sites of a swap: the least column and row, and 1001 less the greatest column and row.
 #[inline(always)]
-/// Both sites of a swap at one look: the least column and row, and 1001 less the greatest column and row.
 pub(crate) fn reach_of(grid: &Grid, swap: &Swap) -> u16x4
     ensures { result ≡ reach_lanes grid.now swap.now }
 {
     joined(lanes_of(grid, swap.from), lanes_of(grid, swap.to))
 }
 
-#[inline(always)]
 /// Whether both sites are strictly inside the box with these edges.
+#[inline(always)]
 pub(crate) fn surrounds(edges: u16x4, reach: u16x4) -> bool
-    ensures { (g : GridShape) (b : CountedEdges) (s : SwapOf) → edges ≡ edge_lanes b → reach ≡ reach_lanes g s → IsTrue result → Surrounds g b s }
+    ensures { (g : GridShape) (b : CountedEdges) (s : SwapOf) → edges ≡ edge_lanes b →
+        reach ≡ reach_lanes g s → IsTrue result → Surrounds g b s }
 {
     edges.simd_lt(reach).all()
 }
 
-#[inline(always)]
 /// Whether each lane is below its counterpart.
+#[inline(always)]
 fn are_below(one: u16x4, other: u16x4) -> bool
-    ensures { (a b c d e f g h : ℕ) → one ≡ four a b c d → other ≡ four e f g h → IsTrue result → AreFourBelow a b c d e f g h }
+    ensures { (a b c d e f g h : ℕ) → one ≡ four a b c d → other ≡ four e f g h → IsTrue result →
+        AreFourBelow a b c d e f g h }
 {
     one.simd_lt(other).all()
 }
 
-#[inline(always)]
 /// Whether no site is outside the box with these lanes, nor on an edge with `most` terminals or fewer.
+#[inline(always)]
 pub(crate) fn holds(inner: u16x4, reach: u16x4) -> bool
-    ensures { (most : ℕ) (g : GridShape) (b : CountedEdges) (s : SwapOf) → inner ≡ inner_lanes most b → reach ≡ reach_lanes g s → IsTrue result → Holds most g b s }
+    ensures { (most : ℕ) (g : GridShape) (b : CountedEdges) (s : SwapOf) →
+        inner ≡ inner_lanes most b → reach ≡ reach_lanes g s → IsTrue result → Holds most g b s }
 {
     are_below(inner, reach)
 }

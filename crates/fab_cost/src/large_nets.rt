@@ -1,11 +1,12 @@
-//! The nets with many terminals, whose boxes are kept with edge counts: how a swap changes their cost, and their boxes after it.
+//! The nets with many terminals, whose boxes are kept with edge counts: how a swap changes their cost, and, by `renew_large`, their
+//! boxes after it.
 
 ghost use Rattle.std.specs.Prelude.{◌≡◌, ◌≢◌, ℕ, ◌<◌, ◌≤◌, ◌+◌, ◌^◌, ◌||◌, ◌==◌, true, false, if◌then◌else◌, List, length, map, take, IfOk, Some, slice_index, slice_index_or, slice_set};
 ghost use Rattle.std.specs.List.{All, list_any, sum_by};
 ghost use Rattle.fab_arch.specs.declared.array.Site.{Site as ArraySite};
 ghost use Rattle.fab_arch.specs.Grid.{GridShape};
-ghost use Rattle.fab_net.specs.declared.pieces.BlockId.{BlockId as Block};
-ghost use Rattle.fab_net.specs.declared.pieces.NetId.{NetId as Net};
+ghost use Rattle.fab_net.specs.declared.netlist_types.BlockId.{BlockId as Block};
+ghost use Rattle.fab_net.specs.declared.netlist_types.NetId.{NetId as Net};
 ghost use Rattle.fab_net.specs.Netlist.{nets_of, has_number};
 ghost use Rattle.fab_site.specs.Placement.{swapped, IsSwapOf};
 ghost use Rattle.fab_cost.specs.Boxes.{Counts};
@@ -15,14 +16,14 @@ ghost use Rattle.fab_cost.specs.Edges.{times, counted_box as box_counted};
 ghost use Rattle.fab_cost.specs.Runs.{AreInner, AreLarge, AreMost, HasRecords, inner_lanes, large_of, reach_lanes, table_of};
 ghost use Rattle.fab_cost.specs.Swapping.{AreRenewed, HaveBoxes, IsPart, blocks_of, cost_unless, counted_at, counted_blocks, has_block, is_on_swap, times_other};
 
-use crate::block_nets::{Shares, is_left_out, net_of, own_pins, partner_pins, shares_with};
-use crate::counting::{counted_box, swapped_box};
+use crate::block_nets::{PinCounts, is_left_out, net_of, own_pins, partner_pins, shares_with};
+use crate::counted_box::{counted_box, swapped_box};
 use crate::edge_boxes::{NO_TALLY, Tally, plus};
 use crate::edge_counts::{CountedBox, NOTHING};
 use crate::lanes::{edge_lanes_of, holds, inner_lanes_of, reach_of, surrounds};
+use crate::large_change::change_of_large_net;
 use crate::most_pins::most_pins;
 use crate::runs::{Runs, WIDE};
-use crate::swap_change::change_of_many;
 use fab_arch::Grid;
 use fab_net::{BlockId, Design, NetId};
 use fab_site::{Placement, Swap};
@@ -50,8 +51,8 @@ impl Drop for LargeBoxes {
     }
 }
 
-#[tactic(auto, using(crate::proofs::EdgeLanes::inner_to_none))]
 /// Adds to each box its edges as lanes.
+#[tactic(auto, using(crate::proofs::EdgeLanes::inner_to_none))]
 fn with_lanes(
     alloc: Global,
     boxes: Vec<CountedBox>,
@@ -81,19 +82,8 @@ impl LargeBoxes {
         })
     }
 
-    /// Makes these the boxes of another list, which is as long.
-    pub(crate) fn take_whole(&mut self, from: &LargeBoxes)
-        requires { length self.old.boxes.items ≡ length from.now.boxes.items }
-        ensures boxes { self.new.boxes.items ≡ from.now.boxes.items }
-        ensures most { self.new.most.items ≡ from.now.most.items }
-    {
-        self.boxes.copy_from_slice(&from.boxes);
-        self.most.copy_from_slice(&from.most);
-        self.inner.copy_from_slice(&from.inner);
-    }
-
-    #[tactic(auto, unfolding(crate::specs::Swapping::counted_at))]
     /// The box of the net.
+    #[tactic(auto, unfolding(crate::specs::Swapping::counted_at))]
     pub(crate) fn kept(&self, net: NetId) -> CountedBox
         requires { net.0 < length self.now.boxes.items }
         ensures { result ≡ counted_at self.now.boxes.items net.0 }
@@ -101,11 +91,13 @@ impl LargeBoxes {
         self.boxes[net.0 as usize]
     }
 
-    #[inline(always)]
     /// The lanes of the net.
+    #[inline(always)]
     fn inner_of(&self, net: NetId) -> u16x4
         requires { net.0 < length self.now.boxes.items }
-        ensures { result ≡ inner_lanes (slice_index_or self.now.most.items net.0 0) (counted_at self.now.boxes.items net.0) }
+        ensures { result ≡
+            inner_lanes (slice_index_or self.now.most.items net.0 0)
+            (counted_at self.now.boxes.items net.0) }
     {
         self.inner[net.0 as usize]
     }
@@ -121,8 +113,8 @@ impl LargeBoxes {
     }
 }
 
-#[tactic(auto, using(crate::proofs::Nets::counted_from, crate::proofs::Making::terminals_some, crate::proofs::Making::terminals_within, crate::proofs::Bounds::terminals_few))]
 /// The box of the net at the blocks' sites.
+#[tactic(auto, using(crate::proofs::Nets::counted_from, crate::proofs::Making::terminals_some, crate::proofs::Making::terminals_within, crate::proofs::Bounds::terminals_few))]
 fn first_box(design: &Design, grid: &Grid, placement: &Placement, net: NetId) -> CountedBox
     requires net { Counts design.now net.0 }
     requires whole { length design.now.kinds ≡ length placement.now.sites }
@@ -133,8 +125,8 @@ fn first_box(design: &Design, grid: &Grid, placement: &Placement, net: NetId) ->
     counted_box(grid, placement, None, terminals)
 }
 
-#[tactic(auto, using(crate::proofs::Nets::counted_from, crate::proofs::Nets::counted_to, crate::proofs::Nets::times_to, crate::proofs::Nets::times_other_to, crate::proofs::Making::terminals_some, crate::proofs::Making::terminals_within, crate::proofs::Bounds::terminals_few))]
 /// The box of the net after the swap.
+#[tactic(auto, using(crate::proofs::Nets::counted_from, crate::proofs::Nets::counted_to, crate::proofs::Nets::times_to, crate::proofs::Nets::times_other_to, crate::proofs::Making::terminals_some, crate::proofs::Making::terminals_within, crate::proofs::Bounds::terminals_few))]
 fn renewed(
     old: CountedBox,
     design: &Design,
@@ -142,7 +134,7 @@ fn renewed(
     placement: &Placement,
     swap: &Swap,
     net: NetId,
-    shares: Shares,
+    shares: PinCounts,
 ) -> CountedBox
     requires old { old ≡ box_counted design.now grid.now placement.now.sites net.0 }
     requires net { Counts design.now net.0 }
@@ -150,7 +142,8 @@ fn renewed(
     requires others { shares.others ≡ times_other swap.now.other (blocks_of design.now net.0) }
     requires lawful { IsSwapOf grid.now placement.now.sites swap.now }
     requires whole { length design.now.kinds ≡ length placement.now.sites }
-    ensures { result ≡ box_counted design.now grid.now (swapped placement.now.sites swap.now) net.0 }
+    ensures { result ≡
+        box_counted design.now grid.now (swapped placement.now.sites swap.now) net.0 }
 {
     let _nets = design.nets();
     let terminals = design.terminals(net);
@@ -165,11 +158,12 @@ fn renewed(
     )
 }
 
-#[tactic(auto, using(crate::proofs::Nets::counted_cost_from, crate::proofs::Making::terminals_some, crate::proofs::Bounds::terminals_few))]
 /// What a net with this box costs, in ten-thousandths.
+#[tactic(auto, using(crate::proofs::Nets::counted_cost_from, crate::proofs::Making::terminals_some, crate::proofs::Bounds::terminals_few))]
 pub(crate) fn cost_of_counted(design: &Design, net: NetId, kept: CountedBox) -> u64
     requires { Counts design.now net.0 }
-    ensures { (g : GridShape) (sites : List ArraySite) → kept ≡ box_counted design.now g sites net.0 → result ≡ net_cost design.now g sites net.0 }
+    ensures { (g : GridShape) (sites : List ArraySite) →
+        kept ≡ box_counted design.now g sites net.0 → result ≡ net_cost design.now g sites net.0 }
 {
     let _nets = design.nets();
     let terminals = design.terminals(net);
@@ -179,8 +173,12 @@ pub(crate) fn cost_of_counted(design: &Design, net: NetId, kept: CountedBox) -> 
 /// What the net costs with the box after the swap, and with the box before it.
 fn tally_between(design: &Design, net: NetId, old: CountedBox, new: CountedBox) -> Tally
     requires { Counts design.now net.0 }
-    ensures gained { (g : GridShape) (sites : List ArraySite) → new ≡ box_counted design.now g sites net.0 → result.gained ≡ net_cost design.now g sites net.0 }
-    ensures lost { (g : GridShape) (sites : List ArraySite) → old ≡ box_counted design.now g sites net.0 → result.lost ≡ net_cost design.now g sites net.0 }
+    ensures gained { (g : GridShape) (sites : List ArraySite) →
+        new ≡ box_counted design.now g sites net.0 →
+        result.gained ≡ net_cost design.now g sites net.0 }
+    ensures lost { (g : GridShape) (sites : List ArraySite) →
+        old ≡ box_counted design.now g sites net.0 →
+        result.lost ≡ net_cost design.now g sites net.0 }
 {
     Tally {
         gained: cost_of_counted(design, net, new),
@@ -188,8 +186,8 @@ fn tally_between(design: &Design, net: NetId, old: CountedBox, new: CountedBox) 
     }
 }
 
-#[tactic(auto, using(crate::proofs::Large::not_large))]
 /// The box, if the net is a large one.
+#[tactic(auto, using(crate::proofs::Large::not_large))]
 fn if_large(design: &Design, net: NetId, made: CountedBox) -> CountedBox
     requires { Counts design.now net.0 }
     ensures { Counts (large_of design.now) net.0 → result ≡ made }
@@ -210,7 +208,8 @@ pub(crate) fn boxes_for(
     placement: &Placement,
 ) -> Result<(LargeBoxes, u64), AllocError>
     requires { length design.now.kinds ≡ length placement.now.sites }
-    ensures have { IfOk result (λ b. HaveBoxes b.0.boxes.items (large_of design.now) grid.now placement.now.sites) }
+    ensures have { IfOk result (λ b.
+        HaveBoxes b.0.boxes.items (large_of design.now) grid.now placement.now.sites) }
     ensures most { IfOk result (λ b. AreMost b.0.most.items (counted_blocks design.now)) }
     ensures sum { IfOk result (λ b. b.1 ≡ cost_of design.now grid.now placement.now.sites) }
     ensures below { IfOk result (λ b. b.1 < 2 ^ 43) }
@@ -235,10 +234,10 @@ pub(crate) fn boxes_for(
     Ok((with_lanes(alloc, boxes, most)?, total))
 }
 
-#[tactic(auto, using(crate::proofs::Large::row_within))]
-#[inline(always)]
 /// How the swap changes the cost of large net `k` of a block, of which `row` has the places; nothing if it is also a net of the
 /// block `but`.
+#[tactic(auto, using(crate::proofs::Large::row_within))]
+#[inline(always)]
 fn change_of_kept(
     lanes: &[u16x4],
     large: &LargeBoxes,
@@ -253,7 +252,8 @@ fn change_of_kept(
     k: usize,
 ) -> Tally
     requires table { lanes.now ≡ table_of grid.now placement.now.sites }
-    requires have { HaveBoxes large.now.boxes.items (large_of design.now) grid.now placement.now.sites }
+    requires have { HaveBoxes large.now.boxes.items (large_of design.now) grid.now
+        placement.now.sites }
     requires reach { reach ≡ reach_lanes grid.now swap.now }
     requires part { IsPart swap.now block but }
     requires block { block.0 < length design.now.kinds }
@@ -262,7 +262,11 @@ fn change_of_kept(
     requires most { AreMost large.now.most.items (counted_blocks design.now) }
     requires lawful { IsSwapOf grid.now placement.now.sites swap.now }
     requires whole { length design.now.kinds ≡ length placement.now.sites }
-    ensures { IsChange (cost_unless (large_of design.now) grid.now placement.now.sites but (slice_index (nets_of (large_of design.now) block.0) k)) (cost_unless (large_of design.now) grid.now (swapped placement.now.sites swap.now) but (slice_index (nets_of (large_of design.now) block.0) k)) result.gained result.lost }
+    ensures { IsChange
+        (cost_unless (large_of design.now) grid.now placement.now.sites but
+        (slice_index (nets_of (large_of design.now) block.0) k))
+        (cost_unless (large_of design.now) grid.now (swapped placement.now.sites swap.now) but
+        (slice_index (nets_of (large_of design.now) block.0) k)) result.gained result.lost }
 {
     let _nets = design.nets();
     let i = row[k] as usize;
@@ -271,13 +275,13 @@ fn change_of_kept(
         NO_TALLY
     } else {
         let old = large.kept(net);
-        change_of_many(lanes, old, design, grid, placement, swap, block, but, i)
+        change_of_large_net(lanes, old, design, grid, placement, swap, block, but, i)
     }
 }
 
+/// How the swap changes the cost of the large nets of a block, without those of the block `but`.
 #[tactic(auto, using(crate::proofs::Changes::none, crate::proofs::Changes::more, crate::proofs::Changes::all))]
 #[inline(always)]
-/// How the swap changes the cost of the large nets of a block, without those of the block `but`.
 fn change_of_larges(
     lanes: &[u16x4],
     large: &LargeBoxes,
@@ -292,19 +296,24 @@ fn change_of_larges(
 ) -> Tally
     requires table { lanes.now ≡ table_of grid.now placement.now.sites }
     requires records { HasRecords runs.now design.now }
-    requires have { HaveBoxes large.now.boxes.items (large_of design.now) grid.now placement.now.sites }
+    requires have { HaveBoxes large.now.boxes.items (large_of design.now) grid.now
+        placement.now.sites }
     requires reach { reach ≡ reach_lanes grid.now swap.now }
     requires part { IsPart swap.now block but }
     requires block { block.0 < length design.now.kinds }
     requires most { AreMost large.now.most.items (counted_blocks design.now) }
     requires lawful { IsSwapOf grid.now placement.now.sites swap.now }
     requires whole { length design.now.kinds ≡ length placement.now.sites }
-    ensures { IsChange (sum_by (cost_unless (large_of design.now) grid.now placement.now.sites but) (nets_of (large_of design.now) block.0)) (sum_by (cost_unless (large_of design.now) grid.now (swapped placement.now.sites swap.now) but) (nets_of (large_of design.now) block.0)) result.gained result.lost }
+    ensures { IsChange
+        (sum_by (cost_unless (large_of design.now) grid.now placement.now.sites but)
+        (nets_of (large_of design.now) block.0))
+        (sum_by (cost_unless (large_of design.now) grid.now (swapped placement.now.sites swap.now)
+        but) (nets_of (large_of design.now) block.0)) result.gained result.lost }
 {
     let _nx = grid.nx();
     let _ny = grid.ny();
     let _nets = design.nets();
-    let row = runs.large.row(block.0 as usize);
+    let row = runs.rows.large_row(block.0 as usize);
     let mut gained: u64 = 0;
     let mut lost: u64 = 0;
     'places: for k in 0..row.len() {
@@ -317,9 +326,9 @@ fn change_of_larges(
     Tally { gained, lost }
 }
 
+/// How the swap changes the cost of the large nets.
 #[tactic(auto, using(crate::proofs::Sited::block_below, crate::proofs::Changes::whole_none, crate::proofs::Changes::whole_some))]
 #[inline(always)]
-/// How the swap changes the cost of the large nets.
 pub(crate) fn change_of_large(
     lanes: &[u16x4],
     large: &LargeBoxes,
@@ -331,11 +340,14 @@ pub(crate) fn change_of_large(
 ) -> Tally
     requires table { lanes.now ≡ table_of grid.now placement.now.sites }
     requires records { HasRecords runs.now design.now }
-    requires have { HaveBoxes large.now.boxes.items (large_of design.now) grid.now placement.now.sites }
+    requires have { HaveBoxes large.now.boxes.items (large_of design.now) grid.now
+        placement.now.sites }
     requires most { AreMost large.now.most.items (counted_blocks design.now) }
     requires lawful { IsSwapOf grid.now placement.now.sites swap.now }
     requires whole { length design.now.kinds ≡ length placement.now.sites }
-    ensures balance { cost_of (large_of design.now) grid.now (swapped placement.now.sites swap.now) + result.lost ≡ cost_of (large_of design.now) grid.now placement.now.sites + result.gained }
+    ensures balance { cost_of (large_of design.now) grid.now
+        (swapped placement.now.sites swap.now) + result.lost ≡
+        cost_of (large_of design.now) grid.now placement.now.sites + result.gained }
     ensures gained { result.gained < 2 ^ 43 }
     ensures lost { result.lost < 2 ^ 43 }
 {
@@ -358,9 +370,9 @@ pub(crate) fn change_of_large(
     }
 }
 
-#[tactic(auto)]
 /// Renews the box of large net `k` of a block, of which `row` has the places, unless it is also a net of the block `but`. Returns
 /// the net's cost after and before.
+#[tactic(auto)]
 fn renew_kept(
     large: &mut LargeBoxes,
     design: &Design,
@@ -372,16 +384,28 @@ fn renew_kept(
     row: &[u32],
     k: usize,
 ) -> Tally
-    requires left { AreRenewed large.old.boxes.items (large_of design.now) grid.now placement.now.sites (swapped placement.now.sites swap.now) (λ n. has_block but (blocks_of design.now n) || has_number n (take k (nets_of (large_of design.now) block.0))) }
+    requires left { AreRenewed large.old.boxes.items (large_of design.now) grid.now
+        placement.now.sites (swapped placement.now.sites swap.now)
+        (λ n.
+        has_block but (blocks_of design.now n) ||
+        has_number n (take k (nets_of (large_of design.now) block.0))) }
     requires part { IsPart swap.now block but }
     requires block { block.0 < length design.now.kinds }
     requires large { AreLarge design.now block.0 row.now }
     requires within { k < length row.now }
     requires lawful { IsSwapOf grid.now placement.now.sites swap.now }
     requires whole { length design.now.kinds ≡ length placement.now.sites }
-    ensures boxes { AreRenewed large.new.boxes.items (large_of design.now) grid.now placement.now.sites (swapped placement.now.sites swap.now) (λ n. has_block but (blocks_of design.now n) || has_number n (take (k + 1) (nets_of (large_of design.now) block.0))) }
-    ensures gained { result.gained ≡ cost_unless (large_of design.now) grid.now (swapped placement.now.sites swap.now) but (slice_index (nets_of (large_of design.now) block.0) k) }
-    ensures lost { result.lost ≡ cost_unless (large_of design.now) grid.now placement.now.sites but (slice_index (nets_of (large_of design.now) block.0) k) }
+    ensures boxes { AreRenewed large.new.boxes.items (large_of design.now) grid.now
+        placement.now.sites (swapped placement.now.sites swap.now)
+        (λ n.
+        has_block but (blocks_of design.now n) ||
+        has_number n (take (k + 1) (nets_of (large_of design.now) block.0))) }
+    ensures gained { result.gained ≡
+        cost_unless (large_of design.now) grid.now (swapped placement.now.sites swap.now) but
+        (slice_index (nets_of (large_of design.now) block.0) k) }
+    ensures lost { result.lost ≡
+        cost_unless (large_of design.now) grid.now placement.now.sites but
+        (slice_index (nets_of (large_of design.now) block.0) k) }
     ensures most { large.new.most.items ≡ large.old.most.items }
 {
     let i = row[k] as usize;
@@ -398,9 +422,9 @@ fn renew_kept(
     tally_between(design, net, old, new)
 }
 
-#[tactic(auto, using(crate::proofs::Large::row_within))]
 /// Renews the box of large net `k` of a block, if the swap changes it and it is no net of the block `but`. Returns how the net's
 /// cost changes.
+#[tactic(auto, using(crate::proofs::Large::row_within))]
 fn renew_net(
     large: &mut LargeBoxes,
     design: &Design,
@@ -413,7 +437,11 @@ fn renew_net(
     row: &[u32],
     k: usize,
 ) -> Tally
-    requires left { AreRenewed large.old.boxes.items (large_of design.now) grid.now placement.now.sites (swapped placement.now.sites swap.now) (λ n. has_block but (blocks_of design.now n) || has_number n (take k (nets_of (large_of design.now) block.0))) }
+    requires left { AreRenewed large.old.boxes.items (large_of design.now) grid.now
+        placement.now.sites (swapped placement.now.sites swap.now)
+        (λ n.
+        has_block but (blocks_of design.now n) ||
+        has_number n (take k (nets_of (large_of design.now) block.0))) }
     requires reach { reach ≡ reach_lanes grid.now swap.now }
     requires part { IsPart swap.now block but }
     requires block { block.0 < length design.now.kinds }
@@ -421,8 +449,16 @@ fn renew_net(
     requires within { k < length row.now }
     requires lawful { IsSwapOf grid.now placement.now.sites swap.now }
     requires whole { length design.now.kinds ≡ length placement.now.sites }
-    ensures boxes { AreRenewed large.new.boxes.items (large_of design.now) grid.now placement.now.sites (swapped placement.now.sites swap.now) (λ n. has_block but (blocks_of design.now n) || has_number n (take (k + 1) (nets_of (large_of design.now) block.0))) }
-    ensures change { IsChange (cost_unless (large_of design.now) grid.now placement.now.sites but (slice_index (nets_of (large_of design.now) block.0) k)) (cost_unless (large_of design.now) grid.now (swapped placement.now.sites swap.now) but (slice_index (nets_of (large_of design.now) block.0) k)) result.gained result.lost }
+    ensures boxes { AreRenewed large.new.boxes.items (large_of design.now) grid.now
+        placement.now.sites (swapped placement.now.sites swap.now)
+        (λ n.
+        has_block but (blocks_of design.now n) ||
+        has_number n (take (k + 1) (nets_of (large_of design.now) block.0))) }
+    ensures change { IsChange
+        (cost_unless (large_of design.now) grid.now placement.now.sites but
+        (slice_index (nets_of (large_of design.now) block.0) k))
+        (cost_unless (large_of design.now) grid.now (swapped placement.now.sites swap.now) but
+        (slice_index (nets_of (large_of design.now) block.0) k)) result.gained result.lost }
     ensures most { large.new.most.items ≡ large.old.most.items }
 {
     let net = net_of(design, block, row[k] as usize);
@@ -433,9 +469,9 @@ fn renew_net(
     }
 }
 
-#[tactic(auto, using(crate::proofs::Renewals::started, crate::proofs::Changes::none))]
 /// Renews the boxes of a block's large nets, except those of the block `but`, which are renewed already. Returns how the
 /// nets' cost changes.
+#[tactic(auto, using(crate::proofs::Renewals::started, crate::proofs::Changes::none))]
 fn renew_larges(
     large: &mut LargeBoxes,
     runs: &Runs,
@@ -448,20 +484,29 @@ fn renew_larges(
     but: Option<BlockId>,
 ) -> Tally
     requires records { HasRecords runs.now design.now }
-    requires left { AreRenewed large.old.boxes.items (large_of design.now) grid.now placement.now.sites (swapped placement.now.sites swap.now) (λ n. has_block but (blocks_of design.now n)) }
+    requires left { AreRenewed large.old.boxes.items (large_of design.now) grid.now
+        placement.now.sites (swapped placement.now.sites swap.now)
+        (λ n. has_block but (blocks_of design.now n)) }
     requires reach { reach ≡ reach_lanes grid.now swap.now }
     requires part { IsPart swap.now block but }
     requires block { block.0 < length design.now.kinds }
     requires lawful { IsSwapOf grid.now placement.now.sites swap.now }
     requires whole { length design.now.kinds ≡ length placement.now.sites }
-    ensures boxes { AreRenewed large.new.boxes.items (large_of design.now) grid.now placement.now.sites (swapped placement.now.sites swap.now) (λ n. has_block but (blocks_of design.now n) || has_number block.0 (blocks_of design.now n)) }
-    ensures change { IsChange (sum_by (cost_unless (large_of design.now) grid.now placement.now.sites but) (nets_of (large_of design.now) block.0)) (sum_by (cost_unless (large_of design.now) grid.now (swapped placement.now.sites swap.now) but) (nets_of (large_of design.now) block.0)) result.gained result.lost }
+    ensures boxes { AreRenewed large.new.boxes.items (large_of design.now) grid.now
+        placement.now.sites (swapped placement.now.sites swap.now)
+        (λ n.
+        has_block but (blocks_of design.now n) || has_number block.0 (blocks_of design.now n)) }
+    ensures change { IsChange
+        (sum_by (cost_unless (large_of design.now) grid.now placement.now.sites but)
+        (nets_of (large_of design.now) block.0))
+        (sum_by (cost_unless (large_of design.now) grid.now (swapped placement.now.sites swap.now)
+        but) (nets_of (large_of design.now) block.0)) result.gained result.lost }
     ensures most { large.new.most.items ≡ large.old.most.items }
 {
     let _nx = grid.nx();
     let _ny = grid.ny();
     let _nets = design.nets();
-    let row = runs.large.row(block.0 as usize);
+    let row = runs.rows.large_row(block.0 as usize);
     let mut gained: u64 = 0;
     let mut lost: u64 = 0;
     'places: for k in 0..row.len() {
@@ -474,8 +519,8 @@ fn renew_larges(
     Tally { gained, lost }
 }
 
-#[tactic(auto, using(crate::proofs::Sited::block_below, crate::proofs::Renewals::untouched, crate::proofs::Renewals::first_done, crate::proofs::Changes::whole_none, crate::proofs::Changes::whole_some))]
 /// Renews the boxes of the large nets of the swap's blocks. Returns how the cost of these nets changes.
+#[tactic(auto, using(crate::proofs::Sited::block_below, crate::proofs::Renewals::untouched, crate::proofs::Renewals::first_done, crate::proofs::Changes::whole_none, crate::proofs::Changes::whole_some))]
 pub(crate) fn renew_large(
     large: &mut LargeBoxes,
     runs: &Runs,
@@ -485,11 +530,15 @@ pub(crate) fn renew_large(
     swap: &Swap,
 ) -> Tally
     requires records { HasRecords runs.now design.now }
-    requires have { HaveBoxes large.old.boxes.items (large_of design.now) grid.now placement.now.sites }
+    requires have { HaveBoxes large.old.boxes.items (large_of design.now) grid.now
+        placement.now.sites }
     requires lawful { IsSwapOf grid.now placement.now.sites swap.now }
     requires whole { length design.now.kinds ≡ length placement.now.sites }
-    ensures have { HaveBoxes large.new.boxes.items (large_of design.now) grid.now (swapped placement.now.sites swap.now) }
-    ensures balance { cost_of (large_of design.now) grid.now (swapped placement.now.sites swap.now) + result.lost ≡ cost_of (large_of design.now) grid.now placement.now.sites + result.gained }
+    ensures have { HaveBoxes large.new.boxes.items (large_of design.now) grid.now
+        (swapped placement.now.sites swap.now) }
+    ensures balance { cost_of (large_of design.now) grid.now
+        (swapped placement.now.sites swap.now) + result.lost ≡
+        cost_of (large_of design.now) grid.now placement.now.sites + result.gained }
     ensures gained { result.gained < 2 ^ 43 }
     ensures lost { result.lost < 2 ^ 43 }
     ensures most { large.new.most.items ≡ large.old.most.items }
@@ -519,7 +568,10 @@ fn take_nets(large: &mut LargeBoxes, from: &LargeBoxes, nets: &[NetId])
     requires from { length from.now.boxes.items ≡ length large.old.boxes.items }
     ensures length { length large.new.boxes.items ≡ length large.old.boxes.items }
     ensures most { large.new.most.items ≡ large.old.most.items }
-    ensures each { (k : ℕ) → counted_at large.new.boxes.items k ≡ (if list_any (λ (n : Net). k == n.0) nets.now then counted_at from.now.boxes.items k else counted_at large.old.boxes.items k) }
+    ensures each { (k : ℕ) →
+        counted_at large.new.boxes.items k ≡
+        (if list_any (λ (n : Net). k == n.0) nets.now then counted_at from.now.boxes.items k
+        else counted_at large.old.boxes.items k) }
 {
     for net in nets {
         large.set(*net, from.kept(*net));
@@ -534,7 +586,10 @@ pub(crate) fn take_boxes(large: &mut LargeBoxes, from: &LargeBoxes, design: &Des
     requires from_long { length from.now.boxes.items ≡ length design.now.terminals }
     ensures long { length large.new.boxes.items ≡ length large.old.boxes.items }
     ensures most { large.new.most.items ≡ large.old.most.items }
-    ensures each { (n : ℕ) → Counts design.now n → counted_at large.new.boxes.items n ≡ counted_at (if is_on_swap design.now swap.now n then from.now.boxes.items else large.old.boxes.items) n }
+    ensures each { (n : ℕ) → Counts design.now n →
+        counted_at large.new.boxes.items n ≡
+        counted_at (if is_on_swap design.now swap.now n then from.now.boxes.items
+        else large.old.boxes.items) n }
 {
     take_nets(large, from, design.nets_of(swap.block));
     if let Some(other) = swap.other {

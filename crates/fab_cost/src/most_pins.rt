@@ -15,19 +15,24 @@ fn raise_net(most: &mut Vec<u32>, design: &Design, block: BlockId, i: usize)
     requires block { block.0 < length design.now.kinds }
     requires within { i < length (nets_of design.now block.0) }
     requires long { length most.old.items ≡ length design.now.terminals }
-    ensures { most.new.items ≡ slice_set most.old.items (slice_index (nets_of design.now block.0) i) (max (slice_index_or most.old.items (slice_index (nets_of design.now block.0) i) 0) (times block.0 (blocks_of design.now (slice_index (nets_of design.now block.0) i)))) }
+    ensures { most.new.items ≡
+        slice_set most.old.items (slice_index (nets_of design.now block.0) i)
+        (max (slice_index_or most.old.items (slice_index (nets_of design.now block.0) i) 0)
+        (times block.0
+        (blocks_of design.now (slice_index (nets_of design.now block.0) i)))) }
 {
     let net = net_of(design, block, i).0 as usize;
     let pins = own_pins(design, block, i);
     most[net] = most[net].max(pins);
 }
 
-#[tactic(auto, using(crate::proofs::Most::raised_none, crate::proofs::Most::raised_all))]
 /// Raises the number of each net of a block to how many of the net's terminals are on the block.
+#[tactic(auto, using(crate::proofs::Most::raised_none, crate::proofs::Most::raised_all))]
 fn raise_nets(most: &mut Vec<u32>, design: &Design, block: BlockId)
     requires block { block.0 < length design.now.kinds }
     requires long { length most.old.items ≡ length design.now.terminals }
-    ensures { AreRaised design.now block.0 (length (nets_of design.now block.0)) most.old.items most.new.items }
+    ensures { AreRaised design.now block.0 (length (nets_of design.now block.0)) most.old.items
+        most.new.items }
 {
     let nets = count_of_nets(design, block);
     'nets: for i in 0..nets {

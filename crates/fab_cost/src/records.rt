@@ -20,16 +20,16 @@ pub struct Record<const W: usize> {
 /// No block has this number.
 pub(crate) const NO_BLOCK: u32 = 65536;
 
-/// A block that is seen at another place than the table's, or no block.
+/// A block whose entry in the table is overridden by `place`, or `NO_BLOCK`.
 #[derive(Clone, Copy)]
 pub(crate) struct Moved {
     pub(crate) block: u32,
     pub(crate) place: u16x4,
 }
 
-#[inline(always)]
 /// The lanes of a block, where one block is seen at another place. This chooses between two addresses, so that no branch is
 /// mispredicted.
+#[inline(always)]
 fn seen<'a>(table: &'a [u16x4], moved: &'a Moved, other: u16) -> &'a u16x4
     requires { other < length table.now }
     ensures { result.now ≡ seen_in table.now moved.now.block moved.now.place other }
@@ -41,12 +41,13 @@ fn seen<'a>(table: &'a [u16x4], moved: &'a Moved, other: u16) -> &'a u16x4
     }
 }
 
+/// The lane-wise least of the other blocks of a net.
 #[tactic(auto, using(crate::proofs::Mins::least_more, crate::proofs::Mins::least_all))]
 #[inline(always)]
-/// The lane-wise least of the other blocks of a net.
 fn around<const W: usize>(table: &[u16x4], moved: &Moved, net: &Record<W>) -> u16x4
     requires { AreWithin (length table.now) net.now }
-    ensures { result ≡ least_among (seen_in table.now moved.now.block moved.now.place) net.now.others }
+    ensures { result ≡
+        least_among (seen_in table.now moved.now.block moved.now.place) net.now.others }
 {
     let mut all = nowhere();
     'others: for i in 0..W {
@@ -56,13 +57,14 @@ fn around<const W: usize>(table: &[u16x4], moved: &Moved, net: &Record<W>) -> u1
     all
 }
 
-#[inline(always)]
 /// A cross count times how far the sum of a net's least lanes falls when its block goes from `base` to `target`, with 1,001 more for each
 /// lane, so that none is below 0: one sum in place of two.
+#[inline(always)]
 fn weighed(factor: u16, all: u16x4, base: u16x4, target: u16x4) -> u64
     requires base { AreLanes base }
     requires target { AreLanes target }
-    ensures fall { result + factor * sum_l (least_of all target) ≡ 4004 * factor + factor * sum_l (least_of all base) }
+    ensures fall { result + factor * sum_l (least_of all target) ≡
+        4004 * factor + factor * sum_l (least_of all base) }
     ensures few { result < 2 ^ 29 }
 {
     let raised = joined(all, base).strict_add(u16x4::splat(1001));
@@ -70,10 +72,10 @@ fn weighed(factor: u16, all: u16x4, base: u16x4, target: u16x4) -> u64
     u64::from(factor) * u64::from(fall)
 }
 
+/// How the cost of some records' nets changes when their block goes from `base` to `target`: a lane sum falls as a box grows.
 #[tactic(auto, using(crate::proofs::Mins::change_all))]
 #[inline(always)]
-/// How the cost of some records' nets changes when their block goes from `base` to `target`: a lane sum falls as a box grows.
-pub(crate) fn change_of_run<const W: usize>(
+pub(crate) fn change_of_records<const W: usize>(
     table: &[u16x4],
     moved: &Moved,
     base: u16x4,
@@ -84,7 +86,10 @@ pub(crate) fn change_of_run<const W: usize>(
     requires within { All (AreWithin (length table.now)) records.now }
     requires base { AreLanes base }
     requires target { AreLanes target }
-    ensures balance { result.gained + sum_by (weight (seen_in table.now moved.now.block moved.now.place) target) records.now ≡ result.lost + sum_by (weight (seen_in table.now moved.now.block moved.now.place) base) records.now }
+    ensures balance { result.gained +
+        sum_by (weight (seen_in table.now moved.now.block moved.now.place) target) records.now ≡
+        result.lost +
+        sum_by (weight (seen_in table.now moved.now.block moved.now.place) base) records.now }
     ensures gained_few { result.gained < 2 ^ 46 }
     ensures lost_few { result.lost < 2 ^ 46 }
 {

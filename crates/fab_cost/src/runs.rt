@@ -12,6 +12,7 @@ ghost use Rattle.fab_cost.specs.Swapping.{counted_blocks};
 use crate::block_nets::{count_of_nets, net_of};
 use crate::crossings::cross;
 use crate::records::Record;
+use crate::sized_rows::{SizedRows, together};
 use fab_net::rows::{Rows, gather};
 use fab_net::{BlockId, Design, NetId, Terminal};
 use std::alloc::{AllocError, Global};
@@ -19,10 +20,7 @@ use std::alloc::{AllocError, Global};
 /// Of each block its nets with 2 to 4, 5 to 8 and 9 to 16 terminals, and the places, among the block's nets, of those with
 /// more. Of each net that is not global the block of each terminal. Nets of one terminal cost the same everywhere.
 pub struct Runs {
-    pub(crate) small: Rows<Record<3>>,
-    pub(crate) middle: Rows<Record<7>>,
-    pub(crate) wide: Rows<Record<15>>,
-    pub(crate) large: Rows<u32>,
+    pub(crate) rows: SizedRows,
     pub(crate) terminals: Rows<u16>,
 }
 
@@ -30,10 +28,7 @@ impl Drop for Runs {
     // A written `drop` is one step of a proof wherever a value goes out of scope; a derived one is proved again each time.
     fn drop(self) {
         let Runs {
-            small: _,
-            middle: _,
-            wide: _,
-            large: _,
+            rows: _,
             terminals: _,
         } = self;
     }
@@ -53,15 +48,17 @@ pub fn has_many_terminals(design: &Design, net: NetId) -> bool
     WIDE < design.terminals(net).len()
 }
 
-#[tactic(auto, using(crate::proofs::Packs::filled_none, crate::proofs::Packs::filled_own, crate::proofs::Packs::filled_other, crate::proofs::Packs::place_within, crate::proofs::Packs::filled_all, crate::proofs::Packs::small_cross))]
 /// The record of a net of a block; `none` is the number past the last block.
+#[tactic(auto, using(crate::proofs::Packs::filled_none, crate::proofs::Packs::filled_own, crate::proofs::Packs::filled_other, crate::proofs::Packs::place_within, crate::proofs::Packs::filled_all, crate::proofs::Packs::small_cross))]
 fn record_of<const W: usize>(none: u16, block: BlockId, terminals: &[Terminal]) -> Record<W>
     requires some { 0 < length terminals.now }
     requires few { length terminals.now ≤ W + 1 }
     requires small { length terminals.now ≤ 16 }
     requires on { has_number block.0 (map block_on terminals.now) ≡ true }
     requires blocks { All (λ t. t.block.0 < none) terminals.now }
-    ensures each { (k : ℕ) → k < none → has_number k result.others ≡ (has_number k (map block_on terminals.now) && not (k == block.0)) }
+    ensures each { (k : ℕ) → k < none →
+        has_number k result.others ≡
+        (has_number k (map block_on terminals.now) && not (k == block.0)) }
     ensures within { (j : ℕ) → j < length result.others → slice_index result.others j ≤ none }
     ensures factor { result.factor ≡ cross_of (length terminals.now) }
 {
@@ -80,8 +77,8 @@ fn record_of<const W: usize>(none: u16, block: BlockId, terminals: &[Terminal]) 
     Record { others, factor }
 }
 
-#[tactic(auto, using(crate::proofs::Packs::packed_pushed, crate::proofs::Packs::packed_passed, crate::proofs::Packs::record_is, crate::proofs::Packs::sized_by, crate::proofs::Packs::unsized_by))]
 /// Adds net `i` of a block, if it has more than `above` terminals, and at most `most`.
+#[tactic(auto, using(crate::proofs::Packs::packed_pushed, crate::proofs::Packs::packed_passed, crate::proofs::Packs::record_is, crate::proofs::Packs::sized_by, crate::proofs::Packs::unsized_by))]
 fn push_record<const W: usize>(
     entries: &mut Vec<(u32, Record<W>)>,
     design: &Design,
@@ -108,8 +105,8 @@ fn push_record<const W: usize>(
     Ok(())
 }
 
-#[tactic(auto, using(crate::proofs::Packs::packed_next, crate::proofs::Steps::nets_few))]
 /// Adds the nets of a block.
+#[tactic(auto, using(crate::proofs::Packs::packed_next, crate::proofs::Steps::nets_few))]
 fn push_records<const W: usize>(
     entries: &mut Vec<(u32, Record<W>)>,
     design: &Design,
@@ -132,8 +129,8 @@ fn push_records<const W: usize>(
     Ok(())
 }
 
-#[tactic(auto, using(crate::proofs::Packs::packed_none, crate::proofs::Packs::packed_all, crate::proofs::Packs::packed_few, crate::proofs::Packs::packed_within))]
 /// Of each block the nets with more than `above` terminals, and at most `most`.
+#[tactic(auto, using(crate::proofs::Packs::packed_none, crate::proofs::Packs::packed_all, crate::proofs::Packs::packed_few, crate::proofs::Packs::packed_within))]
 fn records_between<const W: usize>(
     alloc: Global,
     design: &Design,
@@ -157,8 +154,8 @@ fn records_between<const W: usize>(
     gather(alloc, blocks, &entries, blank)
 }
 
-#[tactic(auto, using(crate::proofs::Packs::larger_pushed, crate::proofs::Packs::larger_passed, crate::proofs::Packs::large_by, crate::proofs::Packs::not_large_by))]
 /// Adds net `i` of a block, if it has many terminals.
+#[tactic(auto, using(crate::proofs::Packs::larger_pushed, crate::proofs::Packs::larger_passed, crate::proofs::Packs::large_by, crate::proofs::Packs::not_large_by))]
 fn push_large(
     entries: &mut Vec<(u32, u32)>,
     design: &Design,
@@ -179,8 +176,8 @@ fn push_large(
     Ok(())
 }
 
-#[tactic(auto, using(crate::proofs::Packs::larger_next, crate::proofs::Steps::nets_few))]
 /// Adds the nets of a block with many terminals.
+#[tactic(auto, using(crate::proofs::Packs::larger_next, crate::proofs::Steps::nets_few))]
 fn push_larges(
     entries: &mut Vec<(u32, u32)>,
     design: &Design,
@@ -198,8 +195,8 @@ fn push_larges(
     Ok(())
 }
 
-#[tactic(auto, using(crate::proofs::Packs::larger_none, crate::proofs::Packs::larger_all, crate::proofs::Packs::larger_few, crate::proofs::Packs::larger_within))]
 /// Of each block the places of its nets with many terminals.
+#[tactic(auto, using(crate::proofs::Packs::larger_none, crate::proofs::Packs::larger_all, crate::proofs::Packs::larger_few, crate::proofs::Packs::larger_within))]
 fn large_nets(alloc: Global, design: &Design) -> Result<Rows<u32>, AllocError>
     ensures { IfOk result (λ rows. HasLarge design.now rows) }
 {
@@ -211,8 +208,8 @@ fn large_nets(alloc: Global, design: &Design) -> Result<Rows<u32>, AllocError>
     gather(alloc, blocks, &entries, 0)
 }
 
-#[tactic(auto, using(crate::proofs::Listings::listing_none, crate::proofs::Listings::listing_more))]
 /// Adds the blocks of a net's terminals.
+#[tactic(auto, using(crate::proofs::Listings::listing_none, crate::proofs::Listings::listing_more))]
 fn push_blocks(entries: &mut Vec<(u32, u16)>, design: &Design, net: NetId) -> Result<(), AllocError>
     requires net { Counts design.now net.0 }
     requires listed { AreListed design.now net.0 entries.old.items }
@@ -226,8 +223,8 @@ fn push_blocks(entries: &mut Vec<(u32, u16)>, design: &Design, net: NetId) -> Re
     Ok(())
 }
 
-#[tactic(auto, using(crate::proofs::Listings::listed_none, crate::proofs::Listings::listed_passed, crate::proofs::Listings::listed_all, crate::proofs::Listings::listed_few, crate::proofs::Listings::listed_within))]
 /// Of each net that is not global the block of each terminal, and of a global net none.
+#[tactic(auto, using(crate::proofs::Listings::listed_none, crate::proofs::Listings::listed_passed, crate::proofs::Listings::listed_all, crate::proofs::Listings::listed_few, crate::proofs::Listings::listed_within))]
 fn blocks_by_net(alloc: Global, design: &Design) -> Result<Rows<u16>, AllocError>
     ensures { IfOk result (λ rows. rows ≡ counted_blocks design.now) }
 {
@@ -247,11 +244,11 @@ pub(crate) fn runs_of(alloc: Global, design: &Design) -> Result<Runs, AllocError
     ensures records { IfOk result (λ runs. HasRecords runs design.now) }
     ensures terminals { IfOk result (λ runs. runs.terminals ≡ counted_blocks design.now) }
 {
-    Ok(Runs {
-        small: records_between(alloc, design, 1, SMALL)?,
-        middle: records_between(alloc, design, SMALL, MIDDLE)?,
-        wide: records_between(alloc, design, MIDDLE, WIDE)?,
-        large: large_nets(alloc, design)?,
-        terminals: blocks_by_net(alloc, design)?,
-    })
+    let small = records_between(alloc, design, 1, SMALL)?;
+    let middle = records_between(alloc, design, SMALL, MIDDLE)?;
+    let wide = records_between(alloc, design, MIDDLE, WIDE)?;
+    let large = large_nets(alloc, design)?;
+    let rows = together(alloc, small, middle, wide, large)?;
+    let terminals = blocks_by_net(alloc, design)?;
+    Ok(Runs { rows, terminals })
 }

@@ -2,7 +2,7 @@
 //! site. The lane-wise least of the other blocks' lanes is their box; the block's own lanes extend it.
 
 ghost use Rattle.std.specs.Prelude.{◌≡◌, ℕ, ◌<◌, ◌≤◌, ◌+◌, ◌^◌, List, IfOk, Some, length, slice_set};
-ghost use Rattle.fab_net.specs.declared.pieces.BlockId.{BlockId as Block};
+ghost use Rattle.fab_net.specs.declared.netlist_types.BlockId.{BlockId as Block};
 ghost use Rattle.std.specs.List.{All};
 ghost use Rattle.fab_arch.specs.declared.array.Site.{Site as ArraySite};
 ghost use Rattle.fab_net.specs.Netlist.{nets_of};
@@ -13,7 +13,7 @@ ghost use Rattle.fab_cost.specs.Swapping.{Position, positions_after};
 use crate::edge_boxes::{Tally, plus};
 use crate::edge_counts::{CountedBox, Edges, NOTHING};
 use crate::lanes::{lanes_of, nowhere};
-use crate::records::{Moved, NO_BLOCK, change_of_run};
+use crate::records::{Moved, NO_BLOCK, change_of_records};
 use crate::runs::Runs;
 use fab_arch::{Grid, Site};
 use fab_net::{BlockId, Design};
@@ -21,8 +21,8 @@ use fab_site::{Placement, Swap};
 use std::alloc::{AllocError, Global};
 use std::simd::prelude::*;
 
-#[tactic(auto, using(crate::proofs::Steps::table_start, crate::proofs::Steps::table_more, crate::proofs::Steps::table_done))]
 /// The position of each block as a vector, and at the end that of no block.
+#[tactic(auto, using(crate::proofs::Steps::table_start, crate::proofs::Steps::table_more, crate::proofs::Steps::table_done))]
 pub(crate) fn lanes_for(
     alloc: Global,
     grid: &Grid,
@@ -48,9 +48,9 @@ struct Step {
     to: Site,
 }
 
+/// How the cost of the small nets of a block changes by its step, where another block is seen at another place than the table's.
 #[tactic(auto, using(crate::proofs::Steps::rows_few, crate::proofs::Steps::rows_within, crate::proofs::Steps::lanes_low))]
 #[inline(always)]
-/// How the cost of the small nets of a block changes by its step, where another block is seen at another place than the table's.
 fn change_of_step(
     lanes: &[u16x4],
     runs: &Runs,
@@ -62,7 +62,12 @@ fn change_of_step(
     requires records { HasRecords runs.now design.now }
     requires table { length lanes.now ≡ length design.now.kinds + 1 }
     requires block { step.now.block.0 < length design.now.kinds }
-    ensures step { (sites : List ArraySite) → length design.now.kinds ≡ length sites → AreSeen grid.now sites lanes.now moved.now.block moved.now.place → IsStep (few_cost design.now grid.now (slice_set sites step.now.block.0 step.now.from) (nets_of design.now step.now.block.0)) (few_cost design.now grid.now (slice_set sites step.now.block.0 step.now.to) (nets_of design.now step.now.block.0)) result.gained result.lost }
+    ensures step { (sites : List ArraySite) → length design.now.kinds ≡ length sites →
+        AreSeen grid.now sites lanes.now moved.now.block moved.now.place →
+        IsStep (few_cost design.now grid.now (slice_set sites step.now.block.0 step.now.from)
+        (nets_of design.now step.now.block.0))
+        (few_cost design.now grid.now (slice_set sites step.now.block.0 step.now.to)
+        (nets_of design.now step.now.block.0)) result.gained result.lost }
     ensures gained { result.gained < 2 ^ 48 }
     ensures lost { result.lost < 2 ^ 48 }
 {
@@ -72,16 +77,16 @@ fn change_of_step(
     let base = lanes_of(grid, step.from);
     let target = lanes_of(grid, step.to);
     let row = step.block.0 as usize;
-    let one = change_of_run(lanes, moved, base, target, runs.small.row(row));
-    let two = change_of_run(lanes, moved, base, target, runs.middle.row(row));
-    let three = change_of_run(lanes, moved, base, target, runs.wide.row(row));
+    let one = change_of_records(lanes, moved, base, target, runs.rows.small_row(row));
+    let two = change_of_records(lanes, moved, base, target, runs.rows.middle_row(row));
+    let three = change_of_records(lanes, moved, base, target, runs.rows.wide_row(row));
     plus(one, plus(two, three))
 }
 
+/// How the swap changes the cost of the small nets: first its block goes, then the other. The first step overrides no block, since a
+/// block's records do not contain it.
 #[inline(always)]
 #[tactic(auto, using(crate::proofs::Sited::block_below, crate::proofs::Steps::few_none, crate::proofs::Steps::few_some))]
-/// How the swap changes the cost of the small nets: first its block goes, then the other. The records of the first have only other blocks,
-/// so none is looked for among them.
 pub(crate) fn change_of_small(
     lanes: &[u16x4],
     runs: &Runs,
@@ -94,7 +99,8 @@ pub(crate) fn change_of_small(
     requires table { lanes.now ≡ table_of grid.now placement.now.sites }
     requires lawful { IsSwapOf grid.now placement.now.sites swap.now }
     requires whole { length design.now.kinds ≡ length placement.now.sites }
-    ensures balance { few_all design.now grid.now (swapped placement.now.sites swap.now) + result.lost ≡ few_all design.now grid.now placement.now.sites + result.gained }
+    ensures balance { few_all design.now grid.now (swapped placement.now.sites swap.now) +
+        result.lost ≡ few_all design.now grid.now placement.now.sites + result.gained }
     ensures gained { result.gained < 2 ^ 49 }
     ensures lost { result.lost < 2 ^ 49 }
 {
@@ -133,8 +139,11 @@ pub(crate) fn change_of_small(
 pub(crate) fn renew_lanes(lanes: &mut Vec<u16x4>, grid: &Grid, swap: &Swap)
     requires block { swap.now.block.0 + 1 < length lanes.old.items }
     requires other { (b : Block) → swap.now.other ≡ Some b → b.0 + 1 < length lanes.old.items }
-    ensures swapped { (sites : List ArraySite) → IsSwapOf grid.now sites swap.now → lanes.old.items ≡ table_of grid.now sites → lanes.new.items ≡ table_of grid.now (swapped sites swap.now) }
-    ensures table { (positions : List Position) → lanes.old.items ≡ table_from positions → lanes.new.items ≡ table_from (positions_after grid.now positions swap.now) }
+    ensures swapped { (sites : List ArraySite) → IsSwapOf grid.now sites swap.now →
+        lanes.old.items ≡ table_of grid.now sites →
+        lanes.new.items ≡ table_of grid.now (swapped sites swap.now) }
+    ensures table { (positions : List Position) → lanes.old.items ≡ table_from positions →
+        lanes.new.items ≡ table_from (positions_after grid.now positions swap.now) }
 {
     lanes[swap.block.0 as usize] = lanes_of(grid, swap.to);
     if let Some(other) = swap.other {
@@ -142,8 +151,8 @@ pub(crate) fn renew_lanes(lanes: &mut Vec<u16x4>, grid: &Grid, swap: &Swap)
     }
 }
 
-#[tactic(auto, using(crate::proofs::Over::table_low, crate::proofs::Over::edges_few, crate::proofs::Over::box_whole))]
 /// The box of some blocks, with the number of them on each edge.
+#[tactic(auto, using(crate::proofs::Over::table_low, crate::proofs::Over::edges_few, crate::proofs::Over::box_whole))]
 pub(crate) fn box_over(lanes: &[u16x4], blocks: &[u16]) -> CountedBox
     requires table { lanes.now ≡ table_from (positions_in lanes.now) }
     requires within { All (λ k. k < length (positions_in lanes.now)) blocks.now }

@@ -1,4 +1,4 @@
--- The rule of the dial's cell, and what its two steps tell. Our own, in the form that a ruled cell requires.
+-- The rule of the dial's cell, and what its two steps return. Our own, in the form that a ruled cell requires.
 use Rattle.std.specs.Prelude.{◌≡◌, ◌⊎◌, ℕ, List, [], ◌∷◌, ◌++◌, true, false}
 use mathlib.Core.Option.{some}
 use lib.ListN.{get_elem?}
@@ -10,6 +10,7 @@ use Rattle.fab_dial.specs.Shown.{StartsWith, EndsWith}
 abbrev pub shower : List Reading → View
 shower shown = record { is_shower = true; shown = shown; seen = shown }
 
+-- what a watcher knows that has read these
 abbrev pub watcher : List Reading → View
 watcher seen = record { is_shower = false; shown = []; seen = seen }
 

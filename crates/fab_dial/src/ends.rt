@@ -1,4 +1,4 @@
-// The dial and its ends.
+//! The dial and its ends.
 ghost use Rattle.std.specs.Prelude.{◌≡◌, ◌<◌, ◌≤◌, [], ◌∷◌, ◌++◌, true, All, IfOk, length};
 ghost use Rattle.atomic_table.specs.Seated.{TableId};
 ghost use Rattle.crossbeam_utils.specs.Seq.{cell_view};
@@ -37,7 +37,9 @@ impl Model for Shower {
 
     ghost view = { λ s. record { dial = s.pass.table_id; shown = (cell_view s.pass).shown } };
 
-    ghost invariant = { λ s. (cell_view s.pass ≡ shower (cell_view s.pass).shown) × (0 < length (cell_view s.pass).shown) };
+    ghost invariant = { λ s.
+        (cell_view s.pass ≡ shower (cell_view s.pass).shown) ×
+        (0 < length (cell_view s.pass).shown) };
 }
 
 /// An end that reads. Contracts see its dial, and the list of readings up to the last one that it read.
@@ -51,7 +53,9 @@ impl Model for Watcher {
 
     ghost view = { λ w. record { dial = w.pass.table_id; seen = (cell_view w.pass).seen } };
 
-    ghost invariant = { λ w. (cell_view w.pass ≡ watcher (cell_view w.pass).seen) × (0 < length (cell_view w.pass).seen) };
+    ghost invariant = { λ w.
+        (cell_view w.pass ≡ watcher (cell_view w.pass).seen) ×
+        (0 < length (cell_view w.pass).seen) };
 }
 
 impl Dial {
@@ -66,7 +70,8 @@ impl Dial {
         requires few { watchers ≤ 64 }
         ensures shower { IfOk result (λ r. (r.1.dial ≡ r.0) × (r.1.shown ≡ first ∷ [])) }
         ensures count { IfOk result (λ r. length r.2.items ≡ watchers) }
-        ensures watchers { IfOk result (λ r. All (λ w. (w.dial ≡ r.0) × (w.seen ≡ first ∷ [])) r.2.items) }
+        ensures watchers { IfOk result (λ r.
+            All (λ w. (w.dial ≡ r.0) × (w.seen ≡ first ∷ [])) r.2.items) }
     {
         let (cell, mut pass) = Cell::ruled(alloc, first)?;
         let dial = Dial { cell };

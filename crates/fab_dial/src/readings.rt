@@ -1,4 +1,4 @@
-// What a dial shows.
+//! What a dial shows.
 use crossbeam_utils::atomic::Words;
 
 /// How far a run has come.

@@ -1,4 +1,4 @@
-// The cell that a dial keeps its reading in, and the rule of that cell.
+//! The cell that a dial keeps its reading in, and the rule of that cell.
 use crate::readings::Reading;
 use atomic_table::{Join, Split};
 use crossbeam_utils::atomic::seq_cell::{Pass, RuledSeqCell};

@@ -13,9 +13,9 @@ use Rattle.fab_arch.specs.declared.array.Site.{Site}
 use Rattle.fab_arch.specs.declared.array.SiteKind.{SiteKind}
 use Rattle.fab_arch.specs.declared.array.SiteKind.TheVariants as site_kind
 use Rattle.fab_arch.specs.Grid.{GridShape, kind_at}
-use Rattle.fab_net.specs.declared.pieces.BlockId.{BlockId}
-use Rattle.fab_net.specs.declared.pieces.BlockKind.{BlockKind}
-use Rattle.fab_net.specs.declared.pieces.BlockKind.TheVariants.{Logic}
+use Rattle.fab_net.specs.declared.netlist_types.BlockId.{BlockId}
+use Rattle.fab_net.specs.declared.netlist_types.BlockKind.{BlockKind}
+use Rattle.fab_net.specs.declared.netlist_types.BlockKind.TheVariants.{Logic}
 use Rattle.fab_net.specs.Names.{number_of, AllDistinct}
 use Rattle.fab_net.specs.Netlist.{Netlist, IsLawful}
 use Rattle.fab_net.proofs.Naming.{name_at_number, same_name}

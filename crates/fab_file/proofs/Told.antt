@@ -3,7 +3,7 @@ use Rattle.std.proofs.Common.{◌≡◌, ℕ, ◌+◌, Bool, true, false, cond, 
 use Rattle.std.specs.Prelude.{filter}
 use Rattle.std.specs.List.{flat_map}
 use Rattle.std.proofs.lemmas.List.{length-append}
-use Rattle.fab_text.specs.declared.pieces.Span.{Span}
+use Rattle.fab_text.specs.declared.spans.Span.{Span}
 use Rattle.fab_text.specs.Lines.{TextLine, Physical, Placed, bytes_at, line_of, has_words, words_of, joined, join_first, physical, lines, lines_from}
 use Rattle.fab_file.specs.Written.{ended}
 use Rattle.fab_file.proofs.Split.{Says, not_continued_there, words_there, physical_first}

@@ -3,7 +3,7 @@ use Rattle.std.specs.Prelude.{ℕ, ◌≡◌, List, [], ◌∷◌, ◌++◌, Opt
 use Rattle.fab_text.specs.Lines.{lines, lines_from, trimmed, content, is_continued, without_backslash, words_of}
 use Rattle.fab_text.specs.Decimal.{decimal_of}
 use Rattle.fab_arch.specs.Grid.{shape}
-use Rattle.fab_net.specs.declared.pieces.BlockKind.TheVariants.{InputPad, OutputPad, Logic}
+use Rattle.fab_net.specs.declared.netlist_types.BlockKind.TheVariants.{InputPad, OutputPad, Logic}
 use Rattle.fab_net.specs.Netlist.{Netlist}
 use Rattle.fab_file.specs.declared.fault.PlaceFault.{PlaceFault}
 use Rattle.fab_file.specs.declared.fault.PlaceFault.TheVariants.{BadHeader, WrongSize, UnknownBlock, Repeated, NoSuchSite, WrongKind, Taken, Missing, BadLine}

@@ -1,3 +1,4 @@
+-- The definitions of fab_file, by file.
 pub mod Place
 pub mod PlaceFaults
 pub mod Taken

@@ -18,6 +18,7 @@ use Rattle.fab_file.specs.PlaceFaults.{is_block, place_header_fault, block_fault
 abbrev pub begins_header : TextLine → Bool
 begins_header l = is_word l 0 (codes "Netlist") && is_word l 1 (codes "file:")
 
+-- the text begins with a header
 abbrev pub has_header : List TextLine → Bool
 has_header [] = false
 has_header (first ∷ ls) = begins_header first
@@ -30,6 +31,7 @@ block_lines ls = if has_header ls then drop 2 ls else ls
 abbrev pub is_free : TextLine → Bool
 is_free l = length l.words == 5 && is_word l 4 (codes "free")
 
+-- a line cut after its first four words
 abbrev pub first_four : TextLine → TextLine
 first_four l = record { number = l.number; words = take 4 l.words; spans = take 4 l.spans }
 

@@ -4,7 +4,7 @@ use Rattle.fab_text.specs.Lines.{lines, lines_from, trimmed, content, is_continu
 use Rattle.fab_text.specs.Decimal.{decimal_of}
 use Rattle.fab_arch.specs.declared.array.Site.{Site}
 use Rattle.fab_arch.specs.Grid.{shape}
-use Rattle.fab_net.specs.declared.pieces.BlockKind.TheVariants.{InputPad, Logic}
+use Rattle.fab_net.specs.declared.netlist_types.BlockKind.TheVariants.{InputPad, Logic}
 use Rattle.fab_net.specs.Netlist.{Netlist}
 use Rattle.fab_site.specs.Placement.{site}
 use Rattle.fab_file.specs.declared.fault.PlaceFault.{PlaceFault}

@@ -1,5 +1,5 @@
 -- What a .place text stands for (VPR manual): a header of two lines, and for each block a line with its name and its
--- site, in any order.
+-- site, in any order. The limits are our own.
 use Rattle.std.specs.Prelude.{ℕ, ◌≡◌, Bool, true, ◌&&◌, ◌==◌, nat_le, List, [], ◌∷◌, if◌then◌else◌, length, map, slice_index_or, codes, Option, Some, None, Result, Ok, Err}
 use Rattle.std.specs.List.{list_any, AllByRecursion}
 use Rattle.std.specs.Str.{bytes_eq}
@@ -12,12 +12,15 @@ use Rattle.fab_net.specs.Names.{number_of, AllDistinct}
 use Rattle.fab_net.specs.Netlist.{Netlist}
 use Rattle.fab_site.specs.Placement.{site_of, IsLegal}
 
+-- word i of a line; empty if there is none
 abbrev pub word_at : TextLine → ℕ → List ℕ
 word_at l i = slice_index_or l.words i []
 
+-- word i of a line is this
 abbrev pub is_word : TextLine → ℕ → List ℕ → Bool
 is_word l i name = bytes_eq (word_at l i) name
 
+-- a number of at most 65,535
 abbrev pub small : Result ℕ NumFault → Option ℕ
 small (Ok n) = if nat_le n 65535 then Some n else None
 small (Err e) = None
@@ -33,6 +36,7 @@ is_files_line l =
     && (is_word l 0 (codes "Netlist") && is_word l 1 (codes "file:"))
     && (is_word l 3 (codes "Architecture") && is_word l 4 (codes "file:"))
 
+-- `Array size: NX x NY logic blocks`
 abbrev pub is_size_line : TextLine → Bool
 is_size_line l =
     length l.words == 7
@@ -40,6 +44,7 @@ is_size_line l =
     && is_word l 3 (codes "x")
     && (is_word l 5 (codes "logic") && is_word l 6 (codes "blocks"))
 
+-- two values, if both are there
 abbrev pub both : Option ℕ → Option ℕ → Option (ℕ × ℕ)
 both None y = None
 both (Some x) None = None
@@ -61,6 +66,7 @@ place_size_of [] = None
 place_size_of (files ∷ []) = header_size (Some files) None
 place_size_of (files ∷ size ∷ rest) = header_size (Some files) (Some size)
 
+-- a site, if its three numbers are there
 abbrev pub site_from : Option ℕ → Option ℕ → Option ℕ → Option Site
 site_from None y sub = None
 site_from (Some x) None sub = None
@@ -81,6 +87,7 @@ pub record Places (d : Netlist) (sites : List Site) (l : TextLine) : Type 0 wher
   pub named : block_in d l ≡ Some block
   pub stands : site_in l ≡ Some (site_of sites block)
 
+-- the line names this block
 abbrev pub names_block : List ℕ → TextLine → Bool
 names_block name l = bytes_eq name (word_at l 0)
 

@@ -35,18 +35,20 @@ is_block block (Some other) = other == block
 abbrev pub is_repeated : Netlist → List TextLine → ℕ → Bool
 is_repeated d before block = list_any (λ l. is_block block (block_in d l)) before
 
+-- the two are of one kind
 abbrev pub same_kind : SiteKind → SiteKind → Bool
 same_kind site_kind.Logic site_kind.Logic = true
 same_kind site_kind.Logic site_kind.Pad = false
 same_kind site_kind.Pad site_kind.Logic = false
 same_kind site_kind.Pad site_kind.Pad = true
 
+-- the fault of a block on a site of some kind: the site does not exist, or is not of the block's kind
 abbrev pub kind_fault : Netlist → ℕ → ℕ → Option SiteKind → Option PlaceFault
 kind_fault d n block None = Some (NoSuchSite n)
 kind_fault d n block (Some kind) = unless (same_kind kind (kind_wanted d block)) (WrongKind n)
 
--- the first fault of a block's line, number `n`, that follows others, where the line gives this site, or none, and names
--- this block, or none
+-- the first fault of block line n, which follows others; `site` is the site that it gives, `named` the block that it names, each `None` if
+-- absent
 abbrev pub block_fault_by : Netlist → GridShape → List TextLine → ℕ → Option Site → Option ℕ → Option PlaceFault
 block_fault_by d g before n None named = Some (BadLine n)
 block_fault_by d g before n (Some site) None = Some (UnknownBlock n)
@@ -59,6 +61,7 @@ block_fault_by d g before n (Some site) (Some block) =
 abbrev pub block_fault : Netlist → GridShape → List TextLine → TextLine → Option PlaceFault
 block_fault d g before l = block_fault_by d g before l.number (site_in l) (block_in d l)
 
+-- the fault of a block that no line names
 abbrev pub missing_fault : Option ℕ → Option PlaceFault
 missing_fault None = None
 missing_fault (Some block) = Some (Missing block)
@@ -82,7 +85,7 @@ abbrev pub FaultIs : PlaceFault → Option PlaceFault → Type 0
 FaultIs NoMemory fault = Unit {0}
 FaultIs e fault = fault ≡ Some e
 
--- the fault of a text whose header gives this size, or none
+-- the fault of a header that gives no size
 abbrev pub size_fault : Option (ℕ × ℕ) → Option PlaceFault
 size_fault None = Some BadHeader
 size_fault (Some size) = None

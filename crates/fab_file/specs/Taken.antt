@@ -6,7 +6,7 @@ use Rattle.fab_arch.specs.declared.array.Site.{Site}
 use Rattle.fab_arch.specs.Grid.{GridShape, kind_at}
 use Rattle.fab_arch.specs.declared.array.SiteKind.{SiteKind}
 use Rattle.fab_arch.specs.declared.array.SiteKind.TheVariants as site_kind
-use Rattle.fab_net.specs.declared.pieces.BlockKind.{BlockKind}
+use Rattle.fab_net.specs.declared.netlist_types.BlockKind.{BlockKind}
 use Rattle.fab_net.specs.Netlist.{Netlist, is_logic}
 use Rattle.fab_site.specs.Placement.{flat, Fits}
 use Rattle.fab_site.specs.Draft.{NoneShared, holder_of, is_missing}
@@ -26,6 +26,7 @@ pub record AreFitting (d : Netlist) (g : GridShape) (sites : List (Option Site))
   pub fit : (b : ℕ) (s : Site) → slice_get sites b ≡ Some (Some s) → Fits d g b s
   pub apart : NoneShared sites
 
+-- before the first line, no block has a site
 abbrev pub no_lines : Netlist → GridShape → LinesOf
 no_lines d g = record { netlist = d; grid = g; sites = replicate (length d.kinds) None }
 
@@ -37,8 +38,7 @@ wanted k = if is_logic k then site_kind.Logic else site_kind.Pad
 abbrev pub has_site : List (Option Site) → ℕ → Bool
 has_site sites block = is_some (flat (slice_get sites block))
 
--- the first fault of one more block line, number `n`, where the line gives this site, or none, and names this block,
--- or none
+-- the first fault of one more block line, number n; `site` is the site that it gives, `named` the block that it names, each `None` if absent
 abbrev pub take_fault_by : LinesOf → ℕ → Option Site → Option ℕ → Option PlaceFault
 take_fault_by p n None named = Some (BadLine n)
 take_fault_by p n (Some site) None = Some (UnknownBlock n)
@@ -51,6 +51,7 @@ take_fault_by p n (Some site) (Some block) =
 abbrev pub take_fault : LinesOf → TextLine → Option PlaceFault
 take_fault p l = take_fault_by p l.number (site_in l) (block_in p.netlist l)
 
+-- the block that a line names gets the line's site
 abbrev pub seated : LinesOf → Option ℕ → Option Site → LinesOf
 seated p None site = p
 seated p (Some block) site = record { netlist = p.netlist; grid = p.grid; sites = slice_set p.sites block site }

@@ -9,7 +9,7 @@ use Rattle.fab_text.specs.Lines.{is_continued}
 use Rattle.fab_text.specs.LineWords.{can_be_word}
 use Rattle.fab_arch.specs.declared.array.Site.{Site}
 use Rattle.fab_arch.specs.Grid.{GridShape, shape}
-use Rattle.fab_net.specs.declared.pieces.BlockKind.TheVariants.{InputPad, OutputPad, Logic}
+use Rattle.fab_net.specs.declared.netlist_types.BlockKind.TheVariants.{InputPad, OutputPad, Logic}
 use Rattle.fab_net.specs.Netlist.{Netlist}
 use Rattle.fab_site.specs.Placement.{site_of, site}
 use Rattle.fab_file.specs.declared.fault.PlaceFault.{PlaceFault}
@@ -23,9 +23,11 @@ is_label label = can_be_word label && not (is_continued label)
 abbrev pub are_labels : List ℕ → List ℕ → Bool
 are_labels net arch = is_label net && is_label arch
 
+-- `Netlist file: NET   Architecture file: ARCH`
 abbrev pub files_text : List ℕ → List ℕ → List ℕ
 files_text net arch = codes "Netlist file: " ++ net ++ codes "   Architecture file: " ++ arch
 
+-- `Array size: NX x NY logic blocks`
 abbrev pub size_text : GridShape → List ℕ
 size_text g = codes "Array size: " ++ decimal g.nx ++ codes " x " ++ decimal g.ny ++ codes " logic blocks"
 
@@ -38,6 +40,7 @@ abbrev pub block_text : List ℕ → Site → ℕ → List ℕ
 block_text name s number =
     name ++ column s.x ++ column s.y ++ column s.sub ++ codes "\t#" ++ decimal number
 
+-- the line of block b
 abbrev pub block_line : Netlist → List Site → ℕ → List ℕ
 block_line d sites b = block_text (slice_index_or d.names b []) (site_of sites b) b
 
@@ -51,6 +54,7 @@ head_lines net arch g =
     ∷ codes "#----------\t--\t--\t------\t------------"
     ∷ []
 
+-- a line for each block
 abbrev pub block_lines : Netlist → List Site → List (List ℕ)
 block_lines d sites = map (block_line d sites) (range_with_len 0 (length d.kinds))
 

@@ -55,8 +55,12 @@ pub(crate) fn size_in(line: &Line) -> Option<(u16, u16)>
 
 /// The columns and rows that a header gives, from those of its lines that exist, or `BadHeader`. Needs no memory.
 fn header_size(files: &Option<Line>, size: &Option<Line>) -> Result<(u16, u16), PlaceFault>
-    ensures size { IfOk result (λ r. header_size (option_map (λ l. shown l) files.now) (option_map (λ l. shown l) size.now) ≡ Some r) }
-    ensures fault { IfErr result (λ e. size_fault (header_size (option_map (λ l. shown l) files.now) (option_map (λ l. shown l) size.now)) ≡ Some e) }
+    ensures size { IfOk result (λ r.
+        header_size (option_map (λ l. shown l) files.now) (option_map (λ l. shown l) size.now) ≡
+        Some r) }
+    ensures fault { IfErr result (λ e.
+        size_fault (header_size (option_map (λ l. shown l) files.now)
+        (option_map (λ l. shown l) size.now)) ≡ Some e) }
 {
     let Some(files) = files else {
         return Err(PlaceFault::BadHeader);

@@ -9,9 +9,9 @@ ghost use Rattle.fab_file.specs.Place.{StandsFor};
 ghost use Rattle.fab_file.specs.PlaceFaults.{FaultIs, PlaceMeansOrFaults, first_fault};
 ghost use Rattle.fab_file.specs.declared.fault.PlaceFault.TheVariants.{NoMemory};
 
+use crate::block_lines::PlaceLines;
 use crate::fault::PlaceFault;
 use crate::header::{check_size, take_size};
-use crate::taking::PlaceLines;
 use fab_arch::Grid;
 use fab_net::Design;
 use fab_site::Placement;
@@ -30,9 +30,11 @@ pub fn read_place(
     ensures found { IfOk result (λ p. StandsFor design.now grid.now (lines bytes.now) p.sites) }
     ensures grid { IfOk result (λ p. p.grid ≡ grid.now) }
     // What it stands for is read, unless memory runs out.
-    ensures only { (sites : List Site) → StandsFor design.now grid.now (lines bytes.now) sites → MatchResult result (λ p. p.sites ≡ sites) (λ e. e ≡ NoMemory) }
+    ensures only { (sites : List Site) → StandsFor design.now grid.now (lines bytes.now) sites →
+        MatchResult result (λ p. p.sites ≡ sites) (λ e. e ≡ NoMemory) }
     // An error is the first fault, or out of memory.
-    ensures fault { IfErr result (λ e. FaultIs e (first_fault design.now grid.now (lines bytes.now))) }
+    ensures fault { IfErr result (λ e.
+        FaultIs e (first_fault design.now grid.now (lines bytes.now))) }
 {
     let mut placed = PlaceLines::new(alloc, design, grid)?;
     let mut left = Lines::new(alloc, bytes);
@@ -48,5 +50,6 @@ pub fn read_place(
 
 /// The law that the lines of a placement text either stand for a placement or have a first fault, and never both.
 pub fn place_texts_mean_or_fault()
-    ensures { (d : Netlist) (g : GridShape) (ls : List TextLine) → IsLawful d → PlaceMeansOrFaults d g ls }
+    ensures { (d : Netlist) (g : GridShape) (ls : List TextLine) → IsLawful d →
+        PlaceMeansOrFaults d g ls }
 {}

@@ -1,5 +1,6 @@
 // Readers and a writer that are refused memory. A test passes as it is, and where one growth of its process is refused:
-// tests/refusals/growths refuses each in turn. Since no second one is refused, what was refused is asked for again, and then it has to come.
+// tests/refusals/growths refuses each in turn. Since no second one is refused, what was refused is asked for again, and then it has to
+// come.
 
 use crate::cut_tests::{CHAIN_ARCH, CHAIN_NET, CHAIN_PADS, CHAIN_PLACE};
 use crate::{Labels, PlaceFault, read_pins, read_place, write_place};
@@ -10,8 +11,8 @@ use std::alloc::AllocError;
 use std::process::Abort;
 use std::test::*;
 
-// Tells how many growths later one is refused, if it is among the next 10,000: that is, if what was tried has met none. tests/refusals/growths
-// reads it.
+// Tells how many growths later one is refused, if it is among the next 10,000: that is, if what was tried has met none.
+// tests/refusals/growths reads it.
 fn tell_refusal_to_come(rt: &(impl AllocGlobal + Print)) {
     for later in 0..10_000u64 {
         if Vec::<u8>::with_capacity(rt.alloc(), 1).is_err() {

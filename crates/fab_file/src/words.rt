@@ -1,4 +1,4 @@
-//! The words of a line of a placement text.
+//! The words of a line of a placement text, a location text or a checkpoint text.
 
 ghost use Rattle.std.specs.Prelude.{◌≡◌, ◌≤◌, IfSome};
 ghost use Rattle.fab_text.specs.Shown.{shown};

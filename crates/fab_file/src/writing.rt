@@ -72,7 +72,9 @@ pub fn are_labels(labels: &Labels) -> bool
 
 /// Appends the first line of the header.
 fn push_files(text: &mut Vec<u8>, labels: &Labels) -> Result<(), AllocError>
-    ensures { OnOk result (text.new.items ≡ text.old.items ++ ended (files_text labels.now.net.now labels.now.arch.now)) }
+    ensures { OnOk result
+        (text.new.items ≡
+        text.old.items ++ ended (files_text labels.now.net.now labels.now.arch.now)) }
 {
     text.extend_from_slice(b"Netlist file: ")?;
     text.extend_from_slice(labels.net)?;
@@ -107,7 +109,8 @@ fn push_column(text: &mut Vec<u8>, n: u16) -> Result<(), AllocError>
 
 /// Appends the line of a block.
 fn push_block(text: &mut Vec<u8>, name: &[u8], site: Site, number: u64) -> Result<(), AllocError>
-    ensures { OnOk result (text.new.items ≡ text.old.items ++ ended (block_text name.now site number)) }
+    ensures { OnOk result
+        (text.new.items ≡ text.old.items ++ ended (block_text name.now site number)) }
 {
     text.extend_from_slice(name)?;
     push_column(text, site.x)?;
@@ -121,7 +124,8 @@ fn push_block(text: &mut Vec<u8>, name: &[u8], site: Site, number: u64) -> Resul
 
 /// The header of a text, and the comments after it.
 fn head_of(alloc: Global, labels: &Labels, grid: &Grid) -> Result<Vec<u8>, AllocError>
-    ensures text { IfOk result (λ v. v.items ≡ flat_map ended (head_lines labels.now.net.now labels.now.arch.now grid.now)) }
+    ensures text { IfOk result (λ v.
+        v.items ≡ flat_map ended (head_lines labels.now.net.now labels.now.arch.now grid.now)) }
     ensures limits { OnOk result (AreLimits grid.now.nx grid.now.ny grid.now.io_rat) }
 {
     let mut text = Vec::new(alloc);
@@ -136,7 +140,9 @@ fn head_of(alloc: Global, labels: &Labels, grid: &Grid) -> Result<Vec<u8>, Alloc
 /// Appends the lines of all blocks.
 fn push_blocks(text: &mut Vec<u8>, design: &Design, placement: &Placement) -> Result<(), AllocError>
     requires { length placement.now.sites ≡ length design.now.kinds }
-    ensures text { OnOk result (text.new.items ≡ text.old.items ++ flat_map ended (block_lines design.now placement.now.sites)) }
+    ensures text { OnOk result
+        (text.new.items ≡
+        text.old.items ++ flat_map ended (block_lines design.now placement.now.sites)) }
     ensures lawful { OnOk result (IsLawful design.now) }
 {
     for b in 0..design.blocks() {
@@ -155,7 +161,9 @@ fn text_of(
     placement: &Placement,
 ) -> Result<Vec<u8>, AllocError>
     requires { length placement.now.sites ≡ length design.now.kinds }
-    ensures text { IfOk result (λ v. v.items ≡ place_text labels.now.net.now labels.now.arch.now design.now grid.now placement.now.sites) }
+    ensures text { IfOk result (λ v.
+        v.items ≡ place_text labels.now.net.now labels.now.arch.now design.now grid.now
+        placement.now.sites) }
     ensures lawful { OnOk result (IsLawful design.now) }
     ensures limits { OnOk result (AreLimits grid.now.nx grid.now.ny grid.now.io_rat) }
 {
@@ -177,15 +185,25 @@ pub fn write_place<W: Sink>(
 ) -> Result<(), PlaceFault>
     requires { IsLegal design.now grid.now [] placement.now.sites }
     // What is written is the text.
-    ensures whole { OnOk result (Appends (W.contents out.old) (W.contents out.new) (place_text labels.now.net.now labels.now.arch.now design.now grid.now placement.now.sites)) }
+    ensures whole { OnOk result
+        (Appends (W.contents out.old) (W.contents out.new)
+        (place_text labels.now.net.now labels.now.arch.now design.now grid.now
+        placement.now.sites)) }
     // What is written reads back: it stands for the placement.
-    ensures back { OnOk result (StandsFor design.now grid.now (lines (place_text labels.now.net.now labels.now.arch.now design.now grid.now placement.now.sites)) placement.now.sites) }
+    ensures back { OnOk result
+        (StandsFor design.now grid.now
+        (lines (place_text labels.now.net.now labels.now.arch.now design.now grid.now
+        placement.now.sites)) placement.now.sites) }
     // A label is refused if, and only if, it cannot be part of a header.
-    ensures label { (result ≡ Err BadLabel) ↔ (are_labels labels.now.net.now labels.now.arch.now ≡ false) }
+    ensures label { (result ≡ Err BadLabel) ↔
+        (are_labels labels.now.net.now labels.now.arch.now ≡ false) }
     ensures only { IfErr result IsWriteFault }
     // A fault other than the writer's writes nothing, and a writer that fails has taken a beginning.
     ensures silent { IfErr result (λ e. e ≢ Write → W.contents out.new ≡ W.contents out.old) }
-    ensures cut { IfErr result (λ e. e ≡ Write → IsCut (place_text labels.now.net.now labels.now.arch.now design.now grid.now placement.now.sites) (W.contents out.old) (W.contents out.new)) }
+    ensures cut { IfErr result (λ e.
+        e ≡ Write →
+        IsCut (place_text labels.now.net.now labels.now.arch.now design.now grid.now
+        placement.now.sites) (W.contents out.old) (W.contents out.new)) }
     // The writer has failed only if the result says so.
     ensures sound { OnOk result (W.failed out.new ≡ W.failed out.old) }
     ensures failed { IfErr result (λ e. W.failed out.new ≡ failed_with e (W.failed out.old)) }

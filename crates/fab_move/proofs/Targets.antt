@@ -9,8 +9,8 @@ use Rattle.fab_arch.specs.declared.array.SiteKind.TheVariants as site_kind
 use Rattle.fab_arch.specs.Grid.{GridShape, perimeter, is_logic_site, is_position, is_pad_site, kind_at}
 use Rattle.fab_arch.proofs.Perimeter.{round_is}
 use Rattle.std.proofs.lemmas.Bool.Decides.{nat_tests}
-use Rattle.fab_net.specs.declared.pieces.BlockKind.{BlockKind}
-use Rattle.fab_net.specs.declared.pieces.BlockKind.TheVariants.{Logic}
+use Rattle.fab_net.specs.declared.netlist_types.BlockKind.{BlockKind}
+use Rattle.fab_net.specs.declared.netlist_types.BlockKind.TheVariants.{Logic}
 use Rattle.fab_net.specs.Netlist.{Netlist, is_logic, is_logic_at}
 use Rattle.fab_site.specs.Placement.{Fits, kind_wanted, site}
 use Rattle.fab_move.specs.Propose.{logic_target, within, near_positions, pad_target, target}

@@ -4,10 +4,10 @@ use Rattle.std.specs.Prelude.{ℕ, ℤ, pos, ◌≡◌, Bool, true, false, if◌
 use Rattle.std.specs.List.{list_any}
 use Rattle.fab_arch.specs.declared.array.Site.{Site}
 use Rattle.fab_arch.specs.Grid.{GridShape}
-use Rattle.fab_net.specs.declared.pieces.BlockId.{BlockId}
-use Rattle.fab_net.specs.declared.pieces.BlockKind.TheVariants.{Logic}
+use Rattle.fab_net.specs.declared.netlist_types.BlockId.{BlockId}
+use Rattle.fab_net.specs.declared.netlist_types.BlockKind.TheVariants.{Logic}
 use Rattle.fab_net.specs.Netlist.{Netlist, nets_of, terminal}
-use Rattle.fab_site.specs.declared.pieces.Swap.{Swap}
+use Rattle.fab_site.specs.declared.placement_types.Swap.{Swap}
 use Rattle.fab_site.specs.Placement.{same_site, site}
 use Rattle.fab_cost.specs.Swapping.{change, swapped_by}
 use Rattle.fab_move.specs.declared.marks.Mark.{Mark}
@@ -27,15 +27,18 @@ pub record Problem : Type 0 where
   pub fixed : List (Option Site)
   pub words : ℕ → List ℕ
 
+-- a problem of a design on an array, with fixed sites and words
 abbrev pub problem : Netlist → GridShape → List (Option Site) → (ℕ → List ℕ) → Problem
 problem d g fixed words = record { design = d; grid = g; fixed = fixed; words = words }
 
+-- the two are one mark
 abbrev pub same_mark : Mark → Mark → Bool
 same_mark (Block a) (Block b) = a.0 == b.0
 same_mark (Place a) (Place b) = same_site a b
 same_mark (Net a) (Net b) = a.0 == b.0
 same_mark _ _ = false
 
+-- the mark is among these
 abbrev pub has_mark : Mark → List Mark → Bool
 has_mark m xs = list_any (same_mark m) xs
 
@@ -47,18 +50,19 @@ meet xs ys = list_any (λ m. has_mark m xs) ys
 abbrev pub block_marks : Netlist → BlockId → List Mark
 block_marks d b = Block b ∷ map (λ n. Net (record { 0 = n })) (nets_of d b.0)
 
+-- the marks of the displaced block, if any
 abbrev pub other_marks : Netlist → Option BlockId → List Mark
 other_marks d None = []
 other_marks d (Some b) = block_marks d b
 
--- what a proposal rests on: its target and its block; for a swap also the block on the target, and the nets of both blocks. The
--- order of the list does not matter
+-- what a proposal rests on: its target and its block; for a swap also the block on the target, and the nets of both blocks that are not
+-- global. The order of the list does not matter
 abbrev pub footprint : Netlist → Proposal → List Mark
 footprint d Nothing = []
 footprint d (Void b to) = Place to ∷ Block b ∷ []
 footprint d (Move s) = Place s.to ∷ (block_marks d s.block ++ other_marks d s.other)
 
--- what an accepted swap touches: both its sites, its blocks, and their nets
+-- what an accepted swap touches: both its sites, its blocks, and their nets that are not global
 abbrev pub touched : Netlist → Swap → List Mark
 touched d s = Place s.from ∷ Place s.to ∷ (block_marks d s.block ++ other_marks d s.other)
 

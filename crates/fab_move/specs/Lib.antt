@@ -1,3 +1,4 @@
+-- The definitions of fab_move, by file.
 pub mod Stream
 pub mod Accept
 pub mod Propose

@@ -3,8 +3,8 @@
 use Rattle.std.specs.Prelude.{ℕ, ◌≡◌, ◌+◌, ◌-◌, ◌/◌, min, max, Bool, if◌then◌else◌, nat_le, ◌&&◌, filter, List, [], ◌∷◌, length, is_some, Option, Some, None, slice_get, slice_index, slice_index_or, codes, refl}
 use Rattle.fab_arch.specs.declared.array.Site.{Site}
 use Rattle.fab_arch.specs.Grid.{GridShape, shape, perimeter}
-use Rattle.fab_net.specs.declared.pieces.BlockId.{BlockId}
-use Rattle.fab_net.specs.declared.pieces.BlockKind.TheVariants.{InputPad, Logic}
+use Rattle.fab_net.specs.declared.netlist_types.BlockId.{BlockId}
+use Rattle.fab_net.specs.declared.netlist_types.BlockKind.TheVariants.{InputPad, Logic}
 use Rattle.fab_net.specs.Netlist.{Netlist, is_logic_at}
 use Rattle.fab_site.specs.Placement.{same_site, site, site_of, at, fixed_at}
 use Rattle.fab_site.specs.Free.{free_below}
@@ -58,9 +58,11 @@ propose_held fixed b from to None = Move (record { block = b; from = from; to = 
 propose_held fixed b from to (Some holder) =
     if is_fixed fixed holder.0 then Void b to else Move (record { block = b; from = from; to = to; other = Some holder })
 
+-- what a block proposes whose target is known
 abbrev pub propose_to : List (Option Site) → List Site → BlockId → Site → Site → Proposal
 propose_to fixed sites b from to = if same_site from to then Void b to else propose_held fixed b from to (at sites to)
 
+-- what is proposed for the chosen block, if there is one
 abbrev pub propose_for : Netlist → GridShape → List (Option Site) → List Site → ℕ → List ℕ → Option ℕ → Proposal
 propose_for d g fixed sites range ws None = Nothing
 propose_for d g fixed sites range ws (Some b) =

@@ -1,9 +1,10 @@
 -- The positions near a pad: one run on each side of the array (our own).
 use Rattle.std.specs.Prelude.{ℕ, ◌≡◌, ◌+◌, List, [], ◌∷◌, ◌++◌, map, reverse, refl}
 use Rattle.std.specs.List.{range_with_len}
-use Rattle.fab_move.specs.declared.runs.Run.{Run}
-use Rattle.fab_move.specs.declared.runs.Window.{Window}
+use Rattle.fab_move.specs.declared.pad_runs.Run.{Run}
+use Rattle.fab_move.specs.declared.pad_runs.Window.{Window}
 
+-- the numbers of a run
 abbrev pub numbers : Run → List ℕ
 numbers r = range_with_len r.first r.count
 
@@ -15,6 +16,7 @@ side_by_side nx ny left top right bottom =
     ++ reverse (map (λ i. (nx + 1, i)) right)
     ++ reverse (map (λ i. (i, 0)) bottom)
 
+-- the pad positions of a window, in perimeter order
 abbrev pub positions : Window → List (ℕ × ℕ)
 positions w = side_by_side w.nx w.ny (numbers w.left) (numbers w.top) (numbers w.right) (numbers w.bottom)
 

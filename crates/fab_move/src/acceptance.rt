@@ -14,9 +14,9 @@ const SIXTEENTH_CHANCES: [u32; 16] = [
     535_261, 502_832, 472_367, 443_747, 416_862, 391_606,
 ];
 
-#[tactic(auto, unfolding(crate::specs::Accept::is_accepted))]
 /// Whether the word `w` accepts a change of cost at temperature `t`, both in ten-thousandths. A change that makes nothing worse is
 /// always accepted. At temperature 0 no other change is.
+#[tactic(auto, unfolding(crate::specs::Accept::is_accepted))]
 pub fn accepts(delta: i64, t: u64, w: u32) -> bool
     ensures { result ≡ is_accepted delta t w }
 {
@@ -36,8 +36,8 @@ fn fraction(w: u32) -> u64
     (u64::from(w) * 1_000_000) >> 32
 }
 
-#[tactic(auto, using(crate::proofs::Chances::none_so_far))]
 /// The chance of accepting a change of cost at temperature `t`, in millionths.
+#[tactic(auto, using(crate::proofs::Chances::none_so_far))]
 fn chance_at(delta: u64, t: u64) -> u64
     requires { 0 < t }
     ensures { result ≡ chance_of (16 * delta / t) }
@@ -52,9 +52,9 @@ fn chance_at(delta: u64, t: u64) -> u64
     chance(16 * delta / t)
 }
 
+/// The same for numbers of any size, by a longer division.
 #[cold]
 #[tactic(auto, using(crate::proofs::Chances::none_beyond))]
-/// The same for numbers of any size, by a longer division.
 fn chance_of_large(delta: u64, t: u64) -> u64
     requires { 0 < t }
     ensures { result ≡ chance_of (16 * delta / t) }
@@ -63,8 +63,8 @@ fn chance_of_large(delta: u64, t: u64) -> u64
     if z < 240 { chance(z as u64) } else { 0 }
 }
 
-#[tactic(auto, unfolding(crate::specs::Accept::chance_of))]
 /// The chance of accepting a change of `z` sixteenths of a temperature, in millionths.
+#[tactic(auto, unfolding(crate::specs::Accept::chance_of))]
 fn chance(z: u64) -> u64
     requires { z < 240 }
     ensures { result ≡ chance_of z }

@@ -43,7 +43,8 @@ fn fits(design: &Design, grid: &Grid, block: usize, site: Site) -> bool
 /// Whether no earlier block has the site of this one.
 fn is_free(sites: &[Site], block: usize) -> bool
     requires { block < length sites.now }
-    ensures { IsTrue result → (b : ℕ) → b < block → ¬ (site_of sites.now b ≡ site_of sites.now block) }
+    ensures { IsTrue result → (b : ℕ) → b < block →
+        ¬ (site_of sites.now b ≡ site_of sites.now block) }
 {
     for other in 0..block {
         if sites[other] == sites[block] {
@@ -216,7 +217,8 @@ fn made<W: WireCost>(
 ) -> (i64, u64)
     requires stands { W.StandsFor wire.old design.now grid.now placement.now.sites }
     requires lawful { IsSwapOf grid.now placement.now.sites swap.now }
-    ensures stands { W.StandsFor wire.new design.now grid.now (swapped placement.now.sites swap.now) }
+    ensures stands { W.StandsFor wire.new design.now grid.now
+        (swapped placement.now.sites swap.now) }
     ensures below { result.1 < 2 ^ 43 }
 {
     let delta = wire.delta(design, grid, placement, swap);
@@ -226,7 +228,8 @@ fn made<W: WireCost>(
 
 // The edge counts of the first net (xmin, xmax, ymin, ymax); `None` if there is no net.
 fn first_counts(design: &Design, edges: &EdgeBoxes) -> Option<[u32; 4]>
-    requires { (g : GridShape) × (sites : List ArraySite) × CountedStandsFor edges.now design.now g sites }
+    requires { (g : GridShape) × (sites : List ArraySite) ×
+        CountedStandsFor edges.now design.now g sites }
 {
     if design.nets() == 0 {
         return None;
@@ -234,8 +237,8 @@ fn first_counts(design: &Design, edges: &EdgeBoxes) -> Option<[u32; 4]>
     Some(edges.edge_counts(NetId(0)))
 }
 
-// The cost and the edge counts of the first net before and after a swap, the change of cost, the same after a swap that is made by its known
-// change, and the cost of an unchanged copy.
+// The cost and the edge counts of the first net before and after a swap, the change of cost, the same after a swap that is made by its
+// known change, and the cost of an unchanged copy.
 #[derive(Clone, Copy, PartialEq, Eq, Debug)]
 struct Row {
     cost: u64,

@@ -4,12 +4,12 @@
 pub mod acceptance;
 #[cfg(test)]
 mod cost_tests;
-pub mod judging;
+pub mod judgement;
 pub mod marks;
 #[cfg(test)]
 mod move_tables;
+mod pad_runs;
 pub mod proposals;
-mod runs;
 pub mod stream_words;
 #[cfg(test)]
 mod tests;
@@ -17,7 +17,7 @@ pub mod verdicts;
 mod windows;
 
 pub use acceptance::accepts;
-pub use judging::{decide, footprint_of, judge, weigh};
+pub use judgement::{decide, footprint_of, judge, weigh};
 pub use marks::{Footprint, Mark};
 pub use proposals::{Proposal, propose};
 pub use stream_words::StreamWords;

@@ -1,4 +1,5 @@
-//! The marks of moves: what a judgement rests on, and what an accepted swap touches.
+//! The marks of moves: what a judgement rests on, and what an accepted swap touches. A run of the program makes no list of marks; it looks
+//! at stamps.
 
 use fab_arch::Site;
 use fab_net::{BlockId, NetId};

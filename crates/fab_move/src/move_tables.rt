@@ -1,4 +1,4 @@
-//! Judgements of moves, as an independent slow placer makes them.
+//! A table for tests: judgements of moves, as an independent slow placer makes them.
 
 /// The judgements of 200 moves, each on the start placement of seed 5. Each line has the swap, the change of cost, whether it is
 /// accepted, and the marks.

@@ -1,4 +1,4 @@
-//! What a move proposes.
+//! What a move proposes: its block, and its target site, drawn by the move's words.
 
 ghost use Rattle.std.specs.Prelude.{◌≡◌, ℕ, ◌+◌, ◌/◌, ◌<◌, ◌≤◌, ◌^◌, length, min, max, Some, slice_get, slice_index, true};
 ghost use Rattle.fab_arch.specs.declared.array.SiteKind.TheVariants.{Logic, Pad};
@@ -10,7 +10,7 @@ ghost use Rattle.fab_move.specs.declared.proposals.Proposal.TheVariants.{Move as
 ghost use Rattle.fab_move.specs.Propose.{movable, near as near_one, logic_target as logic_target_of, pad_target as pad_target_of, target as target_of, propose_to as proposal_to, proposal};
 ghost use Rattle.fab_move.specs.Chosen.{holder_is_fixed, number_of};
 
-use crate::runs::Window;
+use crate::pad_runs::Window;
 use crate::windows::bounds_near;
 use fab_arch::{Grid, Site};
 use fab_net::{BlockId, BlockKind, Design};
@@ -27,9 +27,9 @@ pub enum Proposal {
     Move(Swap),
 }
 
-#[inline(always)]
 /// What four words propose on a legal placement: a block that may move, and a target site of its kind at most `range` (in
 /// thousandths) from it in both coordinates. Allocates nothing. Looks only at the chosen block and at the block on the target.
+#[inline(always)]
 pub fn propose(
     design: &Design,
     grid: &Grid,
@@ -39,7 +39,8 @@ pub fn propose(
     words: [u32; 4],
 ) -> Proposal
     requires legal { IsLegal design.now grid.now fixed.now placement.now.sites }
-    ensures value { result ≡ proposal design.now grid.now fixed.now placement.now.sites range words }
+    ensures value { result ≡
+        proposal design.now grid.now fixed.now placement.now.sites range words }
     ensures lawful { (s : Swap) → result ≡ proposes s → IsSwapOf grid.now placement.now.sites s }
 {
     match chosen(design, fixed, words[0]) {
@@ -55,7 +56,9 @@ pub fn propose(
 /// The block that a word picks among those that may move; `None` if no block may move.
 fn chosen(design: &Design, fixed: &Fixed, word: u32) -> Option<BlockId>
     requires { (b : ℕ) (s : Site) → fixed_at fixed.now b ≡ Some s → b < length design.now.kinds }
-    ensures { number_of result ≡ slice_get (movable design.now fixed.now) (pick_of word (length (movable design.now fixed.now))) }
+    ensures { number_of result ≡
+        slice_get (movable design.now fixed.now)
+        (pick_of word (length (movable design.now fixed.now))) }
 {
     let blocks = design.blocks() as u32;
     let free = fixed.free_blocks(blocks);
@@ -110,8 +113,8 @@ fn pad_target(grid: &Grid, from: Site, reach: u64, words: [u32; 4]) -> Site
     }
 }
 
-#[tactic(auto, using(crate::proofs::Targets::target_logic, crate::proofs::Targets::target_pad, crate::proofs::Targets::fits_logic, crate::proofs::Targets::fits_pad))]
 /// The target of a block that is at `from`. The range is in thousandths.
+#[tactic(auto, using(crate::proofs::Targets::target_logic, crate::proofs::Targets::target_pad, crate::proofs::Targets::fits_logic, crate::proofs::Targets::fits_pad))]
 fn target(
     design: &Design,
     grid: &Grid,
@@ -132,8 +135,8 @@ fn target(
     }
 }
 
-#[tactic(auto, using(crate::proofs::Targets::kind_known))]
 /// Whether a block is a logic block and not a pad.
+#[tactic(auto, using(crate::proofs::Targets::kind_known))]
 fn is_logic_block(design: &Design, block: BlockId) -> bool
     requires { block.0 < length design.now.kinds }
     ensures { result ≡ is_logic_at design.now block.0 }
@@ -144,8 +147,8 @@ fn is_logic_block(design: &Design, block: BlockId) -> bool
     }
 }
 
-#[inline(always)]
 /// The proposal for a block and its target.
+#[inline(always)]
 fn propose_to(
     fixed: &Fixed,
     placement: &Placement,

@@ -41,7 +41,8 @@ impl StreamWords {
 
     /// The cipher before start word `i`.
     fn starts_from(&self, i: u32) -> ChaCha8Rng
-        ensures { result ≡ record { key = key_of (cipher_seed self.now); stream = 1; word_pos = i } }
+        ensures { result ≡
+            record { key = key_of (cipher_seed self.now); stream = 1; word_pos = i } }
     {
         let mut stream = ChaCha8Rng::from_seed(self.cipher_seed);
         stream.set_stream(1);
@@ -59,8 +60,8 @@ impl Words for StreamWords {
         next_four(&mut moves_from(self.cipher_seed, k))
     }
 
-    // The cipher makes the blocks of four moves at once. One that is started for four moves is compiled to code that never asks where in its
-    // blocks it is; one that goes on has to ask for each word.
+    // The cipher makes the blocks of four moves at once. One that is started for four moves is compiled to code that never asks where in
+    // its blocks it is; one that goes on has to ask for each word.
     fn fill_words(&self, first: u64, out: &mut [[u32; 4]]) {
         let done = fill_fours(self.cipher_seed, first, out);
         if done < out.len() {
@@ -108,7 +109,8 @@ fn moves_from(cipher_seed: [u8; 32], k: u64) -> ChaCha8Rng
 #[inline(always)]
 fn four_moves(cipher_seed: [u8; 32], first: u64) -> [[u32; 4]; 4]
     requires { first + 4 < 2 ^ 64 }
-    ensures { (j : ℕ) → j < 4 → slice_index_or result j [] ≡ block_words (key_of cipher_seed) (first + j) }
+    ensures { (j : ℕ) → j < 4 →
+        slice_index_or result j [] ≡ block_words (key_of cipher_seed) (first + j) }
 {
     let mut stream = moves_from(cipher_seed, first);
     let one = next_four(&mut stream);
@@ -125,7 +127,8 @@ fn four_moves(cipher_seed: [u8; 32], first: u64) -> [[u32; 4]; 4]
 fn fill_fours(cipher_seed: [u8; 32], first: u64, out: &mut [[u32; 4]]) -> usize
     requires { first + length out.old < 2 ^ 64 }
     ensures within { result ≤ length out.new }
-    ensures each { (i : ℕ) → i < result → slice_index_or out.new i [] ≡ block_words (key_of cipher_seed) (first + i) }
+    ensures each { (i : ℕ) → i < result →
+        slice_index_or out.new i [] ≡ block_words (key_of cipher_seed) (first + i) }
 {
     let fours = out.len() / 4;
     'fours: for i in 0..fours {
@@ -142,8 +145,11 @@ fn fill_fours(cipher_seed: [u8; 32], first: u64, out: &mut [[u32; 4]]) -> usize
 fn fill_rest(stream: &mut ChaCha8Rng, done: usize, out: &mut [[u32; 4]])
     requires within { done ≤ length out.old }
     requires places { stream.old.word_pos + 16 * (length out.old - done) < 2 ^ 68 }
-    ensures each { (i : ℕ) → done + i < length out.new → slice_index_or out.new (done + i) [] ≡ words_from stream.old (stream.old.word_pos + 16 * i) }
-    ensures before { (i : ℕ) → i < done → slice_index_or out.new i [] ≡ slice_index_or out.old i [] }
+    ensures each { (i : ℕ) → done + i < length out.new →
+        slice_index_or out.new (done + i) [] ≡
+        words_from stream.old (stream.old.word_pos + 16 * i) }
+    ensures before { (i : ℕ) → i < done →
+        slice_index_or out.new i [] ≡ slice_index_or out.old i [] }
 {
     'entries: for i in done..out.len() {
         out[i] = next_four(stream);
@@ -154,15 +160,17 @@ fn fill_rest(stream: &mut ChaCha8Rng, done: usize, out: &mut [[u32; 4]])
 /// Writes the next words, one after the other.
 fn fill_in_row(stream: &mut ChaCha8Rng, out: &mut [u32])
     requires { stream.old.word_pos + length out.old < 2 ^ 68 }
-    ensures { (i : ℕ) → i < length out.new → slice_index_or out.new i 0 ≡ word_at 4 stream.old.key stream.old.stream (stream.old.word_pos + i) }
+    ensures { (i : ℕ) → i < length out.new →
+        slice_index_or out.new i 0 ≡
+        word_at 4 stream.old.key stream.old.stream (stream.old.word_pos + i) }
 {
     'entries: for i in 0..out.len() {
         out[i] = stream.next_word();
     }
 }
 
-#[inline(always)]
 /// The next four words.
+#[inline(always)]
 fn next_four(stream: &mut ChaCha8Rng) -> [u32; 4]
     requires { stream.old.word_pos + 4 < 2 ^ 68 }
     ensures words { result ≡ words_from stream.old stream.old.word_pos }
@@ -176,8 +184,8 @@ fn next_four(stream: &mut ChaCha8Rng) -> [u32; 4]
     ]
 }
 
-#[inline(always)]
 /// Passes over twelve words.
+#[inline(always)]
 fn pass_twelve(stream: &mut ChaCha8Rng)
     requires { stream.old.word_pos + 12 < 2 ^ 68 }
     ensures { stream.new ≡ record stream.old { word_pos = stream.old.word_pos + 12 } }

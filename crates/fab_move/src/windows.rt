@@ -5,7 +5,7 @@ ghost use Rattle.std.specs.List.{range_with_len};
 ghost use Rattle.fab_move.specs.Propose.{near_positions, within};
 ghost use Rattle.fab_move.specs.Sides.{positions};
 
-use crate::runs::{Run, Window};
+use crate::pad_runs::{Run, Window};
 use fab_arch::{Grid, Site};
 
 /// The least and the greatest number from 1 to `n` at most `reach` from `here`. If there is none, the least is above the greatest.
@@ -24,7 +24,8 @@ fn run_near(here: u16, reach: u64, n: u16) -> Run
     requires here { here ≤ 1001 }
     requires bound { n ≤ 1000 }
     requires reach { reach < 2 ^ 63 }
-    ensures { range_with_len result.first result.count ≡ filter (within reach here) (range_with_len 1 n) }
+    ensures { range_with_len result.first result.count ≡
+        filter (within reach here) (range_with_len 1 n) }
 {
     let (low, high) = bounds_near(here, reach, n);
     Run {
@@ -41,14 +42,15 @@ fn are_near(reach: u64, a: u16, b: u16) -> bool
     u64::from(a) <= u64::from(b) + reach && u64::from(b) <= u64::from(a) + reach
 }
 
-#[tactic(auto, using(crate::proofs::Nearby::side_none))]
 /// The positions near a site along the side at coordinate `side`: the numbers from 1 to `n` at most `reach` from `along`, or none if
 /// `side` is farther than that from `across`.
+#[tactic(auto, using(crate::proofs::Nearby::side_none))]
 fn run_of_side(side: u16, across: u16, along: u16, reach: u64, n: u16) -> Run
     requires along { along ≤ 1001 }
     requires bound { n ≤ 1000 }
     requires reach { reach < 2 ^ 63 }
-    ensures { range_with_len result.first result.count ≡ filter (λ i. within reach across side && within reach along i) (range_with_len 1 n) }
+    ensures { range_with_len result.first result.count ≡ filter (λ i.
+        within reach across side && within reach along i) (range_with_len 1 n) }
 {
     if !are_near(reach, across, side) {
         return Run { first: 1, count: 0 };

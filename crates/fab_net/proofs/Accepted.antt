@@ -7,7 +7,7 @@ use Rattle.std.specs.Prelude.{count_by, filter}
 use Rattle.std.specs.List.{AllByRecursion}
 use Rattle.fab_text.specs.Lines.{TextLine}
 use Rattle.fab_text.specs.FirstFault.{or_else, fault_behind}
-use Rattle.fab_text.specs.declared.pieces.Span.{Span}
+use Rattle.fab_text.specs.declared.spans.Span.{Span}
 use Rattle.fab_arch.specs.declared.architecture.PinKind.{PinKind}
 use Rattle.fab_net.specs.declared.fault.NetFault.{NetFault}
 use Rattle.fab_net.specs.declared.fault.NetFault.TheVariants.{UnknownWord, NoName, PinlistWithoutBlock, MissingPinlist, PinCount, SubblockWithoutLogic, DuplicateBlock, NoDriver, TwoDrivers, TooLarge, NoMemory}

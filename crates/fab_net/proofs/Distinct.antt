@@ -10,8 +10,8 @@ use Rattle.std.proofs.lemmas.Bool.Decides.{nat_tests}
 use Rattle.std.specs.Prelude.{filter, count_by, is_some}
 use Rattle.std.specs.List.{All, list_any, range_with_len}
 use Rattle.std.specs.Str.{bytes_eq}
-use Rattle.fab_net.specs.declared.pieces.Pin.{Pin}
-use Rattle.fab_net.specs.declared.pieces.Terminal.{Terminal}
+use Rattle.fab_net.specs.declared.netlist_types.Pin.{Pin}
+use Rattle.fab_net.specs.declared.netlist_types.Terminal.{Terminal}
 use Rattle.fab_net.specs.Text.{PinOf, net_of_pin, is_driver, net_names, terminal_of, terminals_of, is_global_in}
 use Rattle.fab_net.specs.Names.{is_other, first_names, AllDistinct, number_of}
 use Rattle.fab_net.specs.ByNumber.{pin_of, net_entry, driver_entry, drives_its, span_at}

@@ -2,9 +2,9 @@
 use Rattle.std.proofs.Common.{◌≡◌, ℕ, ◌+◌, ◌-◌, ◌<◌, true, false, List, [], ◌∷◌, length, get_or, drop, refl, ap, ◌∙◌, arith}
 use Rattle.std.proofs.lemmas.List.{drop_more, length-drop}
 use Rattle.fab_text.specs.Lines.{TextLine}
-use Rattle.fab_text.specs.declared.pieces.Span.{Span}
+use Rattle.fab_text.specs.declared.spans.Span.{Span}
 use Rattle.fab_arch.specs.declared.architecture.PinKind.{PinKind}
-use Rattle.fab_net.specs.declared.pieces.BlockKind.{BlockKind}
+use Rattle.fab_net.specs.declared.netlist_types.BlockKind.{BlockKind}
 use Rattle.fab_net.specs.Text.{entries, entries_in, pins_at, is_open, drives_at, no_span}
 
 pub entries_len : (ws : List (List ℕ)) (ss : List Span) → length ws ≡ length ss → length (entries ws ss) ≡ length ws

@@ -14,8 +14,8 @@ use Rattle.std.specs.Str.{bytes_eq}
 use Rattle.fab_net.specs.Names.{number_of, with_name, is_other, first_names}
 use Rattle.fab_net.specs.Text.{PinOf, net_of_pin, net_names, terminals_of, terminal_of, is_on}
 use Rattle.fab_net.specs.ByNumber.{pin_of}
-use Rattle.fab_net.specs.declared.pieces.Pin.{Pin}
-use Rattle.fab_net.specs.declared.pieces.Terminal.{Terminal}
+use Rattle.fab_net.specs.declared.netlist_types.Pin.{Pin}
+use Rattle.fab_net.specs.declared.netlist_types.Terminal.{Terminal}
 
 first_is : (q n : ℕ) → ltb 0 (suc n) ≡ true
 first_is q n = grind (arith, nat_tests)

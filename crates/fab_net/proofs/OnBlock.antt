@@ -5,7 +5,7 @@ use Rattle.std.proofs.lemmas.Bool.Decides.{nat_tests}
 use Rattle.std.proofs.lemmas.List.Sums.{sum_by-cons}
 use Rattle.std.specs.Prelude.{filter, count_by, slice_index_or}
 use Rattle.std.specs.List.{list_any, range_with_len}
-use Rattle.fab_net.specs.declared.pieces.Terminal.{Terminal}
+use Rattle.fab_net.specs.declared.netlist_types.Terminal.{Terminal}
 use Rattle.fab_net.specs.BlockNets.{is_at, touches, net_id, nets_on, pins_at, pins_of, pins_on}
 use Rattle.fab_net.specs.Netlist.{Netlist, block_on, net_at, has_number, nets_of, pin_count}
 

@@ -7,7 +7,7 @@ use Rattle.std.proofs.lemmas.List.Sums.{sum_by-cons, sum_by_more, sum_by_more_le
 use Rattle.std.proofs.lemmas.Bool.{cases_Bool, or_parts, eqb-true, eqb-false, eq-eqb}
 use Rattle.std.specs.Prelude.{filter}
 use Rattle.std.specs.List.{All, list_any, range_with_len, sum_by}
-use Rattle.fab_net.specs.declared.pieces.Terminal.{Terminal}
+use Rattle.fab_net.specs.declared.netlist_types.Terminal.{Terminal}
 use Rattle.fab_net.specs.Rows.{row_of, rows_of}
 use Rattle.fab_net.specs.BlockNets.{is_at, touches, pins_at, pins_of, pins_on, pins_where, block_pins}
 use Rattle.fab_net.proofs.Stamps.{one_more, true_or, or_false, row_push, range_more}

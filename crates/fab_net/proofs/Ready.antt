@@ -11,9 +11,9 @@ use Rattle.fab_text.specs.Lines.{TextLine}
 use Rattle.fab_text.specs.FirstFault.{or_else}
 use Rattle.fab_text.specs.LineWords.{can_be_word, AreWords}
 use Rattle.fab_arch.specs.declared.architecture.PinKind.{PinKind}
-use Rattle.fab_net.specs.declared.pieces.Head.{Head}
-use Rattle.fab_net.specs.declared.pieces.Head.TheVariants as head
-use Rattle.fab_net.specs.declared.pieces.Terminal.{Terminal}
+use Rattle.fab_net.specs.declared.netlist_types.Head.{Head}
+use Rattle.fab_net.specs.declared.netlist_types.Head.TheVariants as head
+use Rattle.fab_net.specs.declared.netlist_types.Terminal.{Terminal}
 use Rattle.fab_net.specs.declared.fault.NetFault.{NetFault}
 use Rattle.fab_net.specs.declared.fault.NetFault.TheVariants.{DuplicateBlock, TooLarge}
 use Rattle.fab_net.specs.Names.{number_of}

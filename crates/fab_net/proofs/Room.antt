@@ -18,10 +18,10 @@ use Rattle.std.specs.Str.{bytes_eq}
 use Rattle.fab_net.specs.Names.{number_of, is_other, first_names}
 use Rattle.fab_net.specs.Text.{Entry, PinOf, net_of_pin, net_names, is_open, pins_at, entries, entries_in, pin_count}
 use Rattle.fab_net.specs.Said.{Said, connected, last_kind, kind_or_pad, pins_more, pins_fault}
-use Rattle.fab_text.specs.declared.pieces.Span.{Span}
+use Rattle.fab_text.specs.declared.spans.Span.{Span}
 use Rattle.fab_arch.specs.declared.architecture.PinKind.{PinKind}
-use Rattle.fab_net.specs.declared.pieces.BlockKind.{BlockKind}
-use Rattle.fab_net.specs.declared.pieces.BlockKind.TheVariants.{InputPad, OutputPad, Logic}
+use Rattle.fab_net.specs.declared.netlist_types.BlockKind.{BlockKind}
+use Rattle.fab_net.specs.declared.netlist_types.BlockKind.TheVariants.{InputPad, OutputPad, Logic}
 use Rattle.fab_net.proofs.Naming.{has_number, kept, same_name, first_names_push}
 
 -- a name is among the first appearances where it is among all

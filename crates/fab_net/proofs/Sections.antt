@@ -6,9 +6,9 @@ use Rattle.std.specs.Prelude.{filter}
 use Rattle.std.specs.Option.{option_map}
 use Rattle.fab_text.specs.Lines.{TextLine}
 use Rattle.fab_arch.specs.declared.architecture.PinKind.{PinKind}
-use Rattle.fab_net.specs.declared.pieces.BlockKind.{BlockKind}
-use Rattle.fab_net.specs.declared.pieces.Head.{Head}
-use Rattle.fab_net.specs.declared.pieces.Head.TheVariants as head
+use Rattle.fab_net.specs.declared.netlist_types.BlockKind.{BlockKind}
+use Rattle.fab_net.specs.declared.netlist_types.Head.{Head}
+use Rattle.fab_net.specs.declared.netlist_types.Head.TheVariants as head
 use Rattle.fab_net.specs.Text.{Section, head_of, ahead, ahead_by, sections, sections_by, is_pinlist, entries_in, pins_at, pins_of_lines, pins_from, kind_in, name_in, globals_in, global_names}
 use Rattle.fab_net.specs.Faults.{open_section, open_kind, is_logic_open}
 use Rattle.fab_net.specs.Said.{last_kind, kind_or_pad, is_logic_last}

@@ -7,8 +7,8 @@ use Rattle.std.proofs.lemmas.List.Sums.{sum_by_more}
 use Rattle.std.proofs.lemmas.Bool.{cases_Bool, eqb-true, eqb-false, eq-eqb, ne_eqb}
 use Rattle.std.specs.Prelude.{filter}
 use Rattle.std.specs.List.{All, list_any, range_with_len, sum_by}
-use Rattle.fab_net.specs.declared.pieces.NetId.{NetId}
-use Rattle.fab_net.specs.declared.pieces.Terminal.{Terminal}
+use Rattle.fab_net.specs.declared.netlist_types.NetId.{NetId}
+use Rattle.fab_net.specs.declared.netlist_types.Terminal.{Terminal}
 use Rattle.fab_net.specs.Rows.{of_row, item_of, row_of, rows_of}
 use Rattle.fab_net.specs.BlockNets.{is_at, net_id, net_where, touches, nets_on, block_nets}
 

@@ -9,9 +9,9 @@ use Rattle.std.specs.List.{All}
 use Rattle.fab_text.specs.Lines.{TextLine}
 use Rattle.fab_text.specs.FirstFault.{or_else, unless}
 use Rattle.fab_arch.specs.declared.architecture.PinKind.{PinKind}
-use Rattle.fab_net.specs.declared.pieces.BlockKind.{BlockKind}
-use Rattle.fab_net.specs.declared.pieces.Head.{Head}
-use Rattle.fab_net.specs.declared.pieces.Head.TheVariants as head
+use Rattle.fab_net.specs.declared.netlist_types.BlockKind.{BlockKind}
+use Rattle.fab_net.specs.declared.netlist_types.Head.{Head}
+use Rattle.fab_net.specs.declared.netlist_types.Head.TheVariants as head
 use Rattle.fab_net.specs.declared.fault.NetFault.{NetFault}
 use Rattle.fab_net.specs.Text.{Entry, Section, PinOf, head_of, sections, is_pinlist, is_open, drives_at, entries_in, pins_at, pins_of_lines, pins_from, kind_in, name_in, globals_by, global_names}
 use Rattle.fab_net.specs.Faults.{open_section, without_pinlist, awaiting, fault_by, fault_of}

@@ -1,9 +1,10 @@
--- The nets of blocks, and how many pins of a block are on each.
+-- The nets of blocks, and how many pins of a block are on each (our own).
 use Rattle.std.specs.Prelude.{ℕ, ◌==◌, Bool, false, not, ◌&&◌, List, [], ◌∷◌, if◌then◌else◌, map, filter, count_by, length, slice_index_or}
 use Rattle.std.specs.List.{list_any, range_with_len}
-use Rattle.fab_net.specs.declared.pieces.NetId.{NetId}
-use Rattle.fab_net.specs.declared.pieces.Terminal.{Terminal}
+use Rattle.fab_net.specs.declared.netlist_types.NetId.{NetId}
+use Rattle.fab_net.specs.declared.netlist_types.Terminal.{Terminal}
 
+-- the terminal is on block b
 abbrev pub is_at : ℕ → Terminal → Bool
 is_at b t = t.block.0 == b
 
@@ -11,6 +12,7 @@ is_at b t = t.block.0 == b
 abbrev pub touches : List (List Terminal) → List Bool → ℕ → ℕ → Bool
 touches terminals globals b n = not (slice_index_or globals n false) && list_any (is_at b) (slice_index_or terminals n [])
 
+-- net n
 abbrev pub net_id : ℕ → NetId
 net_id n = record { 0 = n }
 
@@ -18,6 +20,7 @@ net_id n = record { 0 = n }
 abbrev pub nets_on : List (List Terminal) → List Bool → ℕ → List NetId
 nets_on terminals globals b = map net_id (filter (touches terminals globals b) (range_with_len 0 (length terminals)))
 
+-- the nets of each block, block by block
 abbrev pub block_nets : ℕ → List (List Terminal) → List Bool → List (List NetId)
 block_nets blocks terminals globals = map (nets_on terminals globals) (range_with_len 0 blocks)
 
@@ -37,6 +40,7 @@ pins_of terminals b n = pins_at b (slice_index_or terminals n [])
 abbrev pub pins_on : List (List Terminal) → List Bool → ℕ → List ℕ
 pins_on terminals globals b = map (pins_of terminals b) (filter (touches terminals globals b) (range_with_len 0 (length terminals)))
 
+-- how many pins each block has on each of its nets, block by block
 abbrev pub block_pins : ℕ → List (List Terminal) → List Bool → List (List ℕ)
 block_pins blocks terminals globals = map (pins_on terminals globals) (range_with_len 0 blocks)
 

@@ -2,10 +2,10 @@
 use Rattle.std.specs.Prelude.{ℕ, ◌≡◌, true, false, List, [], ◌∷◌, Some, None, length, refl, codes}
 use Rattle.std.proofs.Common.{ap, subst, arith, lit<, lit≤}
 use Rattle.fab_text.specs.Lines.{TextLine, lines, lines_from, trimmed, content, is_continued, without_backslash, words_of}
-use Rattle.fab_text.specs.declared.pieces.Span.{Span}
+use Rattle.fab_text.specs.declared.spans.Span.{Span}
 use Rattle.fab_arch.specs.declared.architecture.PinKind.{PinKind}
 use Rattle.fab_arch.specs.declared.architecture.PinKind.TheVariants.{Reads, Drives}
-use Rattle.fab_net.specs.declared.pieces.BlockKind.TheVariants.{InputPad, OutputPad, Logic}
+use Rattle.fab_net.specs.declared.netlist_types.BlockKind.TheVariants.{InputPad, OutputPad, Logic}
 use Rattle.fab_net.specs.declared.fault.NetFault.TheVariants.{PinCount, NoDriver, TwoDrivers, MissingPinlist, PinlistWithoutBlock, SubblockWithoutLogic}
 use Rattle.fab_net.specs.Netlist.{Netlist, terminal}
 use Rattle.fab_net.specs.Text.{head_of, sections, pins_in, global_names, netlist_of, IsNetlist}

@@ -1,14 +1,14 @@
--- The first fault of a netlist text.
+-- The first fault of a netlist text. Its order is our own.
 use Rattle.std.specs.Prelude.{ℕ, ◌-◌, ◌≡◌, ◌==◌, Bool, false, not, ◌&&◌, nat_lt, nat_le, List, [], ◌∷◌, ◌++◌, if◌then◌else◌, is_some, length, map, filter, count_by, Option, Some, None}
 use Rattle.std.specs.Str.{bytes_eq}
 use Rattle.fab_text.specs.Lines.{TextLine}
 use Rattle.fab_text.specs.FirstFault.{or_else, unless, fault_of_all}
-use Rattle.fab_text.specs.declared.pieces.Span.{Span}
+use Rattle.fab_text.specs.declared.spans.Span.{Span}
 use Rattle.fab_arch.specs.declared.architecture.PinKind.{PinKind}
-use Rattle.fab_net.specs.declared.pieces.BlockKind.{BlockKind}
-use Rattle.fab_net.specs.declared.pieces.BlockKind.TheVariants.{InputPad}
-use Rattle.fab_net.specs.declared.pieces.Head.{Head}
-use Rattle.fab_net.specs.declared.pieces.Head.TheVariants as head
+use Rattle.fab_net.specs.declared.netlist_types.BlockKind.{BlockKind}
+use Rattle.fab_net.specs.declared.netlist_types.BlockKind.TheVariants.{InputPad}
+use Rattle.fab_net.specs.declared.netlist_types.Head.{Head}
+use Rattle.fab_net.specs.declared.netlist_types.Head.TheVariants as head
 use Rattle.fab_net.specs.declared.fault.NetFault.{NetFault}
 use Rattle.fab_net.specs.declared.fault.NetFault.TheVariants.{UnknownWord, NoName, PinlistWithoutBlock, MissingPinlist, PinCount, SubblockWithoutLogic, DuplicateBlock, NoDriver, TwoDrivers, TooLarge, NoMemory}
 use Rattle.fab_net.specs.Names.{number_of}
@@ -21,6 +21,7 @@ open_section [] = None
 open_section (s ∷ []) = Some s
 open_section (s ∷ t ∷ ts) = open_section (t ∷ ts)
 
+-- where the name of a block stands that has no pinlist
 abbrev pub without_pinlist : Option Section → Option Span
 without_pinlist None = None
 without_pinlist (Some s) = if length (filter is_pinlist s.body) == 0 then Some (span_of_name s.opening) else None
@@ -29,6 +30,7 @@ without_pinlist (Some s) = if length (filter is_pinlist s.body) == 0 then Some (
 abbrev pub awaiting : List TextLine → Option Span
 awaiting before = without_pinlist (open_section (sections before))
 
+-- the fault of a block without a pinlist
 abbrev pub missing_fault : Option Span → Option NetFault
 missing_fault None = None
 missing_fault (Some span) = Some (MissingPinlist span)
@@ -54,12 +56,14 @@ pins_added arch before l = pins_at arch (open_kind (open_section (sections befor
 abbrev pub are_few : List PinOf → Bool
 are_few pins = nat_le (length pins) 1048576 && nat_le (length (net_names pins)) 65535
 
+-- the first fault of a pinlist
 abbrev pub pinlist_fault : List PinKind → List TextLine → TextLine → Option NetFault
 pinlist_fault arch before l =
     or_else (unless (is_some (awaiting before)) (PinlistWithoutBlock l.number))
     (or_else (unless (length (entries_in l) == pin_count arch (open_kind (open_section (sections before)))) (PinCount l.number))
     (unless (are_few (pins_in arch before ++ pins_added arch before l)) (TooLarge l.number)))
 
+-- the open block is a logic block
 abbrev pub is_logic_open : Option Section → Bool
 is_logic_open None = false
 is_logic_open (Some s) = is_logic s.kind

@@ -1,3 +1,4 @@
+-- The definitions of fab_net, by file.
 pub mod Names
 pub mod Netlist
 pub mod Text

@@ -3,7 +3,7 @@ use Rattle.std.specs.Prelude.{ℕ, ◌≡◌, Bool, false, not, List, [], ◌∷
 use Rattle.std.specs.List.{list_any}
 use Rattle.std.specs.Str.{bytes_eq}
 
--- the number of a name among names, from 0
+-- the first index of a name among names, from 0; none if it is absent
 abbrev pub number_of : List ℕ → List (List ℕ) → Option ℕ
 number_of name names = position (λ other. bytes_eq name other) names
 
@@ -11,6 +11,7 @@ number_of name names = position (λ other. bytes_eq name other) names
 abbrev pub with_name : List ℕ → List (List ℕ) → List (List ℕ)
 with_name name names = if is_some (number_of name names) then names else names ++ name ∷ []
 
+-- the two names differ
 abbrev pub is_other : List ℕ → List ℕ → Bool
 is_other name other = not (bytes_eq name other)
 

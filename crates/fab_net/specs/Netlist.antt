@@ -1,12 +1,12 @@
--- A netlist, as contracts see a design (VPR manual): blocks by number, and nets by
--- number with a terminal for each pin on them.
+-- A netlist, as contracts see a design (VPR manual): blocks by number, and nets by number with a terminal for each pin on them. The limits
+-- are our own.
 use Rattle.std.specs.Prelude.{ℕ, ◌≡◌, ◌≤◌, ◌<◌, Bool, true, false, not, ◌==◌, List, [], ◌∷◌, map, filter, count_by, length, slice_index_or, codes, refl}
 use Rattle.std.proofs.Common.{zero, suc, arith, lit<, lit≤}
 use Rattle.std.specs.List.{range_with_len, list_any, sum_by}
 use Rattle.fab_text.specs.LineWords.{AreWords}
-use Rattle.fab_net.specs.declared.pieces.BlockKind.{BlockKind}
-use Rattle.fab_net.specs.declared.pieces.BlockKind.TheVariants.{InputPad, OutputPad, Logic}
-use Rattle.fab_net.specs.declared.pieces.Terminal.{Terminal}
+use Rattle.fab_net.specs.declared.netlist_types.BlockKind.{BlockKind}
+use Rattle.fab_net.specs.declared.netlist_types.BlockKind.TheVariants.{InputPad, OutputPad, Logic}
+use Rattle.fab_net.specs.declared.netlist_types.Terminal.{Terminal}
 use Rattle.fab_net.specs.Names.{AllDistinct}
 
 -- each block's kind and name, and each net's terminals and whether it is global
@@ -21,6 +21,7 @@ pub record Net : Type 0 where
   pub global : Bool
   pub blocks : List ℕ
 
+-- the block of a terminal
 abbrev pub block_on : Terminal → ℕ
 block_on t = t.block.0
 
@@ -32,6 +33,7 @@ net_at d n = record { global = slice_index_or d.globals n true; blocks = map blo
 abbrev pub counted : Netlist → List ℕ
 counted d = filter (λ n. not (net_at d n).global) (range_with_len 0 (length d.terminals))
 
+-- the number is among these
 abbrev pub has_number : ℕ → List ℕ → Bool
 has_number n xs = list_any (λ x. n == x) xs
 
@@ -43,6 +45,7 @@ nets_of d b = filter (λ n. has_number b (net_at d n).blocks) (counted d)
 abbrev pub pin_count : Netlist → ℕ → ℕ → ℕ
 pin_count d b n = count_by (λ c. c == b) (net_at d n).blocks
 
+-- a logic block, not a pad
 abbrev pub is_logic : BlockKind → Bool
 is_logic InputPad = false
 is_logic OutputPad = false
@@ -52,17 +55,20 @@ is_logic Logic = true
 abbrev pub is_logic_at : Netlist → ℕ → Bool
 is_logic_at d b = is_logic (slice_index_or d.kinds b Logic)
 
+-- how many logic blocks there are
 abbrev pub logic_count : Netlist → ℕ
 logic_count d = count_by is_logic d.kinds
 
+-- how many pads there are
 abbrev pub pad_count : Netlist → ℕ
 pad_count d = count_by (λ k. not (is_logic k)) d.kinds
 
+-- how many terminals all nets have together
 abbrev pub terminal_count : Netlist → ℕ
 terminal_count d = sum_by length d.terminals
 
--- a design is within the limits, each block has a name, and each net is global or not; names of blocks are distinct and can
--- be words of a line; each net has terminals, only on blocks of the design
+-- a design is within the limits, each block has a name, and `globals` has an entry for each net; names of blocks are distinct and can be
+-- words of a line; each net has terminals, only on blocks of the design
 pub record IsLawful (d : Netlist) : Type 0 where
   pub few_blocks : length d.kinds ≤ 65535
   pub few_nets : length d.terminals ≤ 65535
@@ -74,6 +80,7 @@ pub record IsLawful (d : Netlist) : Type 0 where
   pub some_terminal : (n : ℕ) → n < length d.terminals → 0 < length (net_at d n).blocks
   pub within : (n i : ℕ) → i < length (net_at d n).blocks → slice_index_or (net_at d n).blocks i 0 < length d.kinds
 
+-- pin p of block b
 abbrev pub terminal : ℕ → ℕ → Terminal
 terminal b p = record { block = record { 0 = b }; pin = p }
 

@@ -1,17 +1,17 @@
 -- What a netlist text means (VPR manual). After the lines ahead of the first block, its lines form sections: a
--- line that opens a block, and the lines after it up to the next such line.
+-- line that opens a block, and the lines after it up to the next such line. The limits are our own.
 use Rattle.std.specs.Prelude.{ℕ, ◌+◌, ◌≡◌, ◌≤◌, ◌<◌, Bool, true, false, ◌&&◌, List, [], ◌∷◌, ◌++◌, if◌then◌else◌, length, map, filter, count_by, drop, slice_get, slice_index_or, codes, Option, Some, None}
 use Rattle.std.specs.List.{list_any, AllByRecursion, flat_map}
 use Rattle.std.specs.Str.{bytes_eq}
 use Rattle.fab_text.specs.Lines.{TextLine}
-use Rattle.fab_text.specs.declared.pieces.Span.{Span}
+use Rattle.fab_text.specs.declared.spans.Span.{Span}
 use Rattle.fab_arch.specs.declared.architecture.PinKind.{PinKind}
 use Rattle.fab_arch.specs.declared.architecture.PinKind.TheVariants.{Reads, Drives}
-use Rattle.fab_net.specs.declared.pieces.BlockKind.{BlockKind}
-use Rattle.fab_net.specs.declared.pieces.BlockKind.TheVariants.{InputPad, OutputPad, Logic}
-use Rattle.fab_net.specs.declared.pieces.Terminal.{Terminal}
-use Rattle.fab_net.specs.declared.pieces.Head.{Head}
-use Rattle.fab_net.specs.declared.pieces.Head.TheVariants as head
+use Rattle.fab_net.specs.declared.netlist_types.BlockKind.{BlockKind}
+use Rattle.fab_net.specs.declared.netlist_types.BlockKind.TheVariants.{InputPad, OutputPad, Logic}
+use Rattle.fab_net.specs.declared.netlist_types.Terminal.{Terminal}
+use Rattle.fab_net.specs.declared.netlist_types.Head.{Head}
+use Rattle.fab_net.specs.declared.netlist_types.Head.TheVariants as head
 use Rattle.fab_net.specs.Names.{first_names, AllDistinct}
 use Rattle.fab_net.specs.Netlist.{Netlist}
 
@@ -27,6 +27,7 @@ head_word (Some w) =
     else if bytes_eq w (codes ".global") then head.Global
     else head.Unknown
 
+-- what a line is, by its first word
 unfoldable pub head_of : TextLine → Head
 head_of l = head_word (slice_get l.words 0)
 
@@ -35,6 +36,7 @@ pub record Entry : Type 0 where
   pub name : List ℕ
   pub span : Span
 
+-- words with their places
 abbrev pub entries : List (List ℕ) → List Span → List Entry
 entries [] spans = []
 entries (w ∷ ws) [] = []
@@ -52,6 +54,7 @@ no_span = record { start = 0; stop = 0 }
 abbrev pub name_at : TextLine → List ℕ
 name_at l = slice_index_or l.words 1 []
 
+-- the place of a line's second word
 abbrev pub span_of_name : TextLine → Span
 span_of_name l = slice_index_or l.spans 1 no_span
 
@@ -61,6 +64,7 @@ pub record Section : Type 0 where
   pub opening : TextLine
   pub body : List TextLine
 
+-- the lines before the next opening, by the first word of one more
 abbrev pub ahead_by : Head → TextLine → List TextLine → List TextLine
 ahead_by (head.Opens kind) l rest = []
 ahead_by head.Pinlist l rest = l ∷ rest
@@ -73,6 +77,7 @@ abbrev pub ahead : List TextLine → List TextLine
 ahead [] = []
 ahead (l ∷ ls) = ahead_by (head_of l) l (ahead ls)
 
+-- the sections, by the first word of one more line
 abbrev pub sections_by : Head → TextLine → List TextLine → List Section → List Section
 sections_by (head.Opens kind) l body later = record { kind = kind; opening = l; body = body } ∷ later
 sections_by head.Pinlist l body later = later
@@ -85,6 +90,7 @@ abbrev pub sections : List TextLine → List Section
 sections [] = []
 sections (l ∷ ls) = sections_by (head_of l) l (ahead ls) (sections ls)
 
+-- the first word is that of a pinlist
 abbrev pub is_pinlist_head : Head → Bool
 is_pinlist_head (head.Opens kind) = false
 is_pinlist_head head.Pinlist = true
@@ -92,9 +98,11 @@ is_pinlist_head head.Subblock = false
 is_pinlist_head head.Global = false
 is_pinlist_head head.Unknown = false
 
+-- the line is a pinlist
 abbrev pub is_pinlist : TextLine → Bool
 is_pinlist l = is_pinlist_head (head_of l)
 
+-- the names of a line with this first word, if it is one of global nets
 abbrev pub globals_by : Head → TextLine → List (List ℕ)
 globals_by (head.Opens kind) l = []
 globals_by head.Pinlist l = []
@@ -102,6 +110,7 @@ globals_by head.Subblock l = []
 globals_by head.Global l = drop 1 l.words
 globals_by head.Unknown l = []
 
+-- the names on a `.global` line
 abbrev pub globals_in : TextLine → List (List ℕ)
 globals_in l = globals_by (head_of l) l
 
@@ -122,6 +131,7 @@ pub record PinOf : Type 0 where
 abbrev pub is_open : List ℕ → Bool
 is_open name = bytes_eq name (codes "open")
 
+-- the pin drives its net
 abbrev pub is_drives : PinKind → Bool
 is_drives Reads = false
 is_drives Drives = true
@@ -140,6 +150,7 @@ pins_at arch kind block i (e ∷ es) =
     if is_open e.name then pins_at arch kind block (i + 1) es
     else record { block = block; pin = i; name = e.name; span = e.span; drives = drives_at arch kind i } ∷ pins_at arch kind block (i + 1) es
 
+-- the pins of a block's pinlists
 abbrev pub pins_of_lines : List PinKind → BlockKind → ℕ → List TextLine → List PinOf
 pins_of_lines arch kind block ls = flat_map (λ l. pins_at arch kind block 0 (entries_in l)) ls
 
@@ -152,6 +163,7 @@ pins_from arch block (s ∷ ss) = pins_of_lines arch s.kind block (filter is_pin
 abbrev pub pins_in : List PinKind → List TextLine → List PinOf
 pins_in arch ls = pins_from arch 0 (sections ls)
 
+-- the name of a pin's net
 abbrev pub net_of_pin : PinOf → List ℕ
 net_of_pin p = p.name
 
@@ -159,12 +171,15 @@ net_of_pin p = p.name
 abbrev pub net_names : List PinOf → List (List ℕ)
 net_names pins = first_names (map net_of_pin pins)
 
+-- the pin is on this net
 abbrev pub is_on : List ℕ → PinOf → Bool
 is_on name p = bytes_eq name p.name
 
+-- the pin is on this net and drives it
 abbrev pub is_driver : List ℕ → PinOf → Bool
 is_driver name p = bytes_eq name p.name && p.drives
 
+-- the terminal of a pin
 abbrev pub terminal_of : PinOf → Terminal
 terminal_of p = record { block = record { 0 = p.block }; pin = p.pin }
 
@@ -203,15 +218,19 @@ pub record IsSection (arch : List PinKind) (s : Section) : Type 0 where
   pub one : filter is_pinlist s.body ≡ pinlist ∷ []
   pub pins : length (entries_in pinlist) ≡ pin_count arch s.kind
 
+-- the kind of a section's block
 abbrev pub kind_in : Section → BlockKind
 kind_in s = s.kind
 
+-- the name of a section's block
 abbrev pub name_in : Section → List ℕ
 name_in s = name_at s.opening
 
+-- the net is among the global ones
 abbrev pub is_global_in : List (List ℕ) → List ℕ → Bool
 is_global_in globals name = list_any (bytes_eq name) globals
 
+-- exactly one pin drives the net
 abbrev pub HasOneDriver : List PinOf → List ℕ → Type 0
 HasOneDriver pins name = count_by (is_driver name) pins ≡ 1
 

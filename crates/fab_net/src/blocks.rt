@@ -5,7 +5,7 @@ ghost use Rattle.std.specs.List.{All, sum_by};
 ghost use Rattle.fab_net.specs.Rows.{row_of};
 ghost use Rattle.fab_net.specs.BlockNets.{block_nets, block_pins, net_where, pins_at, pins_where};
 
-use crate::pieces::{NetId, Terminal};
+use crate::netlist_types::{NetId, Terminal};
 use crate::rows::{Rows, gather};
 use std::alloc::{AllocError, Global};
 
@@ -23,8 +23,10 @@ fn push_net(
     requires within { All (λ e. e.0 < length stamps.old) entries.old.items }
     ensures stamped { OnOk result (All (λ s. s ≤ net + 1) stamps.new) }
     ensures within { OnOk result (All (λ e. e.0 < length stamps.old) entries.new.items) }
-    ensures few { OnOk result (length entries.new.items ≤ length entries.old.items + length row.now) }
-    ensures rows { OnOk result ((b : ℕ) → b < length stamps.old → row_of entries.new.items b ≡ row_of entries.old.items b ++ net_where net row.now b) }
+    ensures few { OnOk result
+        (length entries.new.items ≤ length entries.old.items + length row.now) }
+    ensures rows { OnOk result ((b : ℕ) → b < length stamps.old →
+        row_of entries.new.items b ≡ row_of entries.old.items b ++ net_where net row.now b) }
 {
     for t in row {
         let block = t.block.0;
@@ -46,7 +48,8 @@ pub fn gather_nets(
     requires same { length terminals.now ≡ length globals.now }
     requires fits { length terminals.now < 2 ^ 32 - 1 }
     requires few { sum_by length terminals.now < 2 ^ 32 }
-    requires within { (n : ℕ) → n < length terminals.now → All (λ t. t.block.0 < blocks) (slice_index_or terminals.now n []) }
+    requires within { (n : ℕ) → n < length terminals.now →
+        All (λ t. t.block.0 < blocks) (slice_index_or terminals.now n []) }
     ensures { IfOk result (λ r. r ≡ block_nets blocks terminals.now globals.now) }
 {
     let mut entries = Vec::new(alloc);
@@ -78,12 +81,16 @@ fn push_counts(
     row: &[Terminal],
 ) -> Result<(), AllocError>
     requires blocks { All (λ t. t.block.0 < length counts.old) row.now }
-    requires counted { (b : ℕ) → b < length counts.old → slice_index_or counts.old b 0 ≡ pins_at b row.now }
+    requires counted { (b : ℕ) → b < length counts.old →
+        slice_index_or counts.old b 0 ≡ pins_at b row.now }
     requires within { All (λ e. e.0 < length counts.old) entries.old.items }
-    ensures none { OnOk result ((b : ℕ) → b < length counts.old → slice_index_or counts.new b 0 ≡ 0) }
+    ensures none { OnOk result ((b : ℕ) → b < length counts.old →
+        slice_index_or counts.new b 0 ≡ 0) }
     ensures within { OnOk result (All (λ e. e.0 < length counts.old) entries.new.items) }
-    ensures few { OnOk result (length entries.new.items ≤ length entries.old.items + length row.now) }
-    ensures rows { OnOk result ((b : ℕ) → b < length counts.old → row_of entries.new.items b ≡ row_of entries.old.items b ++ pins_where row.now b) }
+    ensures few { OnOk result
+        (length entries.new.items ≤ length entries.old.items + length row.now) }
+    ensures rows { OnOk result ((b : ℕ) → b < length counts.old →
+        row_of entries.new.items b ≡ row_of entries.old.items b ++ pins_where row.now b) }
 {
     for t in row {
         let block = t.block.0;
@@ -105,7 +112,8 @@ pub fn gather_pins(
 ) -> Result<Rows<u32>, AllocError>
     requires same { length terminals.now ≡ length globals.now }
     requires few { sum_by length terminals.now < 2 ^ 32 }
-    requires within { (n : ℕ) → n < length terminals.now → All (λ t. t.block.0 < blocks) (slice_index_or terminals.now n []) }
+    requires within { (n : ℕ) → n < length terminals.now →
+        All (λ t. t.block.0 < blocks) (slice_index_or terminals.now n []) }
     ensures { IfOk result (λ r. r ≡ block_pins blocks terminals.now globals.now) }
 {
     let mut entries = Vec::new(alloc);

@@ -1,7 +1,7 @@
 //! Designs: what a netlist text says, in flat arrays that placement reads without searching.
 
 use crate::names::BlockNames;
-use crate::pieces::{BlockId, BlockKind, NetId, Terminal};
+use crate::netlist_types::{BlockId, BlockKind, NetId, Terminal};
 use crate::rows::Rows;
 use std::marker::Model;
 
@@ -25,7 +25,10 @@ impl Model for Design {
 
     ghost view = { λ a. netlist a.kinds.items a.names a.terminals a.globals.items };
 
-    ghost invariant = { λ a. ((a.block_nets ≡ nets_by_block (length a.kinds.items) a.terminals a.globals.items) × (a.block_pins ≡ pins_by_block (length a.kinds.items) a.terminals a.globals.items)) × IsLawful (netlist a.kinds.items a.names a.terminals a.globals.items) };
+    ghost invariant = { λ a.
+        ((a.block_nets ≡ nets_by_block (length a.kinds.items) a.terminals a.globals.items) ×
+        (a.block_pins ≡ pins_by_block (length a.kinds.items) a.terminals a.globals.items)) ×
+        IsLawful (netlist a.kinds.items a.names a.terminals a.globals.items) };
 }
 
 impl Drop for Design {

@@ -5,12 +5,12 @@ pub mod blocks;
 pub mod design;
 pub mod fault;
 pub mod names;
-pub mod pieces;
+pub mod netlist_types;
 pub mod pins;
 pub mod reading;
 pub mod rows;
 
 pub use design::Design;
 pub use fault::NetFault;
-pub use pieces::{BlockId, BlockKind, NetId, Terminal};
+pub use netlist_types::{BlockId, BlockKind, NetId, Terminal};
 pub use reading::read_net;

@@ -51,6 +51,7 @@ impl<'a> Drop for NetNames<'a> {
 }
 
 impl<'a> NetNames<'a> {
+    /// No names.
     pub fn new(alloc: Global) -> Self
         ensures { result ≡ [] }
     {
@@ -59,12 +60,14 @@ impl<'a> NetNames<'a> {
         }
     }
 
+    /// How many names there are.
     pub fn len(&self) -> usize
         ensures { result ≡ length self.now }
     {
         self.names.len()
     }
 
+    /// The number of a name, counted from 0 in the order in which the names came; `None` if it is not there.
     pub fn number_of(&self, name: &[u8]) -> Option<usize>
         ensures { result ≡ number_of name.now self.now }
     {
@@ -73,14 +76,18 @@ impl<'a> NetNames<'a> {
 
     /// Whether a word of a pinlist, after the words `before` it, would add a name.
     fn is_new(&self, word: &[u8], before: &[&[u8]]) -> bool
-        ensures { result ≡ ((not (is_open word.now) && not (is_some (number_of word.now self.now))) && not (list_any (λ w. bytes_eq word.now w.now) before.now)) }
+        ensures { result ≡
+            ((not (is_open word.now) && not (is_some (number_of word.now self.now))) &&
+            not (list_any (λ w. bytes_eq word.now w.now) before.now)) }
     {
         !is_open(word) && self.number_of(word).is_none() && !stands_among(word, before)
     }
 
     /// How many names the words of a pinlist would add.
     pub(crate) fn count_new(&self, words: &[&[u8]]) -> usize
-        ensures { (names : List (List ℕ)) → self.now ≡ first_names names → length self.now + result ≡ length (first_names (names ++ connected (map (λ w. w.now) words.now))) }
+        ensures { (names : List (List ℕ)) → self.now ≡ first_names names →
+            length self.now + result ≡
+            length (first_names (names ++ connected (map (λ w. w.now) words.now))) }
     {
         let mut count = 0;
         for i in 0..words.len() {
@@ -122,6 +129,7 @@ impl Drop for BlockNames {
 }
 
 impl BlockNames {
+    /// No names.
     pub fn new(alloc: Global) -> Self
         ensures { result ≡ [] }
     {
@@ -130,12 +138,14 @@ impl BlockNames {
         }
     }
 
+    /// How many names there are.
     pub fn len(&self) -> usize
         ensures { result ≡ length self.now }
     {
         self.names.len()
     }
 
+    /// The number of a name, counted from 0 in the order in which the names came; `None` if it is not there.
     pub fn number_of(&self, name: &[u8]) -> Option<usize>
         ensures { result ≡ number_of name.now self.now }
     {

@@ -9,7 +9,7 @@ ghost use Rattle.fab_net.specs.Said.{connected};
 ghost use Rattle.fab_net.specs.Text.{PinOf, net_of_pin, net_names, terminals_of, is_driver, is_global_in};
 
 use crate::names::{NetNames, connected_count};
-use crate::pieces::{BlockId, Pin, Terminal};
+use crate::netlist_types::{BlockId, Pin, Terminal};
 use crate::rows::{Rows, gather, row_counts};
 use fab_text::Span;
 use std::alloc::{AllocError, Global};
@@ -55,7 +55,8 @@ fn span_at(net: u32, pins: &[Pin]) -> Span
 /// For each of the names, whether it is among `globals`.
 fn marks_of(alloc: Global, names: &NetNames, globals: &[&[u8]]) -> Result<Vec<bool>, AllocError>
     requires { AllDistinct names.now }
-    ensures { IfOk result (λ v. v.items ≡ map (is_global_in (map (λ w. w.now) globals.now)) names.now) }
+    ensures { IfOk result (λ v.
+        v.items ≡ map (is_global_in (map (λ w. w.now) globals.now)) names.now) }
 {
     let mut marks = vec![in alloc; false; names.len()]?;
     for name in globals {
@@ -94,7 +95,9 @@ impl<'a> Model for Pins<'a> {
 
     ghost view = { λ a. map (pin_of a.names) a.pins.items };
 
-    ghost invariant = { λ a. (a.names ≡ net_names (map (pin_of a.names) a.pins.items)) × All (λ p. p.net < length a.names) a.pins.items };
+    ghost invariant = { λ a.
+        (a.names ≡ net_names (map (pin_of a.names) a.pins.items)) ×
+        All (λ p. p.net < length a.names) a.pins.items };
 }
 
 impl<'a> Drop for Pins<'a> {
@@ -104,6 +107,7 @@ impl<'a> Drop for Pins<'a> {
 }
 
 impl<'a> Pins<'a> {
+    /// No pins.
     pub fn new(alloc: Global) -> Self
         ensures { result ≡ [] }
     {
@@ -113,12 +117,14 @@ impl<'a> Pins<'a> {
         }
     }
 
+    /// How many pins there are.
     pub fn len(&self) -> usize
         ensures { result ≡ length self.now }
     {
         self.pins.len()
     }
 
+    /// How many nets the pins name.
     pub fn net_count(&self) -> usize
         ensures { result ≡ length (net_names self.now) }
     {
@@ -130,7 +136,9 @@ impl<'a> Pins<'a> {
     pub(crate) fn have_room(&self, words: &[&[u8]]) -> bool
         requires words { length words.now ≤ 1024 }
         requires few { length self.now ≤ 1048576 }
-        ensures { (more : List PinOf) → map net_of_pin more ≡ connected (map (λ w. w.now) words.now) → result ≡ are_few (self.now ++ more) }
+        ensures { (more : List PinOf) →
+            map net_of_pin more ≡ connected (map (λ w. w.now) words.now) →
+            result ≡ are_few (self.now ++ more) }
     {
         let added = connected_count(words);
         if !are_few_terminals(self.len() + added) {
@@ -138,23 +146,6 @@ impl<'a> Pins<'a> {
         }
         let nets = self.net_count();
         are_few_nets(nets + added) || are_few_nets(nets + self.names.count_new(words))
-    }
-
-    /// Adds a pin at the end.
-    pub fn push(
-        self,
-        name: &'a [u8],
-        block: u32,
-        pin: u16,
-        drives: bool,
-        span: Span,
-    ) -> Result<Self, AllocError>
-        requires { length (net_names self) < 2 ^ 32 }
-        ensures { IfOk result (λ r. r ≡ self.entry ++ record { block = block; pin = pin; name = name.now; span = span; drives = drives } ∷ []) }
-    {
-        let mut pins = self;
-        pins.add(name, block, pin, drives, span)?;
-        Ok(pins)
     }
 
     /// Adds a pin at the end, in place. Room for it is taken first, so that if memory runs out, nothing changes.
@@ -167,7 +158,14 @@ impl<'a> Pins<'a> {
         span: Span,
     ) -> Result<(), AllocError>
         requires { length (net_names self.old) < 2 ^ 32 }
-        ensures pins { OnOk result (self.new ≡ self.old ++ record { block = block; pin = pin; name = name.now; span = span; drives = drives } ∷ []) }
+        ensures pins { OnOk result
+            (self.new ≡ self.old ++ record {
+              block = block;
+              pin = pin;
+              name = name.now;
+              span = span;
+              drives = drives;
+            } ∷ []) }
         ensures err { OnErr result (self.new ≡ self.old) }
     {
         self.pins.reserve(1)?;
@@ -186,7 +184,8 @@ impl<'a> Pins<'a> {
     /// The terminals of each net, by net number.
     pub fn terminals(&self, alloc: Global) -> Result<Rows<Terminal>, AllocError>
         requires { length self.now < 2 ^ 32 }
-        ensures found { IfOk result (λ rows. rows ≡ map (terminals_of self.now) (net_names self.now)) }
+        ensures found { IfOk result (λ rows.
+            rows ≡ map (terminals_of self.now) (net_names self.now)) }
         ensures few { IfOk result (λ rows. sum_by length rows ≤ length self.now) }
     {
         let entries = net_entries(alloc, &self.pins)?;
@@ -200,7 +199,8 @@ impl<'a> Pins<'a> {
     /// The number of drivers of each net, by net number.
     pub fn driver_counts(&self, alloc: Global) -> Result<Vec<u32>, AllocError>
         requires { length self.now < 2 ^ 32 }
-        ensures { IfOk result (λ v. v.items ≡ map (λ name. count_by (is_driver name) self.now) (net_names self.now)) }
+        ensures { IfOk result (λ v.
+            v.items ≡ map (λ name. count_by (is_driver name) self.now) (net_names self.now)) }
     {
         let entries = driver_entries(alloc, &self.pins)?;
         row_counts(alloc, self.names.len(), &entries)
@@ -216,7 +216,8 @@ impl<'a> Pins<'a> {
 
     /// For each net, whether its name is among `globals`.
     pub fn marks(&self, alloc: Global, globals: &[&[u8]]) -> Result<Vec<bool>, AllocError>
-        ensures { IfOk result (λ v. v.items ≡ map (is_global_in (map (λ w. w.now) globals.now)) (net_names self.now)) }
+        ensures { IfOk result (λ v.
+            v.items ≡ map (is_global_in (map (λ w. w.now) globals.now)) (net_names self.now)) }
     {
         marks_of(alloc, &self.names, globals)
     }

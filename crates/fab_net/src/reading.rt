@@ -1,4 +1,4 @@
-//! Reading a netlist text: its lines one by one, what they have said so far, and at the end the design.
+//! Reads a netlist text: its lines one by one, what the lines read so far mean, and at the end the design.
 
 ghost use Rattle.std.specs.Prelude.{◌≡◌, ℕ, ◌++◌, [], ◌≤◌, ◌<◌, ◌^◌, drop, length, map, slice_get, IfOk, IfErr, OnOk, OnErr, MatchResult, List, None, IsTrue, count_by};
 ghost use Rattle.std.specs.Option.{option_map};
@@ -16,7 +16,7 @@ use crate::blocks::{gather_nets, gather_pins};
 use crate::design::Design;
 use crate::fault::NetFault;
 use crate::names::{BlockNames, is_open};
-use crate::pieces::{BlockKind, Head};
+use crate::netlist_types::{BlockKind, Head};
 use crate::pins::Pins;
 use fab_arch::{Arch, PinKind};
 use fab_text::{Line, Lines, Span};
@@ -108,8 +108,12 @@ fn push_entries<'a>(
     requires placed { length words.now ≡ length spans.now }
     requires few { length words.now ≤ 1024 }
     requires few_pins { length pins.old ≤ 1048576 }
-    ensures added { OnOk result (pins.new ≡ pins.old ++ pins_at arch.now kind block 0 (entries (map (λ w. w.now) words.now) spans.now)) }
-    ensures few { length pins.new ≤ length (pins.old ++ pins_at arch.now kind block 0 (entries (map (λ w. w.now) words.now) spans.now)) }
+    ensures added { OnOk result
+        (pins.new ≡ pins.old ++
+        pins_at arch.now kind block 0 (entries (map (λ w. w.now) words.now) spans.now)) }
+    ensures few { length pins.new ≤
+        length (pins.old ++
+        pins_at arch.now kind block 0 (entries (map (λ w. w.now) words.now) spans.now)) }
 {
     for i in 0..words.len() {
         if !is_open(words[i]) {
@@ -159,8 +163,10 @@ fn add_pins<'a>(
     requires blocks { length kinds.now ≤ 65535 }
     requires few { length (entries_in (shown line.now)) ≤ 1024 }
     requires few_pins { length pins.old ≤ 1048576 }
-    ensures added { OnOk result (pins.new ≡ pins.old ++ pins_more arch.now kinds.now (shown line.now)) }
-    ensures few { length pins.new ≤ length (pins.old ++ pins_more arch.now kinds.now (shown line.now)) }
+    ensures added { OnOk result
+        (pins.new ≡ pins.old ++ pins_more arch.now kinds.now (shown line.now)) }
+    ensures few { length pins.new ≤
+        length (pins.old ++ pins_more arch.now kinds.now (shown line.now)) }
 {
     let block = kinds.len().saturating_sub(1) as u32;
     let kind = kind_or_pad(last_kind(kinds));
@@ -169,9 +175,10 @@ fn add_pins<'a>(
     push_entries(arch, kind, block, words, spans, pins)
 }
 
-/// Whether each net has exactly one driver; `counts` are the numbers of drivers.
+/// Refuses the first net that does not have exactly one driver; `counts` are the numbers of drivers.
 fn check_drivers(counts: &[u32], pins: &Pins) -> Result<(), NetFault>
-    requires counts { counts.now ≡ map (λ name. count_by (is_driver name) pins.now) (net_names pins.now) }
+    requires counts { counts.now ≡ map (λ name.
+        count_by (is_driver name) pins.now) (net_names pins.now) }
     requires few { length pins.now < 2 ^ 32 }
     ensures { driver_fault pins.now (net_names pins.now) ≡ err_of result }
 {
@@ -188,7 +195,7 @@ fn check_drivers(counts: &[u32], pins: &Pins) -> Result<(), NetFault>
     Ok(())
 }
 
-/// What the lines so far have said.
+/// What the lines read so far mean.
 struct Seen<'a> {
     kinds: Vec<BlockKind>,
     names: BlockNames,
@@ -203,9 +210,18 @@ impl<'a> Model for Seen<'a> {
 
     ghost Value = { Said };
 
-    ghost view = { λ a. record { kinds = a.kinds.items; names = a.names; awaiting = a.awaiting; pins = a.pins; globals = map (λ w. w.now) a.globals.items } };
+    ghost view = { λ a.
+        record {
+          kinds = a.kinds.items;
+          names = a.names;
+          awaiting = a.awaiting;
+          pins = a.pins;
+          globals = map (λ w. w.now) a.globals.items;
+        } };
 
-    ghost invariant = { λ a. (length a.kinds.items ≡ length a.names) × (length a.names ≤ 65535) × (length a.pins ≤ 1048576) };
+    ghost invariant = { λ a.
+        (length a.kinds.items ≡ length a.names) × (length a.names ≤ 65535) ×
+        (length a.pins ≤ 1048576) };
 }
 
 impl<'a> Drop for Seen<'a> {
@@ -278,7 +294,8 @@ impl<'a> Seen<'a> {
     /// Adds the pins of the last block.
     fn take_pins(&mut self, arch: &[PinKind], line: &Line<'a>) -> Result<(), AllocError>
         requires entries { length (entries_in (shown line.now)) ≤ 1024 }
-        requires few { IsTrue (are_few (self.old.pins ++ pins_more arch.now self.old.kinds (shown line.now))) }
+        requires few { IsTrue
+            (are_few (self.old.pins ++ pins_more arch.now self.old.kinds (shown line.now))) }
         ensures { OnOk result (self.new ≡ with_pins arch.now self.old (shown line.now)) }
     {
         add_pins(arch, &self.kinds, &mut self.pins, line)?;
@@ -381,8 +398,11 @@ impl<'a> Seen<'a> {
 fn read<'a>(alloc: Global, bytes: &'a [u8], arch: &Arch) -> Result<Seen<'a>, NetFault>
     ensures said { IfOk result (λ r. r ≡ said arch.now.pins.items (lines bytes.now)) }
     ensures ready { IfOk result (λ r. IsReady r) }
-    ensures clean { OnOk result (first_fault arch.now.pins.items (lines bytes.now) ≡ end_fault (said arch.now.pins.items (lines bytes.now))) }
-    ensures fault { IfErr result (λ e. FaultIs e (first_fault arch.now.pins.items (lines bytes.now))) }
+    ensures clean { OnOk result
+        (first_fault arch.now.pins.items (lines bytes.now) ≡
+        end_fault (said arch.now.pins.items (lines bytes.now))) }
+    ensures fault { IfErr result (λ e.
+        FaultIs e (first_fault arch.now.pins.items (lines bytes.now))) }
 {
     let mut left = Lines::new(alloc, bytes);
     let mut seen = Seen {
@@ -407,9 +427,11 @@ pub fn read_net(alloc: Global, bytes: &[u8], arch: &Arch) -> Result<Design, NetF
     // What is read is what the lines mean.
     ensures found { IfOk result (λ d. IsNetlist arch.now.pins.items (lines bytes.now) d) }
     // What they mean is read, unless memory runs out.
-    ensures only { (d : Netlist) → IsNetlist arch.now.pins.items (lines bytes.now) d → MatchResult result (λ r. r ≡ d) (λ e. e ≡ NoMemory) }
+    ensures only { (d : Netlist) → IsNetlist arch.now.pins.items (lines bytes.now) d →
+        MatchResult result (λ r. r ≡ d) (λ e. e ≡ NoMemory) }
     // An error is the first fault, or out of memory.
-    ensures fault { IfErr result (λ e. FaultIs e (first_fault arch.now.pins.items (lines bytes.now))) }
+    ensures fault { IfErr result (λ e.
+        FaultIs e (first_fault arch.now.pins.items (lines bytes.now))) }
 {
     let seen = read(alloc, bytes, arch)?;
     seen.finish(alloc)

@@ -5,7 +5,7 @@ use Rattle.std.specs.List.{count_by, range_with_len}
 use Rattle.std.specs.Io.KnownBytes.{Appends}
 use Rattle.fab_arch.specs.declared.array.Site.{Site}
 use Rattle.fab_arch.specs.Grid.{GridShape}
-use Rattle.fab_net.specs.declared.pieces.BlockId.{BlockId}
+use Rattle.fab_net.specs.declared.netlist_types.BlockId.{BlockId}
 use Rattle.fab_net.specs.Netlist.{Netlist}
 use Rattle.fab_site.specs.Free.{is_free}
 use Rattle.fab_site.specs.Pins.{either_site, given_at}

@@ -11,7 +11,7 @@ use Rattle.fab_run.specs.RunChecks.{place_failed_with}
 use Rattle.fab_run.specs.Setting.{Texts}
 use Rattle.fab_run.specs.declared.fault.RunFault.{RunFault}
 use Rattle.fab_run.specs.declared.fault.RunFault.TheVariants.{Place, Report, NoMemory}
-use Rattle.fab_run.specs.declared.ended.Ended.{Ended}
+use Rattle.fab_run.specs.declared.run_answer.Ended.{Ended}
 use Rattle.fab_run.specs.declared.inputs.CountedOutcome.{CountedOutcome}
 use Rattle.fab_run.specs.declared.inputs.Outcome.{Outcome}
 

@@ -23,7 +23,7 @@ use Rattle.fab_run.specs.Stages.{AreMade, IsNew}
 use Rattle.fab_run.specs.declared.fault.RunFault.{RunFault}
 use Rattle.fab_run.specs.declared.fault.RunFault.TheVariants.{Place, Report, NoMemory}
 use Rattle.fab_run.specs.Counted.{Answers, TellsMoves}
-use Rattle.fab_run.specs.declared.ended.Ended.{Ended}
+use Rattle.fab_run.specs.declared.run_answer.Ended.{Ended}
 use Rattle.fab_run.proofs.Telling.{appends_none, appends_two, same_run, take_more, take_whole}
 
 -- a beginning of a text is one of the text and what follows it; where it is not all of the one, it is not all of both

@@ -79,6 +79,7 @@ pub record GoesOnFrom (t : Texts) (seed : ℕ) (q : Point) (l : Later) : Type 0 
   pub point : IsTextOfPoint t seed q l.point
   pub called : IsCalled (AskToGoOn l.texts l.point l.batch l.workers l.stop) l.texts l.call
 
+-- the later call goes on from where a call ended
 abbrev pub GoesOn : Texts → ℕ → Ending → Later → Type 0
 GoesOn t seed Finished l = ⊥
 GoesOn t seed (Stopped q) l = GoesOnFrom t seed q l
@@ -112,6 +113,7 @@ joined c (l ∷ ls) = then c (joined l.call ls)
 abbrev pub with_names : Texts → Texts → Texts
 with_names t u = record t { net_label = u.net_label; arch_label = u.arch_label }
 
+-- the texts under the names of the last call
 abbrev pub last_names : Texts → List Later → Texts
 last_names t [] = t
 last_names t (l ∷ ls) = last_names (with_names t l.texts) ls

@@ -58,14 +58,14 @@ IsPlaceFault place d io_rat e =
     (size_fault (place_size_of (lines place)) ≡ Some e)
     ⊎ ((g : GridShape) × (g.io_rat ≡ io_rat) × (place_size_of (lines place) ≡ Some (g.nx, g.ny)) × FitsOn d g × (first_place_fault d g (lines place) ≡ Some e))
 
--- the first fault of an architecture text, or of the netlist that follows it
+-- the first fault of an architecture text, or of the netlist that follows it, or a lack of memory
 abbrev pub IsDesignFault : List ℕ → List ℕ → RunFault → Type 0
 IsDesignFault arch net (Arch e) = first_arch_fault (lines arch) ≡ Some e
 IsDesignFault arch net (Net e) = (io_rat : ℕ) × (pins : List PinKind) × IsArch (lines arch) io_rat pins × (first_net_fault pins (lines net) ≡ Some e)
 IsDesignFault arch net NoMemory = Unit {0}
 IsDesignFault arch net e = ⊥
 
--- the first check that fails; a report that cannot be written is told only if the texts pass, and memory may run out for any texts
+-- the first check that fails; a report that cannot be written is returned only if the texts pass, and memory may run out for any texts
 abbrev pub FaultOf : List ℕ → List ℕ → List ℕ → RunFault → Type 0
 FaultOf arch net place (Arch e) = IsDesignFault arch net (Arch e)
 FaultOf arch net place (Net e) = IsDesignFault arch net (Net e)
@@ -99,7 +99,8 @@ IsTextFault (Point PointWrite) = ⊥
 IsTextFault Report = ⊥
 IsTextFault e = Unit {0}
 
--- how often the writer of the report has failed, after a check or a run that ended with this fault: once more only if the fault says so
+-- how often the writer of the report has failed, after a check or a run that ended with this fault: once more only if the fault is that
+-- writer's
 abbrev pub report_failed_with : RunFault → ℕ → ℕ
 report_failed_with Report n = grown n
 report_failed_with e n = n

@@ -2,7 +2,7 @@
 use Rattle.std.specs.Prelude.{ℕ, ◌≡◌, Bool, if◌then◌else◌, List, Some, None, length}
 use Rattle.fab_commit.specs.Run.Noted.{noted}
 use Rattle.fab_run.specs.Ends.{Answer}
-use Rattle.fab_run.specs.declared.ended.Ended.{Ended}
+use Rattle.fab_run.specs.declared.run_answer.Ended.{Ended}
 use Rattle.fab_run.specs.declared.inputs.CountedOutcome.{CountedOutcome}
 
 -- the answer of a run that only counts, with these numbers of accepted moves

@@ -62,6 +62,7 @@ pub record Answer : Type 0 where
   pub accepted : List ℕ
   pub costs : List ℕ
 
+-- what a run that keeps numbers answers
 abbrev pub answer_of : Outcome → Answer
 answer_of o = record { ending = o.ending; placement = o.placement; accepted = o.accepted.items; costs = o.costs.items }
 

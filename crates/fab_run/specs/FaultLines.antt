@@ -2,7 +2,7 @@
 -- block, a field or a name. A lack of memory, and a writer that failed, are told in words.
 use Rattle.std.specs.Prelude.{ℕ, ◌≡◌, nat_le, List, [], ◌++◌, Option, Some, None, if◌then◌else◌, length, codes, refl}
 use Rattle.std.specs.Fmt.{digits}
-use Rattle.fab_text.specs.declared.pieces.Span.{Span}
+use Rattle.fab_text.specs.declared.spans.Span.{Span}
 use Rattle.fab_text.specs.Lines.{bytes_at}
 use Rattle.fab_arch.specs.declared.fault.ArchFault.TheVariants.{NoMemory as ArchNoMemory}
 use Rattle.fab_arch.specs.FaultTexts.{arch_fault_text, grid_fault_text}
@@ -49,6 +49,7 @@ named_place fault = None
 abbrev pub named_bytes : List ℕ → Span → List ℕ
 named_bytes net span = if nat_le span.stop (length net) then bytes_at net span else []
 
+-- the name that a fault's place in the netlist text has, if any
 abbrev pub name_text : Option Span → List ℕ → List ℕ
 name_text None net = []
 name_text (Some span) net = codes " name " ++ named_bytes net span

@@ -1,3 +1,4 @@
+-- The definitions of fab_run, by file.
 pub mod CheckReport
 pub mod RunFaults
 pub mod FaultLines

@@ -3,7 +3,7 @@
 use Rattle.std.specs.Prelude.{ℕ, ◌≡◌, if◌then◌else◌, ◌==◌, List, [], ◌∷◌, false, Some, None, codes, refl}
 use Rattle.std.specs.Fmt.{digits}
 use Rattle.fab_arch.specs.Grid.{shape}
-use Rattle.fab_net.specs.declared.pieces.BlockKind.TheVariants.{Logic}
+use Rattle.fab_net.specs.declared.netlist_types.BlockKind.TheVariants.{Logic}
 use Rattle.fab_net.specs.Netlist.{Netlist, terminal}
 use Rattle.fab_site.specs.Placement.{site}
 use Rattle.fab_cost.specs.Cost.{box_on, clip, cost_of, cross_of, half_perimeter, net_box, net_cost}

@@ -1,5 +1,6 @@
--- What a run answers and writes (our own): a piece of annealing its design one move at a time. Snapshots do not occur here; batch and
--- workers occur only where their limits are checked, and the batch where the moves that are judged again are counted.
+-- What a run answers and writes (our own): a piece of annealing its design one move at a time. The older placements on which workers judge
+-- do not occur here; batch and workers occur only where their limits are checked, and the batch where the moves that are judged again are
+-- counted.
 use Rattle.std.specs.Prelude.{ℕ, ◌≡◌, ◌⊎◌, Bool, true, List, [], Option}
 use Rattle.std.specs.Io.KnownBytes.{Appends}
 use Rattle.fab_text.specs.Lines.{lines}
@@ -96,7 +97,7 @@ IsPlaceFault t d g sites ending old new failed_old failed_new e =
 abbrev pub IsReportBegun : (Piece → Type 0) → Option (List ℕ) → Option (List ℕ) → Type 0
 IsReportBegun Asked old new = (p : Piece) × Asked p × IsReportOf p old new
 
--- what was written is a beginning of it, but not all of it
+-- what was written is a beginning of the report of such a piece, but not all of it
 abbrev pub IsReportCut : (Piece → Type 0) → Option (List ℕ) → Option (List ℕ) → Type 0
 IsReportCut Asked old new = (p : Piece) × Asked p × IsReportCutOf p old new
 

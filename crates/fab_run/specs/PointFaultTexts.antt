@@ -20,6 +20,7 @@ field_word Total = codes "total"
 field_word Fixed = codes "fixed"
 field_word Places = codes "places"
 
+-- the text of a checkpoint's fault
 abbrev pub point_fault_text : PointFault → List ℕ
 point_fault_text BadVersion = codes "C1 BadVersion"
 point_fault_text (BadField line) = codes "C2 BadField line " ++ decimal line

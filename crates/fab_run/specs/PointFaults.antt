@@ -57,10 +57,12 @@ abbrev pub MoreFault : PointFault → List TextLine → Type 0
 MoreFault e [] = ⊥
 MoreFault e (l ∷ ls) = e ≡ BadField l.number
 
+-- the fault after the last field's line: text goes on after the end, or the line is not the end
 abbrev pub LastFault : PointFault → ℕ → List TextLine → Bool → Type 0
 LastFault e n ls true = MoreFault e ls
 LastFault e n ls false = e ≡ BadField n
 
+-- the fault of what should be the line `end`
 abbrev pub EndFault : PointFault → List TextLine → Type 0
 EndFault e [] = e ≡ BadField 0
 EndFault e (l ∷ ls) = LastFault e l.number ls (is_end l)
@@ -81,9 +83,11 @@ fixed_fault v d before l = option_map (λ e. Block e) (name_fault v d (is_repeat
 abbrev pub seat_fault : Netlist → GridShape → List TextLine → TextLine → Option PointFault
 seat_fault d g before l = option_map (λ e. Block e) (block_fault d g before l)
 
+-- the array of three numbers
 abbrev pub grid_of : ℕ × ℕ × ℕ → GridShape
 grid_of a = shape a.0 a.1 a.2
 
+-- the plan of four values
 abbrev pub schedule_of : ℕ × ℕ × Cooling × ℕ → Plan
 schedule_of s = plan_of s.0 s.1 s.2 s.3
 
@@ -91,9 +95,11 @@ schedule_of s = plan_of s.0 s.1 s.2 s.3
 abbrev pub IsStageOf : Plan → ℕ × ℕ × ℕ → Type 0
 IsStageOf p x = ((t : ℕ) × MayStand p x.0 t) × (x.1 < p.moves) × (x.2 ≤ x.1)
 
+-- a range in thousandths from 1 to the array's longer side
 abbrev pub IsRangeOn : GridShape → ℕ → Type 0
 IsRangeOn g range = (1000 ≤ range) × (range ≤ 1000 * max g.nx g.ny)
 
+-- accepted moves in all: at least those of the stage, at most all that are made
 abbrev pub IsTotal : Plan → ℕ × ℕ × ℕ → ℕ → Type 0
 IsTotal p x total = (x.2 ≤ total) × (total ≤ x.0 * p.moves + x.1)
 

@@ -12,6 +12,7 @@ use Rattle.fab_file.specs.Place.{word_at, is_word}
 use Rattle.fab_run.specs.declared.point_words.Version.{Version}
 use Rattle.fab_run.specs.declared.point_words.Version.TheVariants.{One, Two}
 
+-- the version that the first line gives
 abbrev pub version_of : TextLine → Option Version
 version_of l = if is_word l 2 (codes "1") then Some One else (if is_word l 2 (codes "2") then Some Two else None)
 
@@ -19,6 +20,7 @@ version_of l = if is_word l 2 (codes "1") then Some One else (if is_word l 2 (co
 abbrev pub version_in : TextLine → Option Version
 version_in l = if length l.words == 3 && (is_word l 0 (codes "vplace") && is_word l 1 (codes "point")) then version_of l else None
 
+-- the number, if it was read
 abbrev pub whole : Result ℕ NumFault → Option ℕ
 whole (Ok n) = Some n
 whole (Err e) = None
@@ -31,6 +33,7 @@ number_at l i = whole (decimal_of (word_at l i) 0)
 abbrev pub number_in : List ℕ → TextLine → Option ℕ
 number_in name l = if length l.words == 2 && is_word l 0 name then number_at l 1 else None
 
+-- three numbers, if all are there
 abbrev pub three : Option ℕ → Option ℕ → Option ℕ → Option (ℕ × ℕ × ℕ)
 three None b c = None
 three (Some a) None c = None
@@ -44,6 +47,7 @@ array_in l =
     three (number_at l 1) (number_at l 3) (number_at l 5)
     else None
 
+-- cooling by a factor, if there is one
 abbrev pub factor : Option ℕ → Option Cooling
 factor None = None
 factor (Some f) = Some (Factor f)
@@ -53,6 +57,7 @@ abbrev pub cooling_in : Version → TextLine → Option Cooling
 cooling_in One l = factor (number_at l 3)
 cooling_in Two l = if is_word l 3 (codes "adaptive") then Some Adaptive else factor (number_at l 3)
 
+-- the four values of a schedule, if all are there
 abbrev pub schedule_from : Option ℕ → Option ℕ → Option Cooling → Option ℕ → Option (ℕ × ℕ × Cooling × ℕ)
 schedule_from None exit cooling moves = None
 schedule_from (Some init) None cooling moves = None

@@ -7,7 +7,7 @@ use Rattle.fab_arch.specs.declared.array.Site.{Site}
 use Rattle.fab_arch.specs.Grid.{AreLimits, GridShape, shape, Holds}
 use Rattle.fab_text.specs.Lines.{lines}
 use Rattle.fab_text.specs.Failures.{grown}
-use Rattle.fab_net.specs.declared.pieces.BlockKind.TheVariants.{InputPad, OutputPad, Logic}
+use Rattle.fab_net.specs.declared.netlist_types.BlockKind.TheVariants.{InputPad, OutputPad, Logic}
 use Rattle.fab_net.specs.Netlist.{Netlist, IsLawful, logic_count, pad_count}
 use Rattle.fab_site.specs.Placement.{fixed_at, site_of, site}
 use Rattle.fab_sched.specs.declared.schedules.Cooling.{Cooling}
@@ -25,22 +25,28 @@ use Rattle.fab_run.specs.PointMeaning.{StandsForPoint}
 abbrev pub field_text : List ℕ → ℕ → List ℕ
 field_text name n = name ++ codes " " ++ decimal n
 
+-- `array NX x NY io_rat R`
 abbrev pub array_text : GridShape → List ℕ
 array_text g = codes "array " ++ decimal g.nx ++ codes " x " ++ decimal g.ny ++ codes " io_rat " ++ decimal g.io_rat
 
+-- a factor in thousandths, or `adaptive`
 abbrev pub cooling_text : Cooling → List ℕ
 cooling_text (Factor f) = decimal f
 cooling_text Adaptive = codes "adaptive"
 
+-- `schedule INIT EXIT COOLING MOVES`
 abbrev pub schedule_text : Plan → List ℕ
 schedule_text p = codes "schedule " ++ decimal p.init ++ codes " " ++ decimal p.exit ++ codes " " ++ cooling_text p.cooling ++ codes " " ++ decimal p.moves
 
+-- `stage I done N accepted A`
 abbrev pub stage_text : Stage → List ℕ
 stage_text s = codes "stage " ++ decimal s.index ++ codes " done " ++ decimal s.done ++ codes " accepted " ++ decimal s.accepted
 
+-- the name of block b
 abbrev pub name_of : Netlist → ℕ → List ℕ
 name_of d b = slice_index_or d.names b []
 
+-- `NAME fixed`
 abbrev pub fixed_line : Netlist → ℕ → List ℕ
 fixed_line d b = name_of d b ++ codes " fixed"
 
@@ -48,9 +54,11 @@ fixed_line d b = name_of d b ++ codes " fixed"
 abbrev pub seat_text : List ℕ → Site → List ℕ
 seat_text name s = name ++ codes " " ++ decimal s.x ++ codes " " ++ decimal s.y ++ codes " " ++ decimal s.sub
 
+-- the line of block b with its site
 abbrev pub place_line : Netlist → List Site → ℕ → List ℕ
 place_line d sites b = seat_text (name_of d b) (site_of sites b)
 
+-- the numbers of all blocks
 abbrev pub blocks_of : Netlist → List ℕ
 blocks_of d = range_with_len 0 (length d.kinds)
 
@@ -70,6 +78,7 @@ stage_lines s total = stage_text s ∷ field_text (codes "temperature") s.t ∷ 
 abbrev pub fixed_lines : Netlist → List (Option Site) → List (List ℕ)
 fixed_lines d fixed = field_text (codes "fixed") (length (fixed_blocks d fixed)) ∷ map (fixed_line d) (fixed_blocks d fixed)
 
+-- how many places come, and a line for each block
 abbrev pub place_lines : Netlist → List Site → List (List ℕ)
 place_lines d sites = field_text (codes "places") (length d.kinds) ∷ map (place_line d sites) (blocks_of d)
 

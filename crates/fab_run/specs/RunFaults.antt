@@ -10,18 +10,22 @@ use Rattle.fab_run.specs.declared.point_fault.PointFault.TheVariants.{NoMemory a
 use Rattle.fab_run.specs.declared.fault.RunFault.{RunFault}
 use Rattle.fab_run.specs.declared.fault.RunFault.TheVariants.{Arch, Net, Pads, Place, Point, NoMemory}
 
+-- an architecture's fault as that of a run
 abbrev pub of_arch : ArchFault → RunFault
 of_arch ArchNoMemory = NoMemory
 of_arch fault = Arch fault
 
+-- a netlist's fault as that of a run
 abbrev pub of_net : NetFault → RunFault
 of_net NetNoMemory = NoMemory
 of_net fault = Net fault
 
+-- a placement text's fault as that of a run
 abbrev pub of_place : PlaceFault → RunFault
 of_place PlaceNoMemory = NoMemory
 of_place fault = Place fault
 
+-- a checkpoint's fault as that of a run
 abbrev pub of_point : PointFault → RunFault
 of_point PointNoMemory = NoMemory
 of_point fault = Point fault

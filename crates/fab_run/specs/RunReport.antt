@@ -4,14 +4,16 @@ use Rattle.std.specs.Prelude.{ℕ, ◌≡◌, if◌then◌else◌, ◌==◌, Lis
 use Rattle.std.specs.Fmt.{digits}
 use Rattle.fab_text.specs.Fixed.{fixed3, fixed4}
 use Rattle.fab_arch.specs.Grid.{GridShape, shape}
-use Rattle.fab_net.specs.declared.pieces.BlockKind.TheVariants.{InputPad, OutputPad, Logic}
+use Rattle.fab_net.specs.declared.netlist_types.BlockKind.TheVariants.{InputPad, OutputPad, Logic}
 use Rattle.fab_net.specs.Netlist.{Netlist, logic_count, pad_count}
 
+-- `blocks B logic L pads P`
 abbrev pub design_text : Netlist → List ℕ
 design_text d =
     codes "blocks " ++ decimal (length d.kinds) ++ codes " logic " ++ decimal (logic_count d) ++ codes " pads " ++ decimal (pad_count d)
     ++ codes " nets " ++ decimal (length d.terminals)
 
+-- ` array NX x NY`, which ends the report's first line
 abbrev pub array_text : GridShape → List ℕ
 array_text g = codes " array " ++ decimal g.nx ++ codes " x " ++ decimal g.ny ++ codes "\n"
 

@@ -24,6 +24,7 @@ pub record Texts : Type 0 where
   pub net_label : List ℕ
   pub arch_label : List ℕ
 
+-- the texts and labels of a call
 abbrev pub texts_of : Inputs → Texts
 texts_of i =
     record {
@@ -92,5 +93,6 @@ pub record IsSetting (t : Texts) (o : Options) (s : Setting) : Type 0 where
   pub batch : Within 4096 o.batch
   pub workers : Within 64 o.workers
 
+-- a setting of a design on an array, with given sites and a plan
 abbrev pub setting_of : Netlist → GridShape → List (Option Site) → List (Option Site) → Plan → Setting
 setting_of d g fixed begun plan = record { design = d; grid = g; fixed = fixed; begun = begun; plan = plan }

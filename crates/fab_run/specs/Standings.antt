@@ -13,12 +13,13 @@ use Rattle.fab_run.specs.Setting.{Texts}
 use Rattle.fab_run.specs.Shown.{AreMadeAll}
 use Rattle.fab_run.specs.Watched.{OnlyShowed, Source}
 
--- the schedule of a run is within its limits, its words are words, and it begins at a standing that fits it
+-- the schedule of a run is within its limits, its random words are below 2^32, and it begins at a standing that fits it
 pub record IsLawfulSource (s : Source) : Type 0 where
   pub plan : IsLawful s.run.plan
   pub words : AreWords s.run.problem.words
   pub standing : IsStanding s.run s.start
 
+-- where the standings of a piece come from
 abbrev pub source_of : Piece → Source
 source_of p = record { run = p.run; start = p.start }
 

@@ -24,7 +24,8 @@ use std::thread;
 use std::thread::Threads;
 use std::time::Duration;
 
-// Makes the moves of a run of texts by these words, where so many workers help. The answer is how many moves were made, and how many judged again.
+// Makes the moves of a run of texts by these words, where so many workers help. The answer is how many moves were made, and how many judged
+// again.
 fn run_with<V: Words + Send + Sync + Drop, G: Gate, R: AllocGlobal + Threads + Wait + Sync>(
     rt: &R,
     inputs: &Inputs,
@@ -88,7 +89,8 @@ impl<'a> Words for AskedWords<'a> {
     }
 }
 
-// A run's moves and how often its words were asked for. Fails if that is not once for each move and once more for each that is judged again.
+// A run's moves and how often its words were asked for. Fails if that is not once for each move and once more for each that is judged
+// again.
 fn asked<G: Gate, R: AllocGlobal + Threads + Wait + Sync>(
     rt: &R,
     inputs: &Inputs,
@@ -243,8 +245,8 @@ const CREWS: &[(u64, u64, u64, u64, u64)] = &[
     (99_999, 4, 2, 99_999, 1),
 ];
 
-// Three workers judge the first batch of the frozen stage, all at once; two of four where two help. The owner may have taken moves of it before
-// they come. It makes the stage before alone, and all stages if one worker helps or there are few moves.
+// Three workers judge the first batch of the frozen stage, all at once; two of four where two help. The owner may have taken moves of it
+// before they come. It makes the stage before alone, and all stages if one worker helps or there are few moves.
 #[test]
 fn a_crew_judges_cold_stages(rt: HostRuntime) -> Result<(), Fail> {
     let net = ring(rt.alloc(), 1000)?;
@@ -270,8 +272,8 @@ fn a_crew_judges_cold_stages(rt: HostRuntime) -> Result<(), Fail> {
     Ok(())
 }
 
-// Which way a stage goes, on both sides of each bound: whether it is frozen, its range, the blocks, how many workers help, the moves of a stage,
-// the batch, and whether a crew judges.
+// Which way a stage goes, on both sides of each bound: whether it is frozen, its range, the blocks, how many workers help, the moves of a
+// stage, the batch, and whether a crew judges.
 const WAYS: &[(bool, u64, usize, u64, u64, u64, bool)] = &[
     (false, 1000, 200, 3, 5000, 16, true),
     (false, 1000, 200, 3, 4999, 16, false),

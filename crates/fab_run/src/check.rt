@@ -23,9 +23,14 @@ use std::alloc::{AllocError, Global};
 
 /// The array that the header of a placement text gives, if it holds the design; else the fault of the header or of the size.
 fn read_array(alloc: Global, place: &[u8], design: &Design, io_rat: u16) -> Result<Grid, RunFault>
-    ensures found { IfOk result (λ g. (g.io_rat ≡ io_rat) × (place_size_of (lines place.now) ≡ Some (g.nx, g.ny)) × FitsOn design.now g) }
-    ensures only { (g : GridShape) → g.io_rat ≡ io_rat → place_size_of (lines place.now) ≡ Some (g.nx, g.ny) → FitsOn design.now g → MatchResult result (λ h. h ≡ g) (λ e. e ≡ NoMemory) }
-    ensures fault { (arch net : List ℕ) → MeanDesign arch net io_rat design.now → IfErr result (λ e. FaultOf arch net place.now e) }
+    ensures found { IfOk result (λ g.
+        (g.io_rat ≡ io_rat) × (place_size_of (lines place.now) ≡ Some (g.nx, g.ny)) ×
+        FitsOn design.now g) }
+    ensures only { (g : GridShape) → g.io_rat ≡ io_rat →
+        place_size_of (lines place.now) ≡ Some (g.nx, g.ny) → FitsOn design.now g →
+        MatchResult result (λ h. h ≡ g) (λ e. e ≡ NoMemory) }
+    ensures fault { (arch net : List ℕ) → MeanDesign arch net io_rat design.now →
+        IfErr result (λ e. FaultOf arch net place.now e) }
     ensures text { IfErr result IsTextFault }
 {
     let (nx, ny) = place_size(alloc, place)?;
@@ -42,7 +47,9 @@ fn read_checked(
     place: &[u8],
 ) -> Result<(Design, Grid, Placement), RunFault>
     ensures found { IfOk result (λ r. AreChecked arch.now net.now place.now r.0 r.1 r.2.sites) }
-    ensures only { (d : Netlist) (g : GridShape) (sites : List Site) → AreChecked arch.now net.now place.now d g sites → MatchResult result (λ r. (r.0 ≡ d) × (r.1 ≡ g) × (r.2.sites ≡ sites)) (λ e. e ≡ NoMemory) }
+    ensures only { (d : Netlist) (g : GridShape) (sites : List Site) →
+        AreChecked arch.now net.now place.now d g sites →
+        MatchResult result (λ r. (r.0 ≡ d) × (r.1 ≡ g) × (r.2.sites ≡ sites)) (λ e. e ≡ NoMemory) }
     ensures fault { IfErr result (λ e. FaultOf arch.now net.now place.now e) }
     ensures text { IfErr result IsTextFault }
 {
@@ -78,7 +85,8 @@ fn report_of(
 ) -> Result<(u64, Vec<u8>), AllocError>
     requires { length design.now.kinds ≡ length placement.now.sites }
     ensures value { IfOk result (λ r. r.0 ≡ cost_of design.now grid.now placement.now.sites) }
-    ensures text { IfOk result (λ r. r.1.items ≡ check_report (length design.now.kinds) grid.now r.0) }
+    ensures text { IfOk result (λ r.
+        r.1.items ≡ check_report (length design.now.kinds) grid.now r.0) }
     ensures below { IfOk result (λ r. r.0 < 2 ^ 43) }
 {
     let cost = Boxes::new(alloc, design, grid, placement)?.cost();
@@ -94,7 +102,9 @@ fn checked_report(
     place: &[u8],
 ) -> Result<(u64, Vec<u8>), RunFault>
     ensures found { IfOk result (λ r. IsReport arch.now net.now place.now r.0 r.1.items) }
-    ensures only { (d : Netlist) (g : GridShape) (sites : List Site) → AreChecked arch.now net.now place.now d g sites → MatchResult result (λ r. r.0 ≡ cost_of d g sites) (λ e. e ≡ NoMemory) }
+    ensures only { (d : Netlist) (g : GridShape) (sites : List Site) →
+        AreChecked arch.now net.now place.now d g sites →
+        MatchResult result (λ r. r.0 ≡ cost_of d g sites) (λ e. e ≡ NoMemory) }
     ensures fault { IfErr result (λ e. FaultOf arch.now net.now place.now e) }
     ensures text { IfErr result IsTextFault }
     ensures below { IfOk result (λ r. r.0 < 2 ^ 43) }
@@ -118,20 +128,28 @@ pub fn check_run<W: Sink>(
     report: &mut W,
 ) -> Result<u64, RunFault>
     // What is answered and written is what the texts mean.
-    ensures found { IfOk result (λ cost. IsReported arch.now net.now place.now cost (W.contents report.old) (W.contents report.new)) }
+    ensures found { IfOk result (λ cost.
+        IsReported arch.now net.now place.now cost (W.contents report.old)
+        (W.contents report.new)) }
     // Their meaning is answered, unless memory runs out or the writer fails.
-    ensures only { (d : Netlist) (g : GridShape) (sites : List Site) → AreChecked arch.now net.now place.now d g sites → MatchResult result (λ cost. cost ≡ cost_of d g sites) (λ e. (e ≡ NoMemory) ⊎ (e ≡ Report)) }
+    ensures only { (d : Netlist) (g : GridShape) (sites : List Site) →
+        AreChecked arch.now net.now place.now d g sites →
+        MatchResult result (λ cost. cost ≡ cost_of d g sites) (λ e. (e ≡ NoMemory) ⊎ (e ≡ Report)) }
     // An error is the first check that fails, a lack of memory, or the failure of the writer.
     ensures fault { IfErr result (λ e. FaultOf arch.now net.now place.now e) }
     // Only the report is written, so no other writer fails.
     ensures text { IfErr result (λ e. IsTextFault e ⊎ (e ≡ Report)) }
     ensures below { IfOk result (λ cost. cost < 2 ^ 43) }
     // A writer that fails has taken a beginning of the report. After any other fault nothing is written.
-    ensures silent { IfErr result (λ e. e ≢ Report → W.contents report.new ≡ W.contents report.old) }
-    ensures cut { IfErr result (λ e. e ≡ Report → IsCut arch.now net.now place.now (W.contents report.old) (W.contents report.new)) }
+    ensures silent { IfErr result (λ e.
+        e ≢ Report → W.contents report.new ≡ W.contents report.old) }
+    ensures cut { IfErr result (λ e.
+        e ≡ Report →
+        IsCut arch.now net.now place.now (W.contents report.old) (W.contents report.new)) }
     // The writer failed only if the answer says so.
     ensures sound { OnOk result (W.failed report.new ≡ W.failed report.old) }
-    ensures failed { IfErr result (λ e. W.failed report.new ≡ report_failed_with e (W.failed report.old)) }
+    ensures failed { IfErr result (λ e.
+        W.failed report.new ≡ report_failed_with e (W.failed report.old)) }
 {
     let (cost, lines) = checked_report(alloc, arch, net, place)?;
     write_whole(report, &lines)?;

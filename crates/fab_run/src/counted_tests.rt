@@ -1,5 +1,5 @@
-// Runs that count the moves that they accept. What they answer and write besides is what runs that keep the numbers do: the expected answers
-// for the design of seven blocks were made by an independent placer.
+// Runs that count the moves that they accept. What they answer and write besides is what runs that keep the numbers do: the expected
+// answers for the design of seven blocks were made by an independent placer.
 
 use crate::narrow::Narrow;
 use crate::piece_tests::SEVEN_AT_13;
@@ -13,8 +13,8 @@ use std::sync::Wait;
 use std::test::*;
 use std::thread::Threads;
 
-// What a run answered and wrote, in one text: the report, the place text, how many moves were accepted, the costs, how many moves were judged
-// again, and where it stopped, or the fault.
+// What a run answered and wrote, in one text: the report, the place text, how many moves were accepted, the costs, how many moves were
+// judged again, and where it stopped, or the fault.
 fn told_of(
     alloc: Global,
     inputs: &Inputs,

@@ -9,8 +9,8 @@ use std::test::*;
 use std::thread;
 use std::time::Duration;
 
-// Before a run's commit `at` the owner is held until so many judgements of the next batch have begun, and each of these until all of them have:
-// so as many threads as that judge at once, and the owner is none of them. In a batch of three, three workers get one move each.
+// Before a run's commit `at` the owner is held until so many judgements of the next batch have begun, and each of these until all of them
+// have: so as many threads as that judge at once, and the owner is none of them. In a batch of three, three workers get one move each.
 #[derive(Drop)]
 struct AtOnce<'a> {
     rt: &'a HostRuntime,

@@ -15,7 +15,8 @@ use std::alloc::Global;
 pub(crate) fn read_design(alloc: Global, arch: &[u8], net: &[u8]) -> Result<(u16, Design), RunFault>
     ensures found { IfOk result (λ r. MeanDesign arch.now net.now r.0 r.1) }
     ensures ratio { IfOk result (λ r. (1 ≤ r.0) × (r.0 ≤ 64)) }
-    ensures only { (io_rat : ℕ) (d : Netlist) → MeanDesign arch.now net.now io_rat d → MatchResult result (λ r. (r.0 ≡ io_rat) × (r.1 ≡ d)) (λ e. e ≡ NoMemory) }
+    ensures only { (io_rat : ℕ) (d : Netlist) → MeanDesign arch.now net.now io_rat d →
+        MatchResult result (λ r. (r.0 ≡ io_rat) × (r.1 ≡ d)) (λ e. e ≡ NoMemory) }
     ensures fault { IfErr result (IsDesignFault arch.now net.now) }
 {
     let arch = read_arch(alloc, arch)?;

@@ -184,7 +184,8 @@ fn named_bytes<'a>(net: &'a [u8], span: &Span) -> &'a [u8]
 
 /// Appends the name that the line of a fault shows, if it shows one.
 fn push_name(line: &mut Vec<u8>, fault: &RunFault, net: &[u8]) -> Result<(), AllocError>
-    ensures { OnOk result (line.new.items ≡ line.old.items ++ name_text (named_place fault.now) net.now) }
+    ensures { OnOk result
+        (line.new.items ≡ line.old.items ++ name_text (named_place fault.now) net.now) }
 {
     if let Some(span) = named_place(fault) {
         line.extend_from_slice(b" name ")?;

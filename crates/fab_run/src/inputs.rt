@@ -44,8 +44,8 @@ pub struct Options {
     pub moves: Moves,
     /// How many moves a turn commits at most, 1 to 4,096. The placement does not depend on it.
     pub batch: u64,
-    /// How many threads judge moves ahead at most, 1 to 64, in the stages that the calling thread does not make alone (docs/ARCHITECTURE.md,
-    /// "When the owner goes alone"). The placement does not depend on it.
+    /// How many threads judge moves ahead at most, 1 to 64, in the stages that the calling thread does not make alone
+    /// (docs/ARCHITECTURE.md, "When the owner goes alone"). The placement does not depend on it.
     pub workers: u64,
     /// After how many moves it stops, counted from the first move of the run. A stop that lies before the beginning of a piece has no
     /// effect on it, and neither has one after which no move is left.
@@ -77,8 +77,8 @@ pub struct Outcome {
     pub redone: u64,
 }
 
-/// What a run answers that counts the moves that it accepts, and keeps no number of them. So its memory does not grow with its moves. It does
-/// not count the moves that turns judge again.
+/// What a run answers that counts the moves that it accepts, and keeps no number of them. So its memory does not grow with its moves. It
+/// does not count the moves that turns judge again.
 #[derive(Drop)]
 pub struct CountedOutcome {
     pub ending: Ending,

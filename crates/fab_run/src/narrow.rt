@@ -1,4 +1,4 @@
-// A writer for tests.
+//! A writer for tests.
 
 use std::io;
 use std::io::Write;

@@ -17,10 +17,10 @@ ghost use Rattle.fab_run.specs.declared.fault.RunFault.TheVariants.{Place, Repor
 ghost use Rattle.fab_file.specs.declared.fault.PlaceFault.TheVariants.{Write};
 ghost use Rattle.fab_file.specs.Written.{IsCut, are_labels};
 
-use crate::ended::{Ended, ended_by};
 use crate::fault::RunFault;
 use crate::inputs::{Ending, Inputs};
 use crate::report::final_line;
+use crate::run_answer::{Ended, ended_by};
 use crate::stages::{Pace, anneal_all};
 use fab_arch::Grid;
 use fab_board::Gate;
@@ -72,7 +72,7 @@ fn ending_of<K: Keeping>(anneal: &Anneal<'_, StreamWords, K>) -> Result<Ending, 
 
 /// Writes what the report shows before the first move, and asks the writer of the place text whether it is ready. Returns the
 /// cost, as the only item of a list.
-fn tell_start<W: Sink, P: Sink>(
+fn write_head<W: Sink, P: Sink>(
     alloc: Global,
     cost: u64,
     head: &[u8],
@@ -82,11 +82,17 @@ fn tell_start<W: Sink, P: Sink>(
     ensures costs { IfOk result (λ v. v.items ≡ cost ∷ []) }
     ensures told { OnOk result (Appends (W.contents report.old) (W.contents report.new) head.now) }
     ensures cut { OnErr result (IsBegun (W.contents report.old) (W.contents report.new) head.now) }
-    ensures short { IfErr result (λ e. e ≡ Report → IsCut head.now (W.contents report.old) (W.contents report.new)) }
-    ensures unready { IfErr result (λ e. e ≡ Place Write → (P.may_be_unready ≡ true) × Appends (W.contents report.old) (W.contents report.new) head.now) }
+    ensures short { IfErr result (λ e.
+        e ≡ Report → IsCut head.now (W.contents report.old) (W.contents report.new)) }
+    ensures unready { IfErr result (λ e.
+        e ≡ Place Write → (P.may_be_unready ≡ true) ×
+        Appends (W.contents report.old) (W.contents report.new) head.now) }
     ensures place { P.contents place.new ≡ P.contents place.old }
-    ensures sound { OnOk result ((W.failed report.new ≡ W.failed report.old) × (P.failed place.new ≡ P.failed place.old)) }
-    ensures fault { IfErr result (IsDeviceFault (W.failed report.old) (W.failed report.new) (P.failed place.old) (P.failed place.new)) }
+    ensures sound { OnOk result ((W.failed report.new ≡ W.failed report.old) ×
+        (P.failed place.new ≡ P.failed place.old)) }
+    ensures fault { IfErr result
+        (IsDeviceFault (W.failed report.old) (W.failed report.new) (P.failed place.old)
+        (P.failed place.new)) }
 {
     let mut costs = Vec::new(alloc);
     costs.push(cost)?;
@@ -98,14 +104,21 @@ fn tell_start<W: Sink, P: Sink>(
 }
 
 /// Writes the last line of a report, if no move is left.
-fn tell_last<K: Keeping, W: Sink>(
+fn write_final_line<K: Keeping, W: Sink>(
     alloc: Global,
     anneal: &Anneal<'_, StreamWords, K>,
     report: &mut W,
 ) -> Result<(), RunFault>
-    ensures told { OnOk result (Appends (W.contents report.old) (W.contents report.new) (end_line (run_of stream_moves anneal.now) anneal.now.standing)) }
-    ensures cut { OnErr result (IsBegun (W.contents report.old) (W.contents report.new) (end_line (run_of stream_moves anneal.now) anneal.now.standing)) }
-    ensures short { IfErr result (λ e. e ≡ Report → IsCut (end_line (run_of stream_moves anneal.now) anneal.now.standing) (W.contents report.old) (W.contents report.new)) }
+    ensures told { OnOk result
+        (Appends (W.contents report.old) (W.contents report.new)
+        (end_line (run_of stream_moves anneal.now) anneal.now.standing)) }
+    ensures cut { OnErr result
+        (IsBegun (W.contents report.old) (W.contents report.new)
+        (end_line (run_of stream_moves anneal.now) anneal.now.standing)) }
+    ensures short { IfErr result (λ e.
+        e ≡ Report →
+        IsCut (end_line (run_of stream_moves anneal.now) anneal.now.standing)
+        (W.contents report.old) (W.contents report.new)) }
     ensures sound { OnOk result (W.failed report.new ≡ W.failed report.old) }
     ensures fault { IfErr result (IsReportFault (W.failed report.old) (W.failed report.new)) }
 {
@@ -118,33 +131,42 @@ fn tell_last<K: Keeping, W: Sink>(
 }
 
 /// Writes the last line of a report, if no move is left. Returns the answer of the run. What it asks memory for, it asks for before.
-fn tell_end<K: Keeping, W: Sink>(
+fn finish_report<K: Keeping, W: Sink>(
     alloc: Global,
     anneal: Anneal<'_, StreamWords, K>,
     costs: Vec<u64>,
     report: &mut W,
 ) -> Result<Ended, RunFault>
-    ensures ending { IfOk result (λ out. EndsAs (run_of stream_moves anneal.entry) anneal.entry.standing out.ending) }
+    ensures ending { IfOk result (λ out.
+        EndsAs (run_of stream_moves anneal.entry) anneal.entry.standing out.ending) }
     ensures array { IfOk result (λ out. out.placement.grid ≡ anneal.entry.grid) }
     ensures sites { IfOk result (λ out. out.placement.sites ≡ anneal.entry.standing.sites) }
-    ensures legal { IfOk result (λ out. IsLegal anneal.entry.design anneal.entry.grid anneal.entry.fixed out.placement.sites) }
+    ensures legal { IfOk result (λ out.
+        IsLegal anneal.entry.design anneal.entry.grid anneal.entry.fixed out.placement.sites) }
     ensures moves { IfOk result (TellsMoves K.numbers anneal.entry.accepted) }
     ensures costs { IfOk result (λ out. out.costs.items ≡ costs.items) }
     ensures redone { IfOk result (λ out. out.redone ≡ anneal.entry.redone) }
-    ensures told { OnOk result (Appends (W.contents report.old) (W.contents report.new) (end_line (run_of stream_moves anneal.entry) anneal.entry.standing)) }
-    ensures cut { OnErr result (IsBegun (W.contents report.old) (W.contents report.new) (end_line (run_of stream_moves anneal.entry) anneal.entry.standing)) }
-    ensures short { IfErr result (λ e. e ≡ Report → IsCut (end_line (run_of stream_moves anneal.entry) anneal.entry.standing) (W.contents report.old) (W.contents report.new)) }
+    ensures told { OnOk result
+        (Appends (W.contents report.old) (W.contents report.new)
+        (end_line (run_of stream_moves anneal.entry) anneal.entry.standing)) }
+    ensures cut { OnErr result
+        (IsBegun (W.contents report.old) (W.contents report.new)
+        (end_line (run_of stream_moves anneal.entry) anneal.entry.standing)) }
+    ensures short { IfErr result (λ e.
+        e ≡ Report →
+        IsCut (end_line (run_of stream_moves anneal.entry) anneal.entry.standing)
+        (W.contents report.old) (W.contents report.new)) }
     ensures sound { OnOk result (W.failed report.new ≡ W.failed report.old) }
     ensures fault { IfErr result (IsReportFault (W.failed report.old) (W.failed report.new)) }
 {
     let ending = ending_of(&anneal)?;
-    tell_last(alloc, &anneal, report)?;
+    write_final_line(alloc, &anneal, report)?;
     Ok(ended_by(anneal, ending, costs))
 }
 
 /// Makes the moves of a piece, and reports them. The gate is called around each judgement, but not one that is made
-/// again, and before each commit; one that does nothing need not be.
-fn anneal_told<K: Keeping, G: Gate, W: Sink, P: Sink, R: Threads + Wait + Sync>(
+/// again, and before each commit; a gate that does nothing may be left uncalled.
+fn anneal_reported<K: Keeping, G: Gate, W: Sink, P: Sink, R: Threads + Wait + Sync>(
     rt: &R,
     alloc: Global,
     mut anneal: Anneal<'_, StreamWords, K>,
@@ -159,21 +181,43 @@ fn anneal_told<K: Keeping, G: Gate, W: Sink, P: Sink, R: Threads + Wait + Sync>(
     requires fresh { IsNew anneal }
     requires moves { piece.now.pace.moves ≡ anneal.plan.moves }
     requires plan { IsLawful anneal.plan }
-    requires limits { (1 ≤ piece.now.pace.batch) × (piece.now.pace.batch ≤ 4096) × (1 ≤ piece.now.pace.workers) × (piece.now.pace.workers ≤ 64) }
-    ensures redone { IfOk result (λ out. K.again ≡ true → AreRedone (piece_of stream_moves anneal.entry piece.now.head.items piece.now.pace.stop) piece.now.pace.batch out.redone) }
-    ensures annealed { IfOk result (λ out. Answers K.numbers out (λ a. IsToldPiece (piece_of stream_moves anneal.entry piece.now.head.items piece.now.pace.stop) a (W.contents report.old) (W.contents report.new))) }
-    ensures cut { OnErr result (IsReportOf (piece_of stream_moves anneal.entry piece.now.head.items piece.now.pace.stop) (W.contents report.old) (W.contents report.new)) }
-    ensures short { IfErr result (λ e. e ≡ Report → IsReportCutOf (piece_of stream_moves anneal.entry piece.now.head.items piece.now.pace.stop) (W.contents report.old) (W.contents report.new)) }
-    ensures unready { IfErr result (λ e. e ≡ Place Write → (P.may_be_unready ≡ true) × Appends (W.contents report.old) (W.contents report.new) piece.now.head.items) }
+    requires limits { (1 ≤ piece.now.pace.batch) × (piece.now.pace.batch ≤ 4096) ×
+        (1 ≤ piece.now.pace.workers) × (piece.now.pace.workers ≤ 64) }
+    ensures redone { IfOk result (λ out.
+        K.again ≡ true →
+        AreRedone (piece_of stream_moves anneal.entry piece.now.head.items piece.now.pace.stop)
+        piece.now.pace.batch out.redone) }
+    ensures annealed { IfOk result (λ out.
+        Answers K.numbers out (λ a.
+        IsToldPiece (piece_of stream_moves anneal.entry piece.now.head.items
+        piece.now.pace.stop) a (W.contents report.old) (W.contents report.new))) }
+    ensures cut { OnErr result
+        (IsReportOf (piece_of stream_moves anneal.entry piece.now.head.items piece.now.pace.stop)
+        (W.contents report.old) (W.contents report.new)) }
+    ensures short { IfErr result (λ e.
+        e ≡ Report →
+        IsReportCutOf (piece_of stream_moves anneal.entry piece.now.head.items piece.now.pace.stop)
+        (W.contents report.old) (W.contents report.new)) }
+    ensures unready { IfErr result (λ e.
+        e ≡ Place Write → (P.may_be_unready ≡ true) ×
+        Appends (W.contents report.old) (W.contents report.new) piece.now.head.items) }
     ensures place { P.contents place.new ≡ P.contents place.old }
-    ensures sound { OnOk result ((W.failed report.new ≡ W.failed report.old) × (P.failed place.new ≡ P.failed place.old)) }
-    ensures fault { IfErr result (IsDeviceFault (W.failed report.old) (W.failed report.new) (P.failed place.old) (P.failed place.new)) }
+    ensures sound { OnOk result ((W.failed report.new ≡ W.failed report.old) ×
+        (P.failed place.new ≡ P.failed place.old)) }
+    ensures fault { IfErr result
+        (IsDeviceFault (W.failed report.old) (W.failed report.new) (P.failed place.old)
+        (P.failed place.new)) }
     ensures dial { shower.new.dial ≡ shower.old.dial }
-    ensures shown { OnOk result (AreShown (piece_of stream_moves anneal.entry piece.now.head.items piece.now.pace.stop) piece.now.pace.batch shower.old.shown shower.new.shown) }
-    ensures shown_cut { OnErr result (AreShownInPart (piece_of stream_moves anneal.entry piece.now.head.items piece.now.pace.stop) piece.now.pace.batch shower.old.shown shower.new.shown) }
+    ensures shown { OnOk result
+        (AreShown (piece_of stream_moves anneal.entry piece.now.head.items piece.now.pace.stop)
+        piece.now.pace.batch shower.old.shown shower.new.shown) }
+    ensures shown_cut { OnErr result
+        (AreShownInPart
+        (piece_of stream_moves anneal.entry piece.now.head.items piece.now.pace.stop)
+        piece.now.pace.batch shower.old.shown shower.new.shown) }
 {
     let pace = piece.pace;
-    let mut costs = tell_start(alloc, anneal.cost(), &piece.head, report, place)?;
+    let mut costs = write_head(alloc, anneal.cost(), &piece.head, report, place)?;
     anneal_all(
         rt,
         alloc,
@@ -185,11 +229,11 @@ fn anneal_told<K: Keeping, G: Gate, W: Sink, P: Sink, R: Threads + Wait + Sync>(
         report,
         &mut costs,
     )?;
-    tell_end(alloc, anneal, costs, report)
+    finish_report(alloc, anneal, costs, report)
 }
 
 /// Writes the place text of a run that is finished.
-fn tell_placement<P: Sink>(
+fn write_placement<P: Sink>(
     alloc: Global,
     inputs: &Inputs,
     piece: &Piece<'_, '_>,
@@ -197,10 +241,17 @@ fn tell_placement<P: Sink>(
     place: &mut P,
 ) -> Result<(), RunFault>
     requires labels { are_labels inputs.now.labels.net.now inputs.now.labels.arch.now ≡ true }
-    requires legal { IsLegal piece.now.design.now piece.now.grid.now [] outcome.now.placement.sites }
-    ensures whole { OnOk result (IsPlaceOut (texts_of inputs.now) piece.now.design.now piece.now.grid.now outcome.now.placement.sites outcome.now.ending (P.contents place.old) (P.contents place.new)) }
+    requires legal { IsLegal piece.now.design.now piece.now.grid.now []
+        outcome.now.placement.sites }
+    ensures whole { OnOk result
+        (IsPlaceOut (texts_of inputs.now) piece.now.design.now piece.now.grid.now
+        outcome.now.placement.sites outcome.now.ending (P.contents place.old)
+        (P.contents place.new)) }
     ensures sound { OnOk result (P.failed place.new ≡ P.failed place.old) }
-    ensures fault { IfErr result (IsPlaceFault (texts_of inputs.now) piece.now.design.now piece.now.grid.now outcome.now.placement.sites outcome.now.ending (P.contents place.old) (P.contents place.new) (P.failed place.old) (P.failed place.new)) }
+    ensures fault { IfErr result
+        (IsPlaceFault (texts_of inputs.now) piece.now.design.now piece.now.grid.now
+        outcome.now.placement.sites outcome.now.ending (P.contents place.old)
+        (P.contents place.new) (P.failed place.old) (P.failed place.new)) }
 {
     match &outcome.ending {
         Ending::Stopped(_) => Ok(()),
@@ -213,10 +264,10 @@ fn tell_placement<P: Sink>(
     }
 }
 
-/// Makes a piece. Writes the lines of its report as its stages end, and the place text once the report is whole, if the piece finishes
-/// the run. Before the first move, after the head of the report, the writer of the place text is asked whether it is ready.
-/// The gate is called around each judgement, but not one that is made again, and before each commit; one that does nothing need not be. The
-/// dial shows the run's progress, once for each turn that succeeds and made moves.
+/// Makes a piece. Writes the lines of its report as its stages end, and the place text once the report is whole, if the piece finishes the
+/// run. Before the first move, after the head of the report, the writer of the place text is asked whether it is ready. The gate is called
+/// around each judgement, but not one that is made again, and before each commit; a gate that does nothing may be left uncalled. The dial
+/// shows the run's progress, once for each turn that succeeds and made moves.
 pub(crate) fn run_piece<
     K: Keeping,
     G: Gate,
@@ -241,21 +292,53 @@ pub(crate) fn run_piece<
     requires labels { are_labels inputs.now.labels.net.now inputs.now.labels.arch.now ≡ true }
     requires moves { piece.now.pace.moves ≡ anneal.plan.moves }
     requires plan { IsLawful anneal.plan }
-    requires limits { (1 ≤ piece.now.pace.batch) × (piece.now.pace.batch ≤ 4096) × (1 ≤ piece.now.pace.workers) × (piece.now.pace.workers ≤ 64) }
-    ensures made { IfOk result (λ out. Answers K.numbers out (λ a. IsMade (texts_of inputs.now) (piece_of stream_moves anneal.entry piece.now.head.items piece.now.pace.stop) a (W.contents report.old) (W.contents report.new) (P.contents place.old) (P.contents place.new))) }
-    ensures redone { IfOk result (λ out. K.again ≡ true → AreRedone (piece_of stream_moves anneal.entry piece.now.head.items piece.now.pace.stop) piece.now.pace.batch out.redone) }
-    ensures cut { OnErr result (IsReportOf (piece_of stream_moves anneal.entry piece.now.head.items piece.now.pace.stop) (W.contents report.old) (W.contents report.new)) }
-    ensures report_cut { IfErr result (λ e. e ≡ Report → IsReportCutOf (piece_of stream_moves anneal.entry piece.now.head.items piece.now.pace.stop) (W.contents report.old) (W.contents report.new)) }
-    ensures unplaced { IfErr result (λ e. e ≢ Place Write → P.contents place.new ≡ P.contents place.old) }
-    ensures place_cut { IfErr result (λ e. e ≡ Place Write → IsUnreadyFor P.may_be_unready (piece_of stream_moves anneal.entry piece.now.head.items piece.now.pace.stop) (W.contents report.old) (W.contents report.new) (P.contents place.old) (P.contents place.new) ⊎ IsTextCut (texts_of inputs.now) (piece_of stream_moves anneal.entry piece.now.head.items piece.now.pace.stop) (W.contents report.old) (W.contents report.new) (P.contents place.old) (P.contents place.new)) }
-    ensures sound { OnOk result ((W.failed report.new ≡ W.failed report.old) × (P.failed place.new ≡ P.failed place.old)) }
-    ensures fault { IfErr result (IsDeviceFault (W.failed report.old) (W.failed report.new) (P.failed place.old) (P.failed place.new)) }
+    requires limits { (1 ≤ piece.now.pace.batch) × (piece.now.pace.batch ≤ 4096) ×
+        (1 ≤ piece.now.pace.workers) × (piece.now.pace.workers ≤ 64) }
+    ensures made { IfOk result (λ out.
+        Answers K.numbers out (λ a.
+        IsMade (texts_of inputs.now)
+        (piece_of stream_moves anneal.entry piece.now.head.items piece.now.pace.stop) a
+        (W.contents report.old) (W.contents report.new) (P.contents place.old)
+        (P.contents place.new))) }
+    ensures redone { IfOk result (λ out.
+        K.again ≡ true →
+        AreRedone (piece_of stream_moves anneal.entry piece.now.head.items piece.now.pace.stop)
+        piece.now.pace.batch out.redone) }
+    ensures cut { OnErr result
+        (IsReportOf (piece_of stream_moves anneal.entry piece.now.head.items piece.now.pace.stop)
+        (W.contents report.old) (W.contents report.new)) }
+    ensures report_cut { IfErr result (λ e.
+        e ≡ Report →
+        IsReportCutOf (piece_of stream_moves anneal.entry piece.now.head.items piece.now.pace.stop)
+        (W.contents report.old) (W.contents report.new)) }
+    ensures unplaced { IfErr result (λ e.
+        e ≢ Place Write → P.contents place.new ≡ P.contents place.old) }
+    ensures place_cut { IfErr result (λ e.
+        e ≡ Place Write →
+        IsUnreadyFor P.may_be_unready
+        (piece_of stream_moves anneal.entry piece.now.head.items piece.now.pace.stop)
+        (W.contents report.old) (W.contents report.new) (P.contents place.old)
+        (P.contents place.new) ⊎
+        IsTextCut (texts_of inputs.now)
+        (piece_of stream_moves anneal.entry piece.now.head.items piece.now.pace.stop)
+        (W.contents report.old) (W.contents report.new) (P.contents place.old)
+        (P.contents place.new)) }
+    ensures sound { OnOk result ((W.failed report.new ≡ W.failed report.old) ×
+        (P.failed place.new ≡ P.failed place.old)) }
+    ensures fault { IfErr result
+        (IsDeviceFault (W.failed report.old) (W.failed report.new) (P.failed place.old)
+        (P.failed place.new)) }
     ensures dial { shower.new.dial ≡ shower.old.dial }
-    ensures shown { OnOk result (AreShown (piece_of stream_moves anneal.entry piece.now.head.items piece.now.pace.stop) piece.now.pace.batch shower.old.shown shower.new.shown) }
-    ensures shown_cut { OnErr result (AreShownInPart (piece_of stream_moves anneal.entry piece.now.head.items piece.now.pace.stop) piece.now.pace.batch shower.old.shown shower.new.shown) }
+    ensures shown { OnOk result
+        (AreShown (piece_of stream_moves anneal.entry piece.now.head.items piece.now.pace.stop)
+        piece.now.pace.batch shower.old.shown shower.new.shown) }
+    ensures shown_cut { OnErr result
+        (AreShownInPart
+        (piece_of stream_moves anneal.entry piece.now.head.items piece.now.pace.stop)
+        piece.now.pace.batch shower.old.shown shower.new.shown) }
 {
     let alloc = rt.alloc();
-    let outcome = anneal_told(rt, alloc, anneal, piece, gate, dial, shower, report, place)?;
-    tell_placement(alloc, inputs, piece, &outcome, place)?;
+    let outcome = anneal_reported(rt, alloc, anneal, piece, gate, dial, shower, report, place)?;
+    write_placement(alloc, inputs, piece, &outcome, place)?;
     Ok(outcome)
 }

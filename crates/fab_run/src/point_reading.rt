@@ -43,7 +43,7 @@ fn present<'a>(line: Option<Line<'a>>) -> Result<Line<'a>, PointFault>
 }
 
 /// Takes the next line, which has to be there. If memory runs out, nothing changes.
-fn due<'a>(left: &mut Lines<'a>) -> Result<Line<'a>, PointFault>
+fn take_line<'a>(left: &mut Lines<'a>) -> Result<Line<'a>, PointFault>
     ensures ok { IfOk result (λ line. left.old ≡ shown line ∷ left.new) }
     ensures missing { IfErr result (λ e. (e ≡ NoMemory) ⊎ ((e ≡ BadField 0) × (left.old ≡ []))) }
     ensures stays { IfErr result (λ e. e ≡ NoMemory → left.new ≡ left.old) }
@@ -56,7 +56,8 @@ fn due<'a>(left: &mut Lines<'a>) -> Result<Line<'a>, PointFault>
 fn version_field(first: &Option<Line>) -> Result<Version, PointFault>
     ensures read { IfOk result (λ v. IfSome first.now (λ l. version_in (shown l) ≡ Some v)) }
     ensures there { OnOk result (first.now ≢ None) }
-    ensures fault { IfErr result (λ e. (e ≡ BadVersion) × IfSome first.now (λ l. version_in (shown l) ≡ None)) }
+    ensures fault { IfErr result (λ e.
+        (e ≡ BadVersion) × IfSome first.now (λ l. version_in (shown l) ≡ None)) }
 {
     let Some(line) = first else {
         return Err(PointFault::BadVersion);
@@ -70,7 +71,8 @@ fn version_field(first: &Option<Line>) -> Result<Version, PointFault>
 /// Takes the first line, which gives the version. If memory runs out, nothing changes.
 fn read_version(left: &mut Lines) -> Result<Version, PointFault>
     ensures read { IfOk result (λ v. IsRead version_in (λ v. Unit {0}) left.old v left.new) }
-    ensures fault { IfErr result (λ e. (e ≡ NoMemory) ⊎ ((io_rat : ℕ) (d : Netlist) → IsFirstFault io_rat d left.old e)) }
+    ensures fault { IfErr result (λ e.
+        (e ≡ NoMemory) ⊎ ((io_rat : ℕ) (d : Netlist) → IsFirstFault io_rat d left.old e)) }
     ensures stays { IfErr result (λ e. e ≡ NoMemory → left.new ≡ left.old) }
 {
     let first = left.next()?;
@@ -108,8 +110,12 @@ fn grid_from(numbers: (u64, u64, u64), io_rat: u16, design: &Design) -> Option<G
 
 /// The array that a line gives.
 fn array_field(line: &Line, io_rat: u16, design: &Design) -> Result<Grid, PointFault>
-    ensures read { IfOk result (λ g. Says array_in (λ a. IsArrayFor io_rat design.now (grid_of a)) (shown line.now) (g.nx, g.ny, g.io_rat)) }
-    ensures fault { IfErr result (λ e. IsFaultOfField e array_in (λ a. IsArrayFor io_rat design.now (grid_of a)) Array (shown line.now)) }
+    ensures read { IfOk result (λ g.
+        Says array_in (λ a.
+        IsArrayFor io_rat design.now (grid_of a)) (shown line.now) (g.nx, g.ny, g.io_rat)) }
+    ensures fault { IfErr result (λ e.
+        IsFaultOfField e array_in (λ a.
+        IsArrayFor io_rat design.now (grid_of a)) Array (shown line.now)) }
 {
     let Some(numbers) = array_in(line) else {
         return Err(PointFault::BadField(line.number));
@@ -139,8 +145,12 @@ fn schedule_from(numbers: (u64, u64, Cooling, u64)) -> Option<Schedule>
 
 /// The schedule that a line gives.
 fn schedule_field(line: &Line, version: Version) -> Result<Schedule, PointFault>
-    ensures read { IfOk result (λ p. Says (schedule_in version) (λ s. IsLawful (schedule_of s)) (shown line.now) (p.init, p.exit, p.cooling, p.moves)) }
-    ensures fault { IfErr result (λ e. IsFaultOfField e (schedule_in version) (λ s. IsLawful (schedule_of s)) ScheduleField (shown line.now)) }
+    ensures read { IfOk result (λ p.
+        Says (schedule_in version) (λ s. IsLawful (schedule_of s)) (shown line.now)
+        (p.init, p.exit, p.cooling, p.moves)) }
+    ensures fault { IfErr result (λ e.
+        IsFaultOfField e (schedule_in version) (λ s. IsLawful (schedule_of s)) ScheduleField
+        (shown line.now)) }
 {
     let Some(numbers) = schedule_in(version, line) else {
         return Err(PointFault::BadField(line.number));
@@ -166,12 +176,14 @@ fn read_head(
     io_rat: u16,
     design: &Design,
 ) -> Result<Head, PointFault>
-    ensures read { IfOk result (λ h. HeadRead version io_rat design.now left.old h.seed h.grid h.schedule left.new) }
-    ensures fault { IfErr result (λ e. (e ≡ NoMemory) ⊎ HeadFault e io_rat design.now version (λ g p ls. ⊥) left.old) }
+    ensures read { IfOk result (λ h.
+        HeadRead version io_rat design.now left.old h.seed h.grid h.schedule left.new) }
+    ensures fault { IfErr result (λ e.
+        (e ≡ NoMemory) ⊎ HeadFault e io_rat design.now version (λ g p ls. ⊥) left.old) }
 {
-    let seed = number_field(&due(left)?, b"seed")?;
-    let grid = array_field(&due(left)?, io_rat, design)?;
-    let schedule = schedule_field(&due(left)?, version)?;
+    let seed = number_field(&take_line(left)?, b"seed")?;
+    let grid = array_field(&take_line(left)?, io_rat, design)?;
+    let schedule = schedule_field(&take_line(left)?, version)?;
     Ok(Head {
         seed,
         grid,
@@ -179,12 +191,13 @@ fn read_head(
     })
 }
 
-#[tactic(auto, using(crate::proofs::PointStages::earlier))]
 /// The index of the running stage, how many of its moves are made, and how many of these were accepted.
+#[tactic(auto, using(crate::proofs::PointStages::earlier))]
 fn stage_field(line: &Line, schedule: &Schedule) -> Result<(u64, u64, u64), PointFault>
     ensures read { IfOk result (λ x. Says stage_in (IsStageOf schedule.now) (shown line.now) x) }
     ensures small { IfOk result (λ x. (x.0 + 1) * schedule.now.moves < 2 ^ 61) }
-    ensures fault { IfErr result (λ e. IsFaultOfField e stage_in (IsStageOf schedule.now) StageField (shown line.now)) }
+    ensures fault { IfErr result (λ e.
+        IsFaultOfField e stage_in (IsStageOf schedule.now) StageField (shown line.now)) }
 {
     let Some(stage) = stage_in(line) else {
         return Err(PointFault::BadField(line.number));
@@ -199,8 +212,11 @@ fn stage_field(line: &Line, schedule: &Schedule) -> Result<(u64, u64, u64), Poin
 
 /// The temperature of a stage that a line gives.
 fn temperature_field(line: &Line, schedule: &Schedule, index: u64) -> Result<u64, PointFault>
-    ensures read { IfOk result (λ t. Says (number_in (codes "temperature")) (MayStand schedule.now index) (shown line.now) t) }
-    ensures fault { IfErr result (λ e. IsFaultOfField e (number_in (codes "temperature")) (MayStand schedule.now index) Temperature (shown line.now)) }
+    ensures read { IfOk result (λ t.
+        Says (number_in (codes "temperature")) (MayStand schedule.now index) (shown line.now) t) }
+    ensures fault { IfErr result (λ e.
+        IsFaultOfField e (number_in (codes "temperature")) (MayStand schedule.now index) Temperature
+        (shown line.now)) }
 {
     let t = number_field(line, b"temperature")?;
     if schedule.may_stand(index, t) {
@@ -210,9 +226,9 @@ fn temperature_field(line: &Line, schedule: &Schedule, index: u64) -> Result<u64
     }
 }
 
-/// The temperature of a stage: from the next line; in the first version, whose schedules cool by a factor, from the schedule. If memory runs
-/// out, nothing changes.
-fn read_heat(
+/// The temperature of a stage: from the next line; in the first version, whose schedules cool by a factor, from the schedule. If memory
+/// runs out, nothing changes.
+fn read_temperature(
     left: &mut Lines,
     version: Version,
     schedule: &Schedule,
@@ -221,13 +237,14 @@ fn read_heat(
     requires one { version ≡ Version.One → (f : ℕ) × (schedule.now.cooling ≡ Factor f) }
     requires stage { (t : ℕ) × MayStand schedule.now index t }
     ensures read { IfOk result (λ t. HeatRead version schedule.now index left.old t left.new) }
-    ensures fault { IfErr result (λ e. (e ≡ NoMemory) ⊎ HeatFault e version schedule.now index (λ t ls. ⊥) left.old) }
+    ensures fault { IfErr result (λ e.
+        (e ≡ NoMemory) ⊎ HeatFault e version schedule.now index (λ t ls. ⊥) left.old) }
     ensures stays { IfErr result (λ e. e ≡ NoMemory → left.new ≡ left.old) }
 {
     match version {
         Version::One => Ok(schedule.temperature(index).unwrap_or(0)),
         Version::Two => {
-            let line = due(left)?;
+            let line = take_line(left)?;
             temperature_field(&line, schedule, index)
         }
     }
@@ -235,8 +252,10 @@ fn read_heat(
 
 /// The range of the running stage, on an array.
 fn range_field(line: &Line, grid: &Grid) -> Result<u64, PointFault>
-    ensures read { IfOk result (λ r. Says (number_in (codes "range")) (IsRangeOn grid.now) (shown line.now) r) }
-    ensures fault { IfErr result (λ e. IsFaultOfField e (number_in (codes "range")) (IsRangeOn grid.now) Range (shown line.now)) }
+    ensures read { IfOk result (λ r.
+        Says (number_in (codes "range")) (IsRangeOn grid.now) (shown line.now) r) }
+    ensures fault { IfErr result (λ e.
+        IsFaultOfField e (number_in (codes "range")) (IsRangeOn grid.now) Range (shown line.now)) }
 {
     let range = number_field(line, b"range")?;
     let side = u64::from(grid.nx().max(grid.ny()));
@@ -248,11 +267,18 @@ fn range_field(line: &Line, grid: &Grid) -> Result<u64, PointFault>
 }
 
 /// How many moves were accepted in all: at least those of the running stage, and at most all moves made.
-fn total_field(line: &Line, schedule: &Schedule, stage: (u64, u64, u64)) -> Result<u64, PointFault>
+fn accepted_total_field(
+    line: &Line,
+    schedule: &Schedule,
+    stage: (u64, u64, u64),
+) -> Result<u64, PointFault>
     requires small { (stage.0 + 1) * schedule.now.moves < 2 ^ 61 }
     requires made { stage.1 < schedule.now.moves }
-    ensures read { IfOk result (λ n. Says (number_in (codes "total")) (IsTotal schedule.now stage) (shown line.now) n) }
-    ensures fault { IfErr result (λ e. IsFaultOfField e (number_in (codes "total")) (IsTotal schedule.now stage) Total (shown line.now)) }
+    ensures read { IfOk result (λ n.
+        Says (number_in (codes "total")) (IsTotal schedule.now stage) (shown line.now) n) }
+    ensures fault { IfErr result (λ e.
+        IsFaultOfField e (number_in (codes "total")) (IsTotal schedule.now stage) Total
+        (shown line.now)) }
 {
     let total = number_field(line, b"total")?;
     let made = stage.0 * schedule.moves() + stage.1;
@@ -271,13 +297,15 @@ fn read_stage(
     schedule: &Schedule,
 ) -> Result<(Stage, u64), PointFault>
     requires one { version ≡ Version.One → (f : ℕ) × (schedule.now.cooling ≡ Factor f) }
-    ensures read { IfOk result (λ r. StageRead version grid.now schedule.now left.old r.0 r.1 left.new) }
-    ensures fault { IfErr result (λ e. (e ≡ NoMemory) ⊎ StageFault e version grid.now schedule.now (λ ls. ⊥) left.old) }
+    ensures read { IfOk result (λ r.
+        StageRead version grid.now schedule.now left.old r.0 r.1 left.new) }
+    ensures fault { IfErr result (λ e.
+        (e ≡ NoMemory) ⊎ StageFault e version grid.now schedule.now (λ ls. ⊥) left.old) }
 {
-    let made = stage_field(&due(left)?, schedule)?;
-    let t = read_heat(left, version, schedule, made.0)?;
-    let range = range_field(&due(left)?, grid)?;
-    let total = total_field(&due(left)?, schedule, made)?;
+    let made = stage_field(&take_line(left)?, schedule)?;
+    let t = read_temperature(left, version, schedule, made.0)?;
+    let range = range_field(&take_line(left)?, grid)?;
+    let total = accepted_total_field(&take_line(left)?, schedule, made)?;
     let stage = Stage {
         index: made.0,
         t,
@@ -317,10 +345,16 @@ fn named_block(
     named: &[bool],
 ) -> Result<BlockId, PlaceFault>
     requires { length named.now ≡ length design.now.kinds }
-    ensures ok { IfOk result (λ b. name_fault version design.now (λ b. slice_index_or named.now b false) (shown line.now).number (is_fixed_line (shown line.now)) (block_in design.now (shown line.now)) ≡ None) }
+    ensures ok { IfOk result (λ b.
+        name_fault version design.now (λ b. slice_index_or named.now b false)
+        (shown line.now).number (is_fixed_line (shown line.now))
+        (block_in design.now (shown line.now)) ≡ None) }
     ensures named { IfOk result (λ b. block_in design.now (shown line.now) ≡ Some b.0) }
     ensures within { IfOk result (λ b. b.0 < length named.now) }
-    ensures fault { IfErr result (λ e. name_fault version design.now (λ b. slice_index_or named.now b false) (shown line.now).number (is_fixed_line (shown line.now)) (block_in design.now (shown line.now)) ≡ Some e) }
+    ensures fault { IfErr result (λ e.
+        name_fault version design.now (λ b. slice_index_or named.now b false)
+        (shown line.now).number (is_fixed_line (shown line.now))
+        (block_in design.now (shown line.now)) ≡ Some e) }
 {
     if !is_fixed_line(line) {
         return Err(PlaceFault::BadLine(line.number));
@@ -345,12 +379,14 @@ fn take_names(
     design: &Design,
     count: u64,
 ) -> Result<Vec<bool>, PointFault>
-    ensures read { IfOk result (λ named. AreNamed version design.now count left.old named.items left.new) }
-    ensures fault { IfErr result (λ e. (e ≡ NoMemory) ⊎ ListFault e (fixed_fault version design.now) count (λ ls. ⊥) left.old) }
+    ensures read { IfOk result (λ named.
+        AreNamed version design.now count left.old named.items left.new) }
+    ensures fault { IfErr result (λ e.
+        (e ≡ NoMemory) ⊎ ListFault e (fixed_fault version design.now) count (λ ls. ⊥) left.old) }
 {
     let mut named = vec![in alloc; false; design.blocks()]?;
     'names: for _ in 0..count {
-        let line = due(left)?;
+        let line = take_line(left)?;
         let block = named_block(&line, version, design, &named)?;
         named[block.0 as usize] = true;
     }
@@ -359,8 +395,11 @@ fn take_names(
 
 /// How many fixed blocks a line says that there are.
 fn fixed_field(line: &Line, design: &Design) -> Result<u64, PointFault>
-    ensures read { IfOk result (λ n. Says (number_in (codes "fixed")) (λ n. n ≤ length design.now.kinds) (shown line.now) n) }
-    ensures fault { IfErr result (λ e. IsFaultOfField e (number_in (codes "fixed")) (λ n. n ≤ length design.now.kinds) FixedField (shown line.now)) }
+    ensures read { IfOk result (λ n.
+        Says (number_in (codes "fixed")) (λ n. n ≤ length design.now.kinds) (shown line.now) n) }
+    ensures fault { IfErr result (λ e.
+        IsFaultOfField e (number_in (codes "fixed")) (λ n. n ≤ length design.now.kinds) FixedField
+        (shown line.now)) }
 {
     let count = number_field(line, b"fixed")?;
     if count > design.blocks() as u64 {
@@ -376,35 +415,43 @@ fn read_names(
     version: Version,
     design: &Design,
 ) -> Result<Vec<bool>, PointFault>
-    ensures read { IfOk result (λ named. NamesRead version design.now left.old named.items left.new) }
-    ensures fault { IfErr result (λ e. (e ≡ NoMemory) ⊎ NamesFault e version design.now (λ ls. ⊥) left.old) }
+    ensures read { IfOk result (λ named.
+        NamesRead version design.now left.old named.items left.new) }
+    ensures fault { IfErr result (λ e.
+        (e ≡ NoMemory) ⊎ NamesFault e version design.now (λ ls. ⊥) left.old) }
 {
-    let count = fixed_field(&due(left)?, design)?;
+    let count = fixed_field(&take_line(left)?, design)?;
     take_names(alloc, left, version, design, count)
 }
 
 /// Takes the sites of all blocks, one line for each.
-fn take_seats(
+fn take_sites(
     alloc: Global,
     left: &mut Lines,
     design: &Design,
     grid: &Grid,
 ) -> Result<Placement, PointFault>
     ensures read { IfOk result (λ p. AreSeated design.now grid.now left.old p left.new) }
-    ensures fault { IfErr result (λ e. (e ≡ NoMemory) ⊎ ListFault e (seat_fault design.now grid.now) (length design.now.kinds) (λ ls. ⊥) left.old) }
+    ensures fault { IfErr result (λ e.
+        (e ≡ NoMemory) ⊎
+        ListFault e (seat_fault design.now grid.now) (length design.now.kinds) (λ ls. ⊥) left.old) }
 {
     let mut placed = PlaceLines::new(alloc, design, grid)?;
     'places: for _ in 0..design.blocks() {
-        let line = due(left)?;
+        let line = take_line(left)?;
         placed.take(&line)?;
     }
     Ok(placed.finish()?)
 }
 
-/// Whether a line says that there are as many places as blocks.
+/// Checks that `places N` gives the number of blocks.
 fn places_field(line: &Line, design: &Design) -> Result<(), PointFault>
-    ensures read { OnOk result (Says (number_in (codes "places")) (λ m. m ≡ length design.now.kinds) (shown line.now) (length design.now.kinds)) }
-    ensures fault { IfErr result (λ e. IsFaultOfField e (number_in (codes "places")) (λ m. m ≡ length design.now.kinds) Places (shown line.now)) }
+    ensures read { OnOk result
+        (Says (number_in (codes "places")) (λ m. m ≡ length design.now.kinds) (shown line.now)
+        (length design.now.kinds)) }
+    ensures fault { IfErr result (λ e.
+        IsFaultOfField e (number_in (codes "places")) (λ m. m ≡ length design.now.kinds) Places
+        (shown line.now)) }
 {
     let count = number_field(line, b"places")?;
     if count != design.blocks() as u64 {
@@ -414,23 +461,25 @@ fn places_field(line: &Line, design: &Design) -> Result<(), PointFault>
 }
 
 /// The placement.
-fn read_seats(
+fn read_sites(
     alloc: Global,
     left: &mut Lines,
     design: &Design,
     grid: &Grid,
 ) -> Result<Placement, PointFault>
     ensures read { IfOk result (λ p. SeatsRead design.now grid.now left.old p left.new) }
-    ensures fault { IfErr result (λ e. (e ≡ NoMemory) ⊎ SeatsFault e design.now grid.now (λ ls. ⊥) left.old) }
+    ensures fault { IfErr result (λ e.
+        (e ≡ NoMemory) ⊎ SeatsFault e design.now grid.now (λ ls. ⊥) left.old) }
 {
-    places_field(&due(left)?, design)?;
-    take_seats(alloc, left, design, grid)
+    places_field(&take_line(left)?, design)?;
+    take_sites(alloc, left, design, grid)
 }
 
-/// Whether a line is `end`.
+/// Checks that a line is `end`.
 fn end_field(line: &Line) -> Result<(), PointFault>
     ensures end { OnOk result (is_end (shown line.now) ≡ true) }
-    ensures fault { IfErr result (λ e. (e ≡ BadField (shown line.now).number) × (is_end (shown line.now) ≡ false)) }
+    ensures fault { IfErr result (λ e.
+        (e ≡ BadField (shown line.now).number) × (is_end (shown line.now) ≡ false)) }
 {
     if is_end(line) {
         Ok(())
@@ -442,7 +491,8 @@ fn end_field(line: &Line) -> Result<(), PointFault>
 /// Whether there is no line after the last one.
 fn no_more(more: &Option<Line>) -> Result<(), PointFault>
     ensures end { OnOk result (more.now ≡ None) }
-    ensures fault { IfErr result (λ e. (l : Line) × (more.now ≡ Some l) × (e ≡ BadField (shown l).number)) }
+    ensures fault { IfErr result (λ e.
+        (l : Line) × (more.now ≡ Some l) × (e ≡ BadField (shown l).number)) }
 {
     match more {
         None => Ok(()),
@@ -455,7 +505,7 @@ fn read_end(left: &mut Lines) -> Result<(), PointFault>
     ensures read { OnOk result (EndRead left.old) }
     ensures fault { IfErr result (λ e. (e ≡ NoMemory) ⊎ EndFault e left.old) }
 {
-    end_field(&due(left)?)?;
+    end_field(&take_line(left)?)?;
     let more = left.next()?;
     no_more(&more)
 }
@@ -464,7 +514,11 @@ fn read_end(left: &mut Lines) -> Result<(), PointFault>
 fn fix_named(alloc: Global, named: &[bool], placement: &Placement) -> Result<Fixed, AllocError>
     requires many { length named.now ≡ length placement.now.sites }
     requires few { length named.now < 2 ^ 32 }
-    ensures { IfOk result (λ f. (b : ℕ) → fixed_at f b ≡ (if slice_index_or named.now b false then Some (site_of placement.now.sites b) else None)) }
+    ensures { IfOk result (λ f.
+        (b : ℕ) →
+        fixed_at f b ≡
+        (if slice_index_or named.now b false then Some (site_of placement.now.sites b)
+        else None)) }
 {
     let mut fixed = Fixed::none(alloc);
     for b in 0..named.len() {
@@ -483,15 +537,17 @@ fn read_parts(
     io_rat: u16,
     design: &Design,
 ) -> Result<(u64, Grid, Point), PointFault>
-    ensures found { IfOk result (λ r. StandsForPoint io_rat design.now (lines bytes.now) r.0 r.1 r.2) }
-    ensures fault { IfErr result (λ e. (e ≡ NoMemory) ⊎ IsFirstFault io_rat design.now (lines bytes.now) e) }
+    ensures found { IfOk result (λ r.
+        StandsForPoint io_rat design.now (lines bytes.now) r.0 r.1 r.2) }
+    ensures fault { IfErr result (λ e.
+        (e ≡ NoMemory) ⊎ IsFirstFault io_rat design.now (lines bytes.now) e) }
 {
     let mut left = Lines::new(alloc, bytes);
     let version = read_version(&mut left)?;
     let head = read_head(&mut left, version, io_rat, design)?;
     let (stage, total) = read_stage(&mut left, version, &head.grid, &head.schedule)?;
     let named = read_names(alloc, &mut left, version, design)?;
-    let placement = read_seats(alloc, &mut left, design, &head.grid)?;
+    let placement = read_sites(alloc, &mut left, design, &head.grid)?;
     read_end(&mut left)?;
     let fixed = fix_named(alloc, &named, &placement)?;
     let point = Point {
@@ -512,8 +568,11 @@ pub(crate) fn point_for(
     io_rat: u16,
     design: &Design,
 ) -> Result<(u64, Grid, Point), PointFault>
-    ensures found { IfOk result (λ r. StandsForPoint io_rat design.now (lines bytes.now) r.0 r.1 r.2) }
-    ensures only { (seed : ℕ) (g : GridShape) (p : PointOf) → StandsForPoint io_rat design.now (lines bytes.now) seed g p → MatchResult result (λ r. (r.0 ≡ seed) × (r.1 ≡ g) × IsSamePoint r.2 p) (λ e. e ≡ NoMemory) }
+    ensures found { IfOk result (λ r.
+        StandsForPoint io_rat design.now (lines bytes.now) r.0 r.1 r.2) }
+    ensures only { (seed : ℕ) (g : GridShape) (p : PointOf) →
+        StandsForPoint io_rat design.now (lines bytes.now) seed g p →
+        MatchResult result (λ r. (r.0 ≡ seed) × (r.1 ≡ g) × IsSamePoint r.2 p) (λ e. e ≡ NoMemory) }
     ensures fault { IfErr result (IsPointFault io_rat design.now (lines bytes.now)) }
 {
     let _blocks = design.blocks();
@@ -531,9 +590,12 @@ pub fn read_point(
     design: &Design,
 ) -> Result<(u64, Grid, Point), PointFault>
     // What is read is what the text stands for.
-    ensures found { IfOk result (λ r. StandsForPoint arch.now.io_rat design.now (lines bytes.now) r.0 r.1 r.2) }
+    ensures found { IfOk result (λ r.
+        StandsForPoint arch.now.io_rat design.now (lines bytes.now) r.0 r.1 r.2) }
     // What it stands for is read, unless memory runs out.
-    ensures only { (seed : ℕ) (g : GridShape) (p : PointOf) → StandsForPoint arch.now.io_rat design.now (lines bytes.now) seed g p → MatchResult result (λ r. (r.0 ≡ seed) × (r.1 ≡ g) × IsSamePoint r.2 p) (λ e. e ≡ NoMemory) }
+    ensures only { (seed : ℕ) (g : GridShape) (p : PointOf) →
+        StandsForPoint arch.now.io_rat design.now (lines bytes.now) seed g p →
+        MatchResult result (λ r. (r.0 ≡ seed) × (r.1 ≡ g) × IsSamePoint r.2 p) (λ e. e ≡ NoMemory) }
     // An error is the first fault, or a lack of memory.
     ensures fault { IfErr result (IsPointFault arch.now.io_rat design.now (lines bytes.now)) }
 {
@@ -542,5 +604,6 @@ pub fn read_point(
 
 /// The law that the lines of a checkpoint text either stand for one point or have one first fault, and never both.
 pub fn point_texts_mean_or_fault()
-    ensures { (io_rat : ℕ) (d : Netlist) (ls : List TextLine) → IsLawfulDesign d → PointMeansOrFaults io_rat d ls }
+    ensures { (io_rat : ℕ) (d : Netlist) (ls : List TextLine) → IsLawfulDesign d →
+        PointMeansOrFaults io_rat d ls }
 {}

@@ -62,7 +62,11 @@ fn push_cooling(text: &mut Vec<u8>, cooling: Cooling) -> Result<(), AllocError>
 
 /// Appends the beginning of the line of the schedule, up to its temperatures.
 fn push_temperatures(text: &mut Vec<u8>, schedule: &Schedule) -> Result<(), AllocError>
-    ensures { OnOk result (text.new.items ≡ text.old.items ++ (codes "schedule " ++ decimal schedule.now.init ++ codes " " ++ decimal schedule.now.exit ++ codes " ")) }
+    ensures { OnOk result
+        (text.new.items ≡
+        text.old.items ++
+        (codes "schedule " ++ decimal schedule.now.init ++ codes " " ++
+        decimal schedule.now.exit ++ codes " ")) }
 {
     text.extend_from_slice(b"schedule ")?;
     push_number(text, schedule.init_t())?;
@@ -74,7 +78,8 @@ fn push_temperatures(text: &mut Vec<u8>, schedule: &Schedule) -> Result<(), Allo
 
 /// Appends the line of the schedule.
 fn push_schedule(text: &mut Vec<u8>, schedule: &Schedule) -> Result<(), AllocError>
-    ensures text { OnOk result (text.new.items ≡ text.old.items ++ ended (schedule_text schedule.now)) }
+    ensures text { OnOk result
+        (text.new.items ≡ text.old.items ++ ended (schedule_text schedule.now)) }
     ensures lawful { OnOk result (IsLawfulPlan schedule.now) }
 {
     push_temperatures(text, schedule)?;
@@ -106,7 +111,9 @@ fn push_head(
     grid: &Grid,
     schedule: &Schedule,
 ) -> Result<(), AllocError>
-    ensures text { OnOk result (text.new.items ≡ text.old.items ++ flat_map ended (head_lines seed grid.now schedule.now)) }
+    ensures text { OnOk result
+        (text.new.items ≡
+        text.old.items ++ flat_map ended (head_lines seed grid.now schedule.now)) }
     ensures limits { OnOk result (AreLimits grid.now.nx grid.now.ny grid.now.io_rat) }
     ensures lawful { OnOk result (IsLawfulPlan schedule.now) }
 {
@@ -119,7 +126,8 @@ fn push_head(
 
 /// Appends the lines of the running stage, and of the moves accepted in all.
 fn push_place_in_run(text: &mut Vec<u8>, stage: &Stage, total: u64) -> Result<(), AllocError>
-    ensures { OnOk result (text.new.items ≡ text.old.items ++ flat_map ended (stage_lines stage.now total)) }
+    ensures { OnOk result
+        (text.new.items ≡ text.old.items ++ flat_map ended (stage_lines stage.now total)) }
 {
     push_stage(text, stage)?;
     push_field(text, b"temperature", stage.t)?;
@@ -153,7 +161,8 @@ fn push_fixed_line(text: &mut Vec<u8>, name: &[u8]) -> Result<(), AllocError>
 
 /// Appends the number of fixed blocks, and the line of each.
 fn push_fixed(text: &mut Vec<u8>, design: &Design, fixed: &Fixed) -> Result<(), AllocError>
-    ensures { OnOk result (text.new.items ≡ text.old.items ++ flat_map ended (fixed_lines design.now fixed.now)) }
+    ensures { OnOk result
+        (text.new.items ≡ text.old.items ++ flat_map ended (fixed_lines design.now fixed.now)) }
 {
     push_field(text, b"fixed", fixed_count(design, fixed))?;
     for b in 0..design.blocks() {
@@ -189,7 +198,9 @@ fn push_place(text: &mut Vec<u8>, name: &[u8], site: Site) -> Result<(), AllocEr
 /// Appends the number of blocks, and the line of the site of each.
 fn push_places(text: &mut Vec<u8>, design: &Design, placement: &Placement) -> Result<(), AllocError>
     requires { length placement.now.sites ≡ length design.now.kinds }
-    ensures text { OnOk result (text.new.items ≡ text.old.items ++ flat_map ended (place_lines design.now placement.now.sites)) }
+    ensures text { OnOk result
+        (text.new.items ≡
+        text.old.items ++ flat_map ended (place_lines design.now placement.now.sites)) }
     ensures lawful { OnOk result (IsLawful design.now) }
 {
     push_field(text, b"places", design.blocks() as u64)?;
@@ -235,13 +246,20 @@ pub fn write_point<W: Sink>(
 ) -> Result<(), PointFault>
     requires { IsWritable design.now grid.now point.now }
     // What is written is the text.
-    ensures whole { OnOk result (Appends (W.contents out.old) (W.contents out.new) (point_text seed design.now grid.now point.now)) }
+    ensures whole { OnOk result
+        (Appends (W.contents out.old) (W.contents out.new)
+        (point_text seed design.now grid.now point.now)) }
     // What is written reads back: it stands for the seed, the array and the point.
-    ensures back { OnOk result (StandsForPoint grid.now.io_rat design.now (lines (point_text seed design.now grid.now point.now)) seed grid.now point.now) }
+    ensures back { OnOk result
+        (StandsForPoint grid.now.io_rat design.now
+        (lines (point_text seed design.now grid.now point.now)) seed grid.now point.now) }
     ensures only { IfErr result (λ e. (e ≡ Write) ⊎ (e ≡ NoMemory)) }
     // If memory runs out, nothing is written. A writer that fails has taken a beginning.
     ensures silent { IfErr result (λ e. e ≡ NoMemory → W.contents out.new ≡ W.contents out.old) }
-    ensures cut { IfErr result (λ e. e ≡ Write → IsCut (point_text seed design.now grid.now point.now) (W.contents out.old) (W.contents out.new)) }
+    ensures cut { IfErr result (λ e.
+        e ≡ Write →
+        IsCut (point_text seed design.now grid.now point.now) (W.contents out.old)
+        (W.contents out.new)) }
     // The writer failed only if the answer says so.
     ensures sound { OnOk result (W.failed out.new ≡ W.failed out.old) }
     ensures failed { IfErr result (λ e. W.failed out.new ≡ failed_with e (W.failed out.old)) }

@@ -1,5 +1,6 @@
 // Runs, checks and checkpoints that are refused memory. A test passes as it is, and where one growth of its process is refused:
-// tests/refusals/growths refuses each in turn. Since no second one is refused, what was refused is asked for again, and then it has to come.
+// tests/refusals/growths refuses each in turn. Since no second one is refused, what was refused is asked for again, and then it has to
+// come.
 
 use crate::narrow::Narrow;
 use crate::piece_tests::SEVEN_AT_13;
@@ -18,8 +19,8 @@ use std::sync::Wait;
 use std::test::*;
 use std::thread::Threads;
 
-// Tells how many growths later one is refused, if it is among the next 10,000: that is, if what was tried has met none. tests/refusals/growths
-// reads it.
+// Tells how many growths later one is refused, if it is among the next 10,000: that is, if what was tried has met none.
+// tests/refusals/growths reads it.
 fn tell_refusal_to_come(rt: &(impl AllocGlobal + Print)) {
     for later in 0..10_000u64 {
         if Vec::<u8>::with_capacity(rt.alloc(), 1).is_err() {

@@ -32,7 +32,8 @@ pub fn array_of(design: &Design, size: Option<(u16, u16)>, io_rat: u16) -> Resul
     ensures ratio { IfOk result (λ g. g.io_rat ≡ io_rat) }
     ensures size { IfOk result (IsSized size design.now) }
     ensures fits { IfOk result (FitsOn design.now) }
-    ensures only { (g : GridShape) → g.io_rat ≡ io_rat → IsSized size design.now g → FitsOn design.now g → MatchResult result (λ h. h ≡ g) (λ e. ⊥) }
+    ensures only { (g : GridShape) → g.io_rat ≡ io_rat → IsSized size design.now g →
+        FitsOn design.now g → MatchResult result (λ h. h ≡ g) (λ e. ⊥) }
     ensures fault { IfErr result (IsArrayFault size design.now io_rat) }
 {
     match size {
@@ -60,9 +61,12 @@ fn read_locations(
     design: &Design,
     grid: &Grid,
 ) -> Result<Pins, RunFault>
-    ensures found { IfOk result (λ p. ArePinned (option_copied text.entry) design.now grid.now p.fixed p.begun) }
+    ensures found { IfOk result (λ p.
+        ArePinned (option_copied text.entry) design.now grid.now p.fixed p.begun) }
     ensures lawful { IfOk result (λ p. ArePins design.now grid.now p.fixed p.begun) }
-    ensures only { (fixed begun : List (Option Site)) → ArePinned (option_copied text.entry) design.now grid.now fixed begun → IfErr result (λ e. e ≡ NoMemory) }
+    ensures only { (fixed begun : List (Option Site)) →
+        ArePinned (option_copied text.entry) design.now grid.now fixed begun →
+        IfErr result (λ e. e ≡ NoMemory) }
     ensures fault { IfErr result (IsLocationFault (option_copied text.entry) design.now grid.now) }
 {
     let Some(text) = text else {
@@ -94,8 +98,10 @@ fn schedule_of(options: &Options, blocks: usize) -> Result<Schedule, SchedFault>
     requires { blocks ≤ 65535 }
     ensures plan { IfOk result (IsAskedPlan options.now blocks) }
     ensures lawful { IfOk result IsLawful }
-    ensures only { (p : Plan) → IsAskedPlan options.now blocks p → IsLawful p → MatchResult result (λ s. s ≡ p) (λ e. ⊥) }
-    ensures fault { IfErr result (λ e. (p : Plan) × IsAskedPlan options.now blocks p × (fault_of p ≡ Some e)) }
+    ensures only { (p : Plan) → IsAskedPlan options.now blocks p → IsLawful p →
+        MatchResult result (λ s. s ≡ p) (λ e. ⊥) }
+    ensures fault { IfErr result (λ e.
+        (p : Plan) × IsAskedPlan options.now blocks p × (fault_of p ≡ Some e)) }
 {
     let moves = stage_moves(options.moves, blocks);
     match options.cooling {
@@ -131,9 +137,12 @@ fn read_located(
     inputs: &Inputs,
     options: &Options,
 ) -> Result<(Design, Grid, Pins), RunFault>
-    ensures found { IfOk result (λ r. HasPins (texts_of inputs.now) options.now r.0 r.1 r.2.fixed r.2.begun) }
+    ensures found { IfOk result (λ r.
+        HasPins (texts_of inputs.now) options.now r.0 r.1 r.2.fixed r.2.begun) }
     ensures lawful { IfOk result (λ r. ArePins r.0 r.1 r.2.fixed r.2.begun) }
-    ensures only { (d : Netlist) (g : GridShape) (fixed begun : List (Option Site)) → HasPins (texts_of inputs.now) options.now d g fixed begun → MatchResult result (λ r. (r.0 ≡ d) × (r.1 ≡ g)) (λ e. e ≡ NoMemory) }
+    ensures only { (d : Netlist) (g : GridShape) (fixed begun : List (Option Site)) →
+        HasPins (texts_of inputs.now) options.now d g fixed begun →
+        MatchResult result (λ r. (r.0 ≡ d) × (r.1 ≡ g)) (λ e. e ≡ NoMemory) }
     ensures fault { IfErr result (IsRunFault (texts_of inputs.now) options.now) }
     ensures text { IfErr result IsTextFault }
 {
@@ -146,12 +155,14 @@ fn read_located(
 /// The schedule of a run, after the checks that follow the texts: labels, schedule, batch, workers.
 fn read_schedule(inputs: &Inputs, options: &Options, blocks: usize) -> Result<Schedule, RunFault>
     requires { blocks ≤ 65535 }
-    ensures labels { OnOk result (labels_are inputs.now.labels.net.now inputs.now.labels.arch.now ≡ true) }
+    ensures labels { OnOk result
+        (labels_are inputs.now.labels.net.now inputs.now.labels.arch.now ≡ true) }
     ensures plan { IfOk result (IsAskedPlan options.now blocks) }
     ensures lawful { IfOk result IsLawful }
     ensures batch { OnOk result (Within 4096 options.now.batch) }
     ensures workers { OnOk result (Within 64 options.now.workers) }
-    ensures only { (s : Setting) → IsSetting (texts_of inputs.now) options.now s → length s.design.kinds ≡ blocks → IfErr result (λ e. ⊥) }
+    ensures only { (s : Setting) → IsSetting (texts_of inputs.now) options.now s →
+        length s.design.kinds ≡ blocks → IfErr result (λ e. ⊥) }
     ensures fault { IfErr result (IsOptionFault (texts_of inputs.now) options.now blocks) }
 {
     if !are_labels(&inputs.labels) {
@@ -168,9 +179,11 @@ pub(crate) fn read_setting(
     inputs: &Inputs,
     options: &Options,
 ) -> Result<(Design, Grid, Pins, Schedule), RunFault>
-    ensures found { IfOk result (λ r. IsSetting (texts_of inputs.now) options.now (setting_of r.0 r.1 r.2.fixed r.2.begun r.3)) }
+    ensures found { IfOk result (λ r.
+        IsSetting (texts_of inputs.now) options.now (setting_of r.0 r.1 r.2.fixed r.2.begun r.3)) }
     ensures lawful { IfOk result (λ r. ArePins r.0 r.1 r.2.fixed r.2.begun) }
-    ensures only { (s : Setting) → IsSetting (texts_of inputs.now) options.now s → IfErr result (λ e. e ≡ NoMemory) }
+    ensures only { (s : Setting) → IsSetting (texts_of inputs.now) options.now s →
+        IfErr result (λ e. e ≡ NoMemory) }
     ensures fault { IfErr result (IsRunFault (texts_of inputs.now) options.now) }
     ensures text { IfErr result IsTextFault }
 {

@@ -1,4 +1,4 @@
-//! Makes the stages of a run one after another, and reports each as it ends.
+//! Makes the stages of a run one after another, decides which of them a crew judges ahead, and reports each as it ends.
 
 ghost use Rattle.std.specs.Prelude.{◌≡◌, ℕ, ◌+◌, ◌-◌, ◌<◌, ◌≤◌, ◌++◌, true, Some, OnOk, OnErr, IfOk, IfErr, MatchOption};
 ghost use Rattle.fab_sched.specs.Annealing.{IsLawful};
@@ -46,7 +46,8 @@ pub(crate) struct Pace {
 /// How many moves the running stage makes before the stop; `None` if the run does not stop before the stage ends. The run has made `done`
 /// moves, and `left` moves of the stage are left.
 fn moves_before(stop: Option<u64>, done: u64, left: u64) -> Option<u64>
-    ensures { MatchOption result ((m : ℕ) → stop ≡ Some (done + m) → left ≤ m) (λ rest. (stop ≡ Some (done + rest)) × (rest < left)) }
+    ensures { MatchOption result ((m : ℕ) → stop ≡ Some (done + m) → left ≤ m) (λ rest.
+        (stop ≡ Some (done + rest)) × (rest < left)) }
 {
     let Some(stop) = stop else {
         return None;
@@ -69,26 +70,25 @@ pub(crate) fn helpers_of<R: Threads>(rt: &R, workers: u64) -> u64 {
     }
 }
 
-/// Founding a crew takes the time of some thousands of moves.
+/// The fewest moves of a stage for which a crew pays if three or more workers help: founding it takes the time of some thousands of moves.
 const FEWEST_MOVES: u64 = 5_000;
 
-/// One of two takes longer to found, and saves less.
+/// The same if two help: such a crew takes longer to found, and saves less.
 const FEWEST_MOVES_OF_TWO: u64 = 100_000;
 
-/// With a smaller batch, handing over costs as much time as judging.
+/// The smallest batch for which a crew pays: with a smaller one, handing over takes as much time as judging.
 const LEAST_BATCH: u64 = 16;
 
-/// From so many blocks on, a crew saves time before the stages are cold, too.
+/// The fewest blocks for which a crew pays before the stages are cold, too.
 const MIDDLE_DESIGN: usize = 2_500;
 
 /// The least range of a stage, in thousandths. A stage has it where few moves of the stages before were accepted.
 const LEAST_RANGE: u64 = 1000;
 
-/// Whether the moves of a stage are judged ahead by the crew; else the owner judges each when its turn comes. A crew saves time where few
-/// moves are accepted and more than one worker helps, that is, finds a processor of its own. How few are accepted is told by the range: it
-/// falls where fewer than 44 of 100 are. All that decides is told by the standing, the options and the machine, so a run that goes on from a
-/// point on the same machine decides as the unbroken run. The bounds were measured by bench/stages.py. A gate that does something sees which
-/// way a stage goes: with one that does not say that it does nothing, all moves are judged ahead.
+/// Whether a crew judges this stage's moves ahead; else the owner judges each when its turn comes. A crew saves time if two or more workers
+/// get a processor of their own and few moves are accepted. The range shows the latter: it shrinks while fewer than 44 of 100 are. Only the
+/// standing, the options and the machine decide, so a resumed run decides as the unbroken one on the same machine. The bounds were measured
+/// by bench/stages.py. A gate that does something sees who judges; with such a gate a crew judges all moves.
 pub(crate) fn is_judged_ahead(
     stage: &Stage,
     blocks: usize,
@@ -111,8 +111,8 @@ pub(crate) fn is_judged_ahead(
     is_cold || is_cooler && blocks >= MIDDLE_DESIGN
 }
 
-/// How many workers a crew has, one at least: those that find a processor, since one without a processor holds the others up. With a gate that
-/// does something as many as were asked for: it may hold a worker until another makes a call.
+/// How many workers a crew has, one at least: those that find a processor, since one without a processor holds the others up. With a gate
+/// that does something as many as were asked for: it may hold a worker until another makes a call.
 pub(crate) fn crew_size(pace: &Pace, does_nothing: bool) -> u64
     requires { (1 ≤ pace.now.workers) × (pace.now.workers ≤ 64) }
     ensures { (1 ≤ result) × (result ≤ 64) }
@@ -124,9 +124,9 @@ pub(crate) fn crew_size(pace: &Pace, does_nothing: bool) -> u64
     }
 }
 
-/// Makes the next `count` moves of the running stage, of which some are left and at least so many: in turns of one batch, and a shorter turn for
-/// the rest. They are judged ahead by a crew that lives for them, or by the owner; the moves, their costs and, if they are counted, how many are
-/// judged again are the same.
+/// Makes the next `count` moves of the running stage, in turns of one batch, and a shorter turn for the rest. Some moves of the stage are
+/// left, and at least `count`. A crew that lives for them judges them ahead, or the owner judges each when its turn comes; the moves, their
+/// costs and, if they are counted, how many are judged again are the same.
 fn make_moves<V: Words + Send + Sync + Drop, K: Keeping, G: Gate, R: Threads + Wait + Sync>(
     rt: &R,
     anneal: &mut Anneal<'_, V, K>,
@@ -135,11 +135,16 @@ fn make_moves<V: Words + Send + Sync + Drop, K: Keeping, G: Gate, R: Threads + W
     plan: &StagePlan<'_, G>,
     shower: &mut Shower,
 ) -> Result<(), AllocError>
-    requires some { (count ≤ moves_left (run_of V.moves anneal.old) anneal.old.standing) × (0 < moves_left (run_of V.moves anneal.old) anneal.old.standing) }
+    requires some { (count ≤ moves_left (run_of V.moves anneal.old) anneal.old.standing) ×
+        (0 < moves_left (run_of V.moves anneal.old) anneal.old.standing) }
     requires own { shower.old.dial ≡ plan.now.dial.now }
-    requires limits { (1 ≤ plan.now.batch) × (plan.now.batch ≤ 4096) × (1 ≤ plan.now.workers) × (plan.now.workers ≤ 64) }
-    ensures made { IsMade V.moves plan.now.batch count anneal.old anneal.new result shower.old.shown shower.new.shown }
-    ensures counted { K.again ≡ true → IsMadeAlone V.moves plan.now.batch count anneal.old anneal.new result shower.old.shown shower.new.shown }
+    requires limits { (1 ≤ plan.now.batch) × (plan.now.batch ≤ 4096) × (1 ≤ plan.now.workers) ×
+        (plan.now.workers ≤ 64) }
+    ensures made { IsMade V.moves plan.now.batch count anneal.old anneal.new result shower.old.shown
+        shower.new.shown }
+    ensures counted { K.again ≡ true →
+        IsMadeAlone V.moves plan.now.batch count anneal.old anneal.new result shower.old.shown
+        shower.new.shown }
     ensures dial { shower.new.dial ≡ shower.old.dial }
 {
     if ahead && count > 0 {
@@ -164,15 +169,25 @@ pub(crate) fn make_part<
 ) -> Result<(), AllocError>
     requires part { count < moves_left (run_of V.moves anneal.old) anneal.old.standing }
     requires own { shower.old.dial ≡ plan.now.dial.now }
-    requires limits { (1 ≤ plan.now.batch) × (plan.now.batch ≤ 4096) × (1 ≤ plan.now.workers) × (plan.now.workers ≤ 64) }
+    requires limits { (1 ≤ plan.now.batch) × (plan.now.batch ≤ 4096) × (1 ≤ plan.now.workers) ×
+        (plan.now.workers ≤ 64) }
     ensures same { IsSameRun anneal.old anneal.new }
     ensures done { OnOk result (anneal.new.standing.done ≡ anneal.old.standing.done + count) }
-    ensures stands { OnOk result (anneal.new.standing ≡ from (run_of V.moves anneal.old) anneal.old.standing count) }
-    ensures accepted { OnOk result (anneal.new.accepted ≡ anneal.old.accepted ++ accepted_among (run_of V.moves anneal.old) anneal.old.standing count) }
-    ensures counted { OnOk result (K.again ≡ true → AreCountedOn (run_of V.moves anneal.old) plan.now.batch anneal.old anneal.new) }
+    ensures stands { OnOk result
+        (anneal.new.standing ≡ from (run_of V.moves anneal.old) anneal.old.standing count) }
+    ensures accepted { OnOk result
+        (anneal.new.accepted ≡
+        anneal.old.accepted ++
+        accepted_among (run_of V.moves anneal.old) anneal.old.standing count) }
+    ensures counted { OnOk result (K.again ≡ true →
+        AreCountedOn (run_of V.moves anneal.old) plan.now.batch anneal.old anneal.new) }
     ensures dial { shower.new.dial ≡ shower.old.dial }
-    ensures shown { OnOk result (EndsShown (run_of V.moves anneal.old) plan.now.batch anneal.old.standing anneal.new.standing shower.old.shown shower.new.shown) }
-    ensures shown_cut { OnErr result (LeadsShownWithin (run_of V.moves anneal.old) plan.now.batch anneal.old.standing count shower.old.shown shower.new.shown) }
+    ensures shown { OnOk result
+        (EndsShown (run_of V.moves anneal.old) plan.now.batch anneal.old.standing
+        anneal.new.standing shower.old.shown shower.new.shown) }
+    ensures shown_cut { OnErr result
+        (LeadsShownWithin (run_of V.moves anneal.old) plan.now.batch anneal.old.standing count
+        shower.old.shown shower.new.shown) }
 {
     make_moves(rt, anneal, count, ahead, plan, shower)
 }
@@ -191,17 +206,28 @@ pub(crate) fn make_rest<
     plan: &StagePlan<'_, G>,
     shower: &mut Shower,
 ) -> Result<(), AllocError>
-    requires left { (left ≡ moves_left (run_of V.moves anneal.old) anneal.old.standing) × (0 < left) }
+    requires left { (left ≡ moves_left (run_of V.moves anneal.old) anneal.old.standing) ×
+        (0 < left) }
     requires own { shower.old.dial ≡ plan.now.dial.now }
-    requires limits { (1 ≤ plan.now.batch) × (plan.now.batch ≤ 4096) × (1 ≤ plan.now.workers) × (plan.now.workers ≤ 64) }
+    requires limits { (1 ≤ plan.now.batch) × (plan.now.batch ≤ 4096) × (1 ≤ plan.now.workers) ×
+        (plan.now.workers ≤ 64) }
     ensures same { IsSameRun anneal.old anneal.new }
-    ensures turns { OnOk result (K.again ≡ true → LeadsByTurns (run_of V.moves anneal.old) plan.now.batch anneal.old anneal.new) }
-    ensures stands { OnOk result (anneal.new.standing ≡ from (run_of V.moves anneal.old) anneal.old.standing left) }
+    ensures turns { OnOk result (K.again ≡ true →
+        LeadsByTurns (run_of V.moves anneal.old) plan.now.batch anneal.old anneal.new) }
+    ensures stands { OnOk result
+        (anneal.new.standing ≡ from (run_of V.moves anneal.old) anneal.old.standing left) }
     ensures done { OnOk result (anneal.new.standing.done ≡ anneal.old.standing.done + left) }
-    ensures accepted { OnOk result (anneal.new.accepted ≡ anneal.old.accepted ++ accepted_among (run_of V.moves anneal.old) anneal.old.standing left) }
+    ensures accepted { OnOk result
+        (anneal.new.accepted ≡
+        anneal.old.accepted ++
+        accepted_among (run_of V.moves anneal.old) anneal.old.standing left) }
     ensures dial { shower.new.dial ≡ shower.old.dial }
-    ensures shown { OnOk result (LeadsShown (run_of V.moves anneal.old) plan.now.batch anneal.old.standing anneal.new.standing shower.old.shown shower.new.shown) }
-    ensures shown_cut { OnErr result (LeadsShownWithin (run_of V.moves anneal.old) plan.now.batch anneal.old.standing left shower.old.shown shower.new.shown) }
+    ensures shown { OnOk result
+        (LeadsShown (run_of V.moves anneal.old) plan.now.batch anneal.old.standing
+        anneal.new.standing shower.old.shown shower.new.shown) }
+    ensures shown_cut { OnErr result
+        (LeadsShownWithin (run_of V.moves anneal.old) plan.now.batch anneal.old.standing left
+        shower.old.shown shower.new.shown) }
 {
     make_moves(rt, anneal, left, ahead, plan, shower)
 }
@@ -223,17 +249,39 @@ fn end_stage<V: Words + Send + Sync + Drop, K: Keeping, G: Gate, R: Threads + Wa
     requires moves { moves ≡ anneal.old.plan.moves }
     requires some { 1 ≤ moves }
     requires own { shower.old.dial ≡ plan.now.dial.now }
-    requires limits { (1 ≤ plan.now.batch) × (plan.now.batch ≤ 4096) × (1 ≤ plan.now.workers) × (plan.now.workers ≤ 64) }
+    requires limits { (1 ≤ plan.now.batch) × (plan.now.batch ≤ 4096) × (1 ≤ plan.now.workers) ×
+        (plan.now.workers ≤ 64) }
     ensures same { IsSameRun anneal.old anneal.new }
-    ensures turns { OnOk result (K.again ≡ true → LeadsByTurns (run_of V.moves anneal.old) plan.now.batch anneal.old anneal.new) }
-    ensures stands { OnOk result (anneal.new.standing ≡ from (run_of V.moves anneal.old) anneal.old.standing (moves_left (run_of V.moves anneal.old) anneal.old.standing)) }
-    ensures done { OnOk result (anneal.new.standing.done ≡ anneal.old.standing.done + moves_left (run_of V.moves anneal.old) anneal.old.standing) }
-    ensures accepted { OnOk result (anneal.new.accepted ≡ anneal.old.accepted ++ accepted_among (run_of V.moves anneal.old) anneal.old.standing (moves_left (run_of V.moves anneal.old) anneal.old.standing)) }
-    ensures costs { OnOk result (costs.new.items ≡ costs.old.items ++ stage_costs (run_of V.moves anneal.old) anneal.old.standing (moves_left (run_of V.moves anneal.old) anneal.old.standing)) }
-    ensures line { IfOk result (λ v. v.items ≡ stage_lines (run_of V.moves anneal.old) anneal.old.standing (moves_left (run_of V.moves anneal.old) anneal.old.standing)) }
+    ensures turns { OnOk result (K.again ≡ true →
+        LeadsByTurns (run_of V.moves anneal.old) plan.now.batch anneal.old anneal.new) }
+    ensures stands { OnOk result
+        (anneal.new.standing ≡
+        from (run_of V.moves anneal.old) anneal.old.standing
+        (moves_left (run_of V.moves anneal.old) anneal.old.standing)) }
+    ensures done { OnOk result
+        (anneal.new.standing.done ≡
+        anneal.old.standing.done + moves_left (run_of V.moves anneal.old) anneal.old.standing) }
+    ensures accepted { OnOk result
+        (anneal.new.accepted ≡
+        anneal.old.accepted ++
+        accepted_among (run_of V.moves anneal.old) anneal.old.standing
+        (moves_left (run_of V.moves anneal.old) anneal.old.standing)) }
+    ensures costs { OnOk result
+        (costs.new.items ≡
+        costs.old.items ++
+        stage_costs (run_of V.moves anneal.old) anneal.old.standing
+        (moves_left (run_of V.moves anneal.old) anneal.old.standing)) }
+    ensures line { IfOk result (λ v.
+        v.items ≡ stage_lines (run_of V.moves anneal.old) anneal.old.standing
+        (moves_left (run_of V.moves anneal.old) anneal.old.standing)) }
     ensures dial { shower.new.dial ≡ shower.old.dial }
-    ensures shown { OnOk result (LeadsShown (run_of V.moves anneal.old) plan.now.batch anneal.old.standing anneal.new.standing shower.old.shown shower.new.shown) }
-    ensures shown_cut { OnErr result (LeadsShownWithin (run_of V.moves anneal.old) plan.now.batch anneal.old.standing (moves_left (run_of V.moves anneal.old) anneal.old.standing) shower.old.shown shower.new.shown) }
+    ensures shown { OnOk result
+        (LeadsShown (run_of V.moves anneal.old) plan.now.batch anneal.old.standing
+        anneal.new.standing shower.old.shown shower.new.shown) }
+    ensures shown_cut { OnErr result
+        (LeadsShownWithin (run_of V.moves anneal.old) plan.now.batch anneal.old.standing
+        (moves_left (run_of V.moves anneal.old) anneal.old.standing) shower.old.shown
+        shower.new.shown) }
 {
     let before = anneal.total();
     let _begun = anneal.done();
@@ -275,15 +323,26 @@ pub(crate) fn anneal_all<
     requires moves { pace.now.moves ≡ anneal.old.plan.moves }
     requires plan { IsLawful anneal.old.plan }
     requires own { shower.old.dial ≡ dial.now }
-    requires limits { (1 ≤ pace.now.batch) × (pace.now.batch ≤ 4096) × (1 ≤ pace.now.workers) × (pace.now.workers ≤ 64) }
+    requires limits { (1 ≤ pace.now.batch) × (pace.now.batch ≤ 4096) × (1 ≤ pace.now.workers) ×
+        (pace.now.workers ≤ 64) }
     ensures same { IsSameRun anneal.old anneal.new }
-    ensures made { OnOk result (AreMade V.moves K.again pace.now.stop pace.now.batch anneal.old anneal.new costs.old.items costs.new.items (W.contents report.old) (W.contents report.new)) }
-    ensures cut { IfErr result (AreCut (run_of V.moves anneal.old) anneal.old.standing pace.now.stop (W.contents report.old) (W.contents report.new)) }
+    ensures made { OnOk result
+        (AreMade V.moves K.again pace.now.stop pace.now.batch anneal.old anneal.new costs.old.items
+        costs.new.items (W.contents report.old) (W.contents report.new)) }
+    ensures cut { IfErr result
+        (AreCut (run_of V.moves anneal.old) anneal.old.standing pace.now.stop
+        (W.contents report.old) (W.contents report.new)) }
     ensures sound { OnOk result (W.failed report.new ≡ W.failed report.old) }
     ensures fault { IfErr result (IsReportFault (W.failed report.old) (W.failed report.new)) }
     ensures dial { shower.new.dial ≡ shower.old.dial }
-    ensures shown { OnOk result (shower.new.shown ≡ shower.old.shown ++ readings (run_of V.moves anneal.old) anneal.old.standing pace.now.batch (anneal.new.standing.done - anneal.old.standing.done)) }
-    ensures shown_cut { OnErr result (AreShownBegun (run_of V.moves anneal.old) anneal.old.standing pace.now.stop pace.now.batch shower.old.shown shower.new.shown) }
+    ensures shown { OnOk result
+        (shower.new.shown ≡
+        shower.old.shown ++
+        readings (run_of V.moves anneal.old) anneal.old.standing pace.now.batch
+        (anneal.new.standing.done - anneal.old.standing.done)) }
+    ensures shown_cut { OnErr result
+        (AreShownBegun (run_of V.moves anneal.old) anneal.old.standing pace.now.stop pace.now.batch
+        shower.old.shown shower.new.shown) }
 {
     let moves = pace.moves;
     let does_nothing = gate.does_nothing();

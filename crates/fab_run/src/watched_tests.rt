@@ -2,10 +2,10 @@
 ghost use Rattle.std.specs.Prelude.{◌≡◌, All, IfOk};
 
 use crate::asked_tests::{TWO_STAGES, ring, ring_of};
+use crate::fresh_run::annealer;
 use crate::piece::unwatched;
-use crate::placing::annealer;
 use crate::point_tests::SECOND;
-use crate::resuming::resume_run_shown;
+use crate::resumed_run::resume_run_shown;
 use crate::run_tests::{INPUTS, OPTIONS, PLACE, REPORT, SEVEN, SHORT, run_narrow, writer_with};
 use crate::setting::read_setting;
 use crate::{Inputs, Moves, Options, RunFault, place_run_shown};
@@ -110,7 +110,8 @@ fn watch<R: Wait + Abort>(rt: &R, dial: &Dial, mut watcher: Watcher, each: &[Rea
     watcher
 }
 
-// A run of turns of three moves, which two watchers read on threads of their own and which writes these bytes; the reading that is gathered.
+// A run of turns of three moves, which two watchers read on threads of their own and which writes these bytes; the reading that is
+// gathered.
 fn watched<R: AllocGlobal + Threads + Wait + Abort + Sync>(
     rt: &R,
     of_seven: bool,

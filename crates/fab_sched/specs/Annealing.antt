@@ -17,9 +17,11 @@ pub record Plan : Type 0 where
   pub cooling : Cooling
   pub moves : ℕ
 
+-- a plan of four values
 abbrev pub plan_of : ℕ → ℕ → Cooling → ℕ → Plan
 plan_of init exit cooling moves = record { init = init; exit = exit; cooling = cooling; moves = moves }
 
+-- a factor is from 1 to 999 thousandths
 abbrev pub IsCooling : Cooling → Type 0
 IsCooling (Factor f) = (1 ≤ f) × (f ≤ 999)
 IsCooling Adaptive = Unit {0}
@@ -31,9 +33,11 @@ pub record IsLawful (p : Plan) : Type 0 where
   pub cooling : IsCooling p.cooling
   pub moves : (1 ≤ p.moves) × (p.moves ≤ 1073741824)
 
+-- n is from 1 to high
 abbrev pub is_within : ℕ → ℕ → Bool
 is_within high n = nat_le 1 n && nat_le n high
 
+-- a factor is from 1 to 999 thousandths
 abbrev pub is_cooling : Cooling → Bool
 is_cooling (Factor f) = is_within 999 f
 is_cooling Adaptive = true
@@ -49,7 +53,7 @@ fault_of p =
     else Some ExitOutOfRange)
     else Some InitOutOfRange
 
--- a hot temperature, or the frozen stage's 0
+-- t, or 0, which is frozen, if t is below the exit temperature
 abbrev pub hot : Plan → ℕ → ℕ
 hot p t = if nat_lt t p.exit then 0 else t
 
@@ -57,7 +61,7 @@ hot p t = if nat_lt t p.exit then 0 else t
 unfoldable pub next_range : Plan → ℕ → ℕ → ℕ → ℕ
 next_range p side range accepted = max 1000 (min (1000 * side) (range * (560 * p.moves + 1000 * accepted) / (1000 * p.moves)))
 
--- VPR's factor by the share of accepted moves: fast if nearly all are accepted, slow in between; if few are accepted, slow
+-- VPR's factor in thousandths, by the share of accepted moves: fast if nearly all are accepted, slow in between; if few are accepted, slow
 -- while the range is above 1, and fast otherwise
 unfoldable pub adaptive_factor : ℕ → ℕ → ℕ → ℕ
 adaptive_factor moves range accepted =
@@ -66,6 +70,7 @@ adaptive_factor moves range accepted =
     (if nat_lt (15 * moves) (100 * accepted) then 950 else
     (if nat_lt 1000 range then 950 else 800)))
 
+-- the factor of a stage's end, in thousandths
 abbrev pub factor_by : Cooling → ℕ → ℕ → ℕ → ℕ
 factor_by (Factor f) moves range accepted = f
 factor_by Adaptive moves range accepted = adaptive_factor moves range accepted
@@ -88,6 +93,7 @@ abbrev pub heat_by : Plan → ℕ → ℕ → Option ℕ
 heat_by p f zero = Some (hot p p.init)
 heat_by p f (suc x) = cooled p f (heat_by p f x)
 
+-- the temperature at an index, where the cooling tells it; none if it is adaptive
 abbrev pub heat_with : Cooling → Plan → ℕ → Option ℕ
 heat_with (Factor f) p x = heat_by p f x
 heat_with Adaptive p x = None
@@ -100,9 +106,11 @@ heat_at p x = heat_with p.cooling p x
 abbrev pub fresh : ℕ → ℕ → ℕ → Stage
 fresh index t range = record { index = index; t = t; range = range; done = 0; accepted = 0; frozen = t == 0 }
 
+-- the first stage, with the whole array as range
 abbrev pub first_stage : Plan → ℕ → Stage
 first_stage p side = fresh 0 (hot p p.init) (1000 * side)
 
+-- a stage before its first move, if it has a temperature
 abbrev pub fresh_at : ℕ → ℕ → Option ℕ → Option Stage
 fresh_at index range None = None
 fresh_at index range (Some t) = Some (fresh index t range)
@@ -117,6 +125,7 @@ abbrev pub MayCoolTo : Plan → ℕ → ℕ → Type 0
 MayCoolTo p zero t = t ≡ hot p p.init
 MayCoolTo p (suc x) t = (p.exit + x ≤ p.init) × ((t ≡ 0) ⊎ ((p.exit ≤ t) × (t + suc x ≤ p.init)))
 
+-- a stage of this index may have temperature t
 abbrev pub MayStandBy : Cooling → Plan → ℕ → ℕ → Type 0
 MayStandBy (Factor f) p x t = heat_by p f x ≡ Some t
 MayStandBy Adaptive p x t = MayCoolTo p x t
@@ -131,6 +140,7 @@ abbrev pub IsLastBy : Cooling → Plan → ℕ → Type 0
 IsLastBy (Factor f) p x = heat_by p f x ≡ Some 0
 IsLastBy Adaptive p x = x ≡ (if nat_lt p.init p.exit then 0 else p.init - p.exit + 1)
 
+-- x is the greatest index that a stage of the schedule can have
 abbrev pub IsLastIndex : Plan → ℕ → Type 0
 IsLastIndex p x = IsLastBy p.cooling p x
 
@@ -142,6 +152,6 @@ pub record IsStage (p : Plan) (side : ℕ) (s : Stage) : Type 0 where
   pub done : s.done ≤ p.moves
   pub frozen : s.frozen ≡ (s.t == 0)
 
--- a lawful stage is followed by a lawful one that is colder, or by none
+-- the next stage, if any, is one that a run may have, and colder
 abbrev pub GoesOnColder : Plan → ℕ → Stage → ℕ → Type 0
 GoesOnColder p side s accepted = IfSome (stage_after p side s accepted) (λ next. IsStage p side next × (next.t < s.t))

@@ -1,3 +1,4 @@
+-- The definitions of fab_sched, by file.
 pub mod Annealing
 pub mod Examples
 pub mod FaultTexts

@@ -8,10 +8,10 @@ use crate::fault::SchedFault;
 
 const MOST_MOVES: u64 = 1_073_741_824;
 
-#[tactic(auto, using(crate::proofs::Cubes::moves_are, crate::proofs::Cubes::moves_below))]
 /// The moves of a stage by VPR's rule: `inner` · `blocks`^(4/3), rounded down, and at least 1.
 ///
 /// `MovesOutOfRange` if `inner` is outside 1 to 10,000, or if the moves would be above 1,073,741,824.
+#[tactic(auto, using(crate::proofs::Cubes::moves_are, crate::proofs::Cubes::moves_below))]
 pub fn moves_of(inner: u64, blocks: u32) -> Result<u64, SchedFault>
     requires { blocks ≤ 65535 }
     ensures found { IfOk result (AreMoves inner blocks) }
@@ -34,8 +34,8 @@ fn is_inner(inner: u64) -> bool
     (1..=10_000).contains(&inner)
 }
 
-#[tactic(auto, using(crate::proofs::Cubes::cube_small, crate::proofs::Cubes::product_fits))]
 /// The cube of the moves of a stage, before rounding.
+#[tactic(auto, using(crate::proofs::Cubes::cube_small, crate::proofs::Cubes::product_fits))]
 fn cube_of_moves(inner: u64, blocks: u32) -> u128
     requires inner { inner ≤ 10000 }
     requires blocks { blocks ≤ 65535 }

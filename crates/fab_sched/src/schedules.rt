@@ -50,7 +50,8 @@ impl Model for Schedule {
 
     ghost view = { λ s. plan_of s.init_t s.exit_t s.cooling s.moves };
 
-    ghost inverse = { λ p. record { init_t = p.init; exit_t = p.exit; cooling = p.cooling; moves = p.moves } };
+    ghost inverse = { λ p.
+        record { init_t = p.init; exit_t = p.exit; cooling = p.cooling; moves = p.moves } };
 
     ghost invariant = { λ s. IsLawful (plan_of s.init_t s.exit_t s.cooling s.moves) };
 }
@@ -72,8 +73,8 @@ fn is_lawful_cooling(cooling: Cooling) -> bool
     }
 }
 
-#[tactic(auto, unfolding(crate::specs::Annealing::adaptive_factor))]
 /// VPR's factor after a stage with this range and this number of accepted moves, in thousandths.
+#[tactic(auto, unfolding(crate::specs::Annealing::adaptive_factor))]
 fn factor_by_acceptance(moves: u64, range: u64, accepted: u64) -> u64
     requires moves { moves ≤ 1073741824 }
     requires accepted { accepted ≤ moves }
@@ -111,7 +112,8 @@ impl Schedule {
     pub fn new(init_t: u64, exit_t: u64, alpha: u64, moves: u64) -> Result<Schedule, SchedFault>
         ensures plan { IfOk result (λ s. s ≡ plan_of init_t exit_t (Factor alpha) moves) }
         ensures limits { IsOk result ↔ IsLawful (plan_of init_t exit_t (Factor alpha) moves) }
-        ensures fault { IfErr result (λ e. fault_of (plan_of init_t exit_t (Factor alpha) moves) ≡ Some e) }
+        ensures fault { IfErr result (λ e.
+            fault_of (plan_of init_t exit_t (Factor alpha) moves) ≡ Some e) }
     {
         Schedule::with_cooling(init_t, exit_t, Cooling::Factor(alpha), moves)
     }
@@ -120,7 +122,8 @@ impl Schedule {
     pub fn adaptive(init_t: u64, exit_t: u64, moves: u64) -> Result<Schedule, SchedFault>
         ensures plan { IfOk result (λ s. s ≡ plan_of init_t exit_t Adaptive moves) }
         ensures limits { IsOk result ↔ IsLawful (plan_of init_t exit_t Adaptive moves) }
-        ensures fault { IfErr result (λ e. fault_of (plan_of init_t exit_t Adaptive moves) ≡ Some e) }
+        ensures fault { IfErr result (λ e.
+            fault_of (plan_of init_t exit_t Adaptive moves) ≡ Some e) }
     {
         Schedule::with_cooling(init_t, exit_t, Cooling::Adaptive, moves)
     }
@@ -133,7 +136,8 @@ impl Schedule {
     ) -> Result<Schedule, SchedFault>
         ensures plan { IfOk result (λ s. s ≡ plan_of init_t exit_t cooling moves) }
         ensures limits { IsOk result ↔ IsLawful (plan_of init_t exit_t cooling moves) }
-        ensures fault { IfErr result (λ e. fault_of (plan_of init_t exit_t cooling moves) ≡ Some e) }
+        ensures fault { IfErr result (λ e.
+            fault_of (plan_of init_t exit_t cooling moves) ≡ Some e) }
     {
         if !is_from_one(LARGEST, init_t) {
             return Err(SchedFault::InitOutOfRange);
@@ -224,9 +228,9 @@ impl Schedule {
         t == 0 || (self.exit_t <= t && t <= self.init_t && x <= self.init_t - t)
     }
 
-    #[tactic(auto, using(crate::proofs::Falling::last_of, crate::proofs::Falling::greatest, crate::proofs::Falling::greatest_of, crate::proofs::Falling::reached, crate::proofs::Falling::moves_bound))]
     /// The greatest index that a stage can have: the number of hot temperatures, or, if they depend on acceptance,
     /// the greatest number there can be.
+    #[tactic(auto, using(crate::proofs::Falling::last_of, crate::proofs::Falling::greatest, crate::proofs::Falling::greatest_of, crate::proofs::Falling::reached, crate::proofs::Falling::moves_bound))]
     pub fn last_index(&self) -> u64
         ensures last { IsLastIndex self.now result }
         ensures reached { MayStand self.now result 0 }
@@ -254,9 +258,9 @@ impl Schedule {
         fresh_stage(0, self.hot(self.init_t), 1000 * u64::from(side))
     }
 
-    #[tactic(auto, using(crate::proofs::Falling::lawful_on))]
     /// The stage after one that ended with `accepted` accepted moves, on an array whose longer side is `side`:
     /// `None` after the frozen stage.
+    #[tactic(auto, using(crate::proofs::Falling::lawful_on))]
     pub fn next_stage(&self, stage: &Stage, accepted: u64, side: u16) -> Option<Stage>
         requires side { (1 ≤ side) × (side ≤ 1000) }
         requires stage { IsStage self.now side stage.now }
@@ -266,11 +270,12 @@ impl Schedule {
         ensures falls { IfSome result (λ next. next.t < stage.now.t) }
         ensures ends { (result ≡ None) ↔ IsTrue stage.now.frozen }
     {
-        self.stage_behind(stage, accepted, side)
+        self.following_stage(stage, accepted, side)
     }
 
+    /// The body of `next_stage`, whose other clauses follow from the stage's.
     #[tactic(auto, using(crate::proofs::Falling::index_below, crate::proofs::Falling::heat_below, crate::proofs::Falling::product_fits))]
-    fn stage_behind(&self, stage: &Stage, accepted: u64, side: u16) -> Option<Stage>
+    fn following_stage(&self, stage: &Stage, accepted: u64, side: u16) -> Option<Stage>
         requires side { (1 ≤ side) × (side ≤ 1000) }
         requires stage { IsStage self.now side stage.now }
         requires accepted { accepted ≤ self.now.moves }
@@ -287,7 +292,7 @@ impl Schedule {
         Some(fresh_stage(stage.index + 1, t, range))
     }
 
-    /// A temperature, or 0 if it is not run.
+    /// The temperature, or 0, that of the frozen stage, if it is below the last one.
     fn hot(&self, t: u64) -> u64
         ensures { result ≡ hot self.now t }
     {
@@ -305,9 +310,9 @@ impl Schedule {
         }
     }
 
-    #[tactic(auto, unfolding(crate::specs::Annealing::next_range))]
     /// The range after a stage with range `range` and `accepted` accepted moves, on an array whose longer side is
     /// `side`, in thousandths. It is defined after the frozen stage too.
+    #[tactic(auto, unfolding(crate::specs::Annealing::next_range))]
     pub fn next_range(&self, side: u16, range: u64, accepted: u64) -> u64
         requires side { (1 ≤ side) × (side ≤ 1000) }
         requires range { range ≤ 1000 * side }
@@ -334,8 +339,8 @@ impl Schedule {
         Some(t)
     }
 
-    #[tactic(auto, using(crate::proofs::Falling::hot_le, crate::proofs::Falling::product_fits, crate::proofs::Falling::cooler, crate::proofs::Falling::next_heat_by, crate::proofs::Falling::heat_falls))]
     /// The index of the frozen stage.
+    #[tactic(auto, using(crate::proofs::Falling::hot_le, crate::proofs::Falling::product_fits, crate::proofs::Falling::cooler, crate::proofs::Falling::next_heat_by, crate::proofs::Falling::heat_falls))]
     fn frozen_index(&self, factor: u64) -> u64
         requires { factor ≤ 999 }
         ensures frozen { heat_by self.now factor result ≡ Some 0 }
@@ -353,7 +358,9 @@ impl Schedule {
 
 /// The law that every run has lawful stages, each colder than the one before, and fewer than 2^61 moves in all.
 pub fn stages_are_lawful()
-    ensures first { (p : Plan) (side : ℕ) → IsLawful p → 1 ≤ side → IsStage p side (first_stage p side) }
-    ensures next { (p : Plan) (side : ℕ) (s : Stage) (accepted : ℕ) → IsLawful p → 1 ≤ side → IsStage p side s → GoesOnColder p side s accepted }
+    ensures first { (p : Plan) (side : ℕ) → IsLawful p → 1 ≤ side →
+        IsStage p side (first_stage p side) }
+    ensures next { (p : Plan) (side : ℕ) (s : Stage) (accepted : ℕ) → IsLawful p → 1 ≤ side →
+        IsStage p side s → GoesOnColder p side s accepted }
     ensures few { (p : Plan) (x t : ℕ) → IsLawful p → MayStand p x t → (x + 1) * p.moves < 2 ^ 61 }
 {}

@@ -9,8 +9,8 @@ use Rattle.fab_arch.specs.declared.array.Site.{Site}
 use Rattle.fab_arch.specs.declared.array.SiteKind.{SiteKind}
 use Rattle.fab_arch.specs.declared.array.SiteKind.TheVariants as site_kind
 use Rattle.fab_arch.specs.Grid.{GridShape, kind_at, Holds}
-use Rattle.fab_net.specs.declared.pieces.BlockKind.{BlockKind}
-use Rattle.fab_net.specs.declared.pieces.BlockKind.TheVariants.{Logic}
+use Rattle.fab_net.specs.declared.netlist_types.BlockKind.{BlockKind}
+use Rattle.fab_net.specs.declared.netlist_types.BlockKind.TheVariants.{Logic}
 use Rattle.fab_net.specs.Netlist.{Netlist, is_logic, logic_count, pad_count}
 use Rattle.fab_site.specs.Placement.{site_of, fixed_at, AreApart, IsLegal}
 use Rattle.fab_site.specs.Draft.{NoneShared}

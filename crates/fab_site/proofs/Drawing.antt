@@ -13,7 +13,7 @@ use Rattle.std.proofs.lemmas.List.Sums.{length-filter, count_by-le-length}
 use Rattle.std.proofs.Math.Nat.{mul-le-mul_right}
 use Rattle.fab_arch.specs.declared.array.Site.{Site}
 use Rattle.fab_arch.specs.Grid.{GridShape, perimeter}
-use Rattle.fab_net.specs.declared.pieces.BlockKind.{BlockKind}
+use Rattle.fab_net.specs.declared.netlist_types.BlockKind.{BlockKind}
 use Rattle.fab_net.specs.Netlist.{Netlist, is_logic}
 use Rattle.fab_site.specs.Placement.{site, same_site, site_of}
 use Rattle.fab_site.specs.Draft.{holder_from, holder_of}

@@ -10,7 +10,7 @@ use Rattle.std.proofs.Math.Nat.{div-lt_iff_lt-mul, mul-lt-mul_of_pos_left}
 use Rattle.fab_arch.specs.declared.array.Site.{Site}
 use Rattle.fab_arch.specs.declared.array.SiteKind.{SiteKind}
 use Rattle.fab_arch.specs.Grid.{GridShape, kind_at}
-use Rattle.fab_net.specs.declared.pieces.BlockKind.{BlockKind}
+use Rattle.fab_net.specs.declared.netlist_types.BlockKind.{BlockKind}
 use Rattle.fab_site.specs.Placement.{nowhere, same_site, site_of, AreApart}
 use Rattle.fab_site.specs.Draft.{is_site, holder_from, holder_of}
 use Rattle.fab_site.specs.Words.{pick_of}

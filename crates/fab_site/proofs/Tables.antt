@@ -6,7 +6,7 @@ use Rattle.std.proofs.lemmas.List.{get_or-set_same, get_or-set_other, length-set
 use Rattle.std.proofs.Math.Nat.{mul-le-mul_right}
 use Rattle.fab_arch.specs.declared.array.Site.{Site}
 use Rattle.fab_arch.specs.Grid.{GridShape, is_logic_site}
-use Rattle.fab_net.specs.declared.pieces.BlockId.{BlockId}
+use Rattle.fab_net.specs.declared.netlist_types.BlockId.{BlockId}
 use Rattle.fab_site.specs.Placement.{site_of, same_site, nowhere, at, at_from, AreApart}
 use Rattle.fab_site.specs.Index.{place_of, pad_index, index_of, site_count, held, IsIndexed}
 use Rattle.fab_site.proofs.Sites.{logic_bounds}

@@ -2,14 +2,16 @@
 use Rattle.std.specs.Prelude.{ℕ, ◌≡◌, ◌+◌, ◌≤◌, Bool, false, if◌then◌else◌, List, [], ◌∷◌, length, is_some, not, Option, Some, None, slice_get, refl}
 use Rattle.fab_arch.specs.declared.array.Site.{Site}
 use Rattle.fab_arch.specs.Grid.{GridShape}
-use Rattle.fab_net.specs.declared.pieces.BlockId.{BlockId}
+use Rattle.fab_net.specs.declared.netlist_types.BlockId.{BlockId}
 use Rattle.fab_site.specs.Placement.{same_site, site}
 use Rattle.fab_site.specs.Index.{index_of, site_count, held}
 
+-- an unfinished placement: an array, and for each block its site, if it has one
 pub record DraftOf : Type 0 where
   pub grid : GridShape
   pub sites : List (Option Site)
 
+-- the block has this site
 abbrev pub is_site : Option Site → Site → Bool
 is_site None site = false
 is_site (Some s) site = same_site s site
@@ -23,6 +25,7 @@ holder_from n (s ∷ sites) site = if is_site s site then Some (record { 0 = n }
 abbrev pub holder_of : List (Option Site) → Site → Option BlockId
 holder_of sites site = holder_from 0 sites site
 
+-- the block has no site
 abbrev pub is_missing : Option Site → Bool
 is_missing s = not (is_some s)
 

@@ -3,7 +3,7 @@ use Rattle.std.specs.Prelude.{ℕ, zero, suc, ◌≡◌, ◌<◌, [], ◌∷◌,
 use Rattle.std.proofs.Common.{sym, ap, ◌∙◌, arith, lit<}
 use Rattle.fab_arch.specs.declared.array.Site.{Site}
 use Rattle.fab_arch.specs.Grid.{GridShape, shape}
-use Rattle.fab_net.specs.declared.pieces.BlockKind.TheVariants.{InputPad, Logic}
+use Rattle.fab_net.specs.declared.netlist_types.BlockKind.TheVariants.{InputPad, Logic}
 use Rattle.fab_net.specs.Netlist.{Netlist}
 use Rattle.fab_site.specs.Placement.{Fits, fixed_at, site, site_of, IsLegal}
 use Rattle.fab_site.specs.Pins.{ArePins, given_at}

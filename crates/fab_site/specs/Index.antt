@@ -2,7 +2,7 @@
 use Rattle.std.specs.Prelude.{ℕ, ◌≡◌, ◌+◌, ◌-◌, ◌*◌, ◌≤◌, if◌then◌else◌, nat_lt, nat_le, ◌&&◌, ◌==◌, List, length, Option, Some, None, slice_index, refl}
 use Rattle.fab_arch.specs.declared.array.Site.{Site}
 use Rattle.fab_arch.specs.Grid.{GridShape, shape, is_logic_site}
-use Rattle.fab_net.specs.declared.pieces.BlockId.{BlockId}
+use Rattle.fab_net.specs.declared.netlist_types.BlockId.{BlockId}
 use Rattle.fab_site.specs.Placement.{AreApart, at, site}
 
 -- the number of the position at (x, y) in perimeter order
@@ -12,6 +12,7 @@ place_of nx ny x y =
     else if nat_le 1 x && nat_le x nx then (if y == ny + 1 then Some (ny + (x - 1)) else if y == 0 then Some (ny + nx + ny + (nx - x)) else None)
     else None
 
+-- the index of a pad site, from its position's place on the perimeter and its sub
 abbrev pub pad_index : GridShape → ℕ → Option ℕ → Option ℕ
 pad_index g sub None = None
 pad_index g sub (Some place) = if nat_lt sub g.io_rat then Some (g.nx * g.ny + (place * g.io_rat + sub)) else None
@@ -24,6 +25,7 @@ index_of g s = if is_logic_site g s then Some ((s.y - 1) * g.nx + (s.x - 1)) els
 abbrev pub site_count : GridShape → ℕ
 site_count g = g.nx * g.ny + (g.ny + g.nx + g.ny + g.nx) * g.io_rat
 
+-- the block whose number plus 1 the table has; none for 0
 abbrev pub block_from : ℕ → Option BlockId
 block_from n = if n == 0 then None else Some (record { 0 = n - 1 })
 
@@ -37,7 +39,7 @@ abbrev pub number_for : Option BlockId → ℕ
 number_for None = 0
 number_for (Some b) = b.0 + 1
 
--- the table holds the block on each site
+-- the table has an entry for each site, which holds the block there; there are at most 65,535 blocks, no two on one site
 pub record IsIndexed (g : GridShape) (sites : List Site) (holders : List ℕ) : Type 0 where
   pub size : length holders ≡ site_count g
   pub few : length sites ≤ 65535

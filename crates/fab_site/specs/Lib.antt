@@ -1,3 +1,4 @@
+-- The definitions of fab_site, by file.
 pub mod Placement
 pub mod Index
 pub mod Draft

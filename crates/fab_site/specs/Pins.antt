@@ -1,11 +1,12 @@
--- What a location file says (fixing after the VPR manual's pad file; that any block may be fixed, or only begun, is our
--- own). Given sites are two lists by block number that may end early: of fixed blocks, and of begun ones.
+-- The sites that blocks have before the first move: two lists by block number that may end early, of fixed blocks, and of begun ones
+-- (fixing after the VPR manual's pad file; that any block may be fixed, or only begun, is our own).
 use Rattle.std.specs.Prelude.{ℕ, ◌≡◌, ◌<◌, true, List, [], ◌∷◌, length, is_some, Option, Some, None, refl}
 use Rattle.fab_arch.specs.declared.array.Site.{Site}
 use Rattle.fab_arch.specs.Grid.{GridShape}
 use Rattle.fab_net.specs.Netlist.{Netlist}
 use Rattle.fab_site.specs.Placement.{Fits, fixed_at, site}
 
+-- the first site, or else the other
 abbrev pub either_site : Option Site → Option Site → Option Site
 either_site None other = other
 either_site (Some s) other = Some s
@@ -14,7 +15,7 @@ either_site (Some s) other = Some s
 abbrev pub given_at : List (Option Site) → List (Option Site) → ℕ → Option Site
 given_at fixed begun b = either_site (fixed_at fixed b) (fixed_at begun b)
 
--- the blocks are the netlist's, each at a site of its kind, and no block and no site occurs twice in both together
+-- given blocks are the netlist's, each at a site of its kind; no two have one site, and none is fixed and begun
 pub record ArePins (d : Netlist) (g : GridShape) (fixed begun : List (Option Site)) : Type 0 where
   pub within : (b : ℕ) (s : Site) → given_at fixed begun b ≡ Some s → b < length d.kinds
   pub fit : (b : ℕ) (s : Site) → given_at fixed begun b ≡ Some s → Fits d g b s

@@ -5,17 +5,19 @@ use Rattle.fab_arch.specs.declared.array.Site.{Site}
 use Rattle.fab_arch.specs.declared.array.SiteKind.{SiteKind}
 use Rattle.fab_arch.specs.declared.array.SiteKind.TheVariants as site_kind
 use Rattle.fab_arch.specs.Grid.{GridShape, shape, kind_at}
-use Rattle.fab_net.specs.declared.pieces.BlockId.{BlockId}
+use Rattle.fab_net.specs.declared.netlist_types.BlockId.{BlockId}
 use Rattle.fab_net.specs.Netlist.{Netlist, is_logic_at}
-use Rattle.fab_site.specs.declared.pieces.Swap.{Swap}
+use Rattle.fab_site.specs.declared.placement_types.Swap.{Swap}
 
 -- no site of any array, read past the end of a list
 abbrev pub nowhere : Site
 nowhere = record { x = 0; y = 0; sub = 0 }
 
+-- the two are one site
 abbrev pub same_site : Site → Site → Bool
 same_site a b = a.x == b.x && a.y == b.y && a.sub == b.sub
 
+-- the site of block b
 abbrev pub site_of : List Site → ℕ → Site
 site_of sites b = slice_index_or sites b nowhere
 
@@ -33,6 +35,7 @@ pub record PlacementOf : Type 0 where
   pub grid : GridShape
   pub sites : List Site
 
+-- the other block of a swap, if any, goes to the site
 abbrev pub with_other : List Site → Option BlockId → Site → List Site
 with_other sites None site = sites
 with_other sites (Some b) site = slice_set sites b.0 site
@@ -41,8 +44,8 @@ with_other sites (Some b) site = slice_set sites b.0 site
 abbrev pub swapped : List Site → Swap → List Site
 swapped sites s = with_other (slice_set sites s.block.0 s.to) s.other s.from
 
--- the swap is one of these sites (our own): its block is at `from` and goes to another site of the same kind, and
--- `other` is the block there, if any. `from` is a site of the array; so `to`, of the same kind, is one too
+-- the swap fits these sites (our own): its block is at `from` and goes to another site of the same kind, and `other` is the block there, if
+-- any. `from` is a site of the array; so `to`, of the same kind, is one too
 pub record IsSwapOf (g : GridShape) (sites : List Site) (s : Swap) : Type 0 where
   pub stands : slice_get sites s.block.0 ≡ Some s.from
   pub away : ¬ (s.to ≡ s.from)
@@ -58,6 +61,7 @@ kind_wanted d b = if is_logic_at d b then site_kind.Logic else site_kind.Pad
 abbrev pub Fits : Netlist → GridShape → ℕ → Site → Type 0
 Fits d g b s = kind_at g s ≡ Some (kind_wanted d b)
 
+-- the site, if there is one
 abbrev pub flat : Option (Option Site) → Option Site
 flat None = None
 flat (Some site) = site
@@ -77,6 +81,7 @@ pub record IsLegal (d : Netlist) (g : GridShape) (fixed : List (Option Site)) (s
   pub apart : AreApart sites
   pub stay : (b : ℕ) (s : Site) → fixed_at fixed b ≡ Some s → slice_get sites b ≡ Some s
 
+-- a site of three numbers
 abbrev pub site : ℕ → ℕ → ℕ → Site
 site x y sub = record { x = x; y = y; sub = sub }
 

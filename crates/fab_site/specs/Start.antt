@@ -4,8 +4,8 @@ use Rattle.std.specs.Prelude.{ℕ, ◌≡◌, ◌+◌, ◌*◌, not, filter, if�
 use Rattle.std.specs.List.{range_with_len, flat_map, swap_remove}
 use Rattle.fab_arch.specs.declared.array.Site.{Site}
 use Rattle.fab_arch.specs.Grid.{GridShape, shape, perimeter}
-use Rattle.fab_net.specs.declared.pieces.BlockKind.{BlockKind}
-use Rattle.fab_net.specs.declared.pieces.BlockKind.TheVariants.{InputPad, Logic}
+use Rattle.fab_net.specs.declared.netlist_types.BlockKind.{BlockKind}
+use Rattle.fab_net.specs.declared.netlist_types.BlockKind.TheVariants.{InputPad, Logic}
 use Rattle.fab_net.specs.Netlist.{Netlist, is_logic}
 use Rattle.fab_site.specs.Placement.{nowhere, site, site_of}
 use Rattle.fab_site.specs.Draft.{holder_of}
@@ -46,6 +46,7 @@ deal word i logic pads (None ∷ given) (k ∷ kinds) =
     if is_logic k then site_of logic (entry_of (word i) logic) ∷ deal word (i + 1) (without logic (entry_of (word i) logic)) pads given kinds
     else site_of pads (entry_of (word i) pads) ∷ deal word (i + 1) logic (without pads (entry_of (word i) pads)) given kinds
 
+-- a pad, not a logic block
 abbrev pub is_pad : BlockKind → Bool
 is_pad k = not (is_logic k)
 

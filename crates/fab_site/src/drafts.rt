@@ -2,7 +2,7 @@
 
 ghost use Rattle.std.specs.Prelude.{◌≡◌, ◌↔◌, ℕ, ◌+◌, ◌^◌, ◌<◌, ◌≤◌, length, map, replicate, is_some, position, slice_get, slice_set, None, Some, IsTrue, IfOk};
 ghost use Rattle.fab_arch.specs.Grid.{kind_at};
-ghost use Rattle.fab_net.specs.declared.pieces.BlockId.{BlockId};
+ghost use Rattle.fab_net.specs.declared.netlist_types.BlockId.{BlockId};
 ghost use Rattle.fab_site.specs.Draft.{holder_of, is_missing};
 ghost use Rattle.fab_site.specs.Index.{index_of, site_count};
 
@@ -70,7 +70,8 @@ impl Draft {
     /// The block that has this site, if any.
     pub fn at(&self, site: Site) -> Option<BlockId>
         ensures first { result ≡ holder_of self.now.sites site }
-        ensures stands { (b : BlockId) → (result ≡ Some b) ↔ (slice_get self.now.sites b.0 ≡ Some (Some site)) }
+        ensures stands { (b : BlockId) → (result ≡ Some b) ↔
+            (slice_get self.now.sites b.0 ≡ Some (Some site)) }
     {
         held(&self.holders, index_of(&self.grid, site))
     }
@@ -80,7 +81,8 @@ impl Draft {
         requires missing { slice_get self.old.sites block.0 ≡ Some None }
         requires there { IsTrue (is_some (kind_at self.old.grid site)) }
         requires free { holder_of self.old.sites site ≡ None }
-        ensures { self.new ≡ record self.old { sites = slice_set self.old.sites block.0 (Some site) } }
+        ensures { self.new ≡
+            record self.old { sites = slice_set self.old.sites block.0 (Some site) } }
     {
         enter(&self.grid, &mut self.holders, block, site);
         self.sites[block.0 as usize] = Some(site);
@@ -126,7 +128,8 @@ fn enter(grid: &Grid, holders: &mut Vec<u32>, block: BlockId, site: Site)
     requires size { length holders.old.items ≡ site_count grid.now }
     requires fits { block.0 + 1 < 2 ^ 32 }
     requires there { IsTrue (is_some (kind_at grid.now site)) }
-    ensures { (i : ℕ) → index_of grid.now site ≡ Some i → holders.new.items ≡ slice_set holders.old.items i (block.0 + 1) }
+    ensures { (i : ℕ) → index_of grid.now site ≡ Some i →
+        holders.new.items ≡ slice_set holders.old.items i (block.0 + 1) }
 {
     if let Some(index) = index_of(grid, site) {
         holders[index] = block.0 + 1;

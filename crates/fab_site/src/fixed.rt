@@ -49,7 +49,8 @@ impl Fixed {
     /// Fixes a block, which is not fixed yet, at a site. If memory runs out, the fixed blocks stay the same.
     pub fn fix(&mut self, block: BlockId, site: Site) -> Result<(), AllocError>
         requires { fixed_at self.old block.0 ≡ None }
-        ensures fixed { OnOk result ((b : ℕ) → fixed_at self.new b ≡ (if b == block.0 then Some site else fixed_at self.old b)) }
+        ensures fixed { OnOk result ((b : ℕ) →
+            fixed_at self.new b ≡ (if b == block.0 then Some site else fixed_at self.old b)) }
         ensures same { OnErr result ((b : ℕ) → fixed_at self.new b ≡ fixed_at self.old b) }
     {
         lengthen(&mut self.sites, &mut self.free, block.0 as usize + 1)?;
@@ -133,7 +134,8 @@ fn lengthen(
 
 /// Removes a number from an ascending list.
 fn take_out(numbers: &mut Vec<u32>, number: u32)
-    requires { (i j : ℕ) → i < j → j < length numbers.old.items → slice_index numbers.old.items i < slice_index numbers.old.items j }
+    requires { (i j : ℕ) → i < j → j < length numbers.old.items →
+        slice_index numbers.old.items i < slice_index numbers.old.items j }
     ensures { numbers.new.items ≡ filter (λ n. not (n == number)) numbers.old.items }
 {
     if let Ok(place) = numbers.binary_search(&number) {
@@ -146,7 +148,9 @@ fn put(sites: &mut Vec<Option<Site>>, free: &mut Vec<u32>, block: BlockId, site:
     requires within { block.0 < length sites.old.items }
     requires tied { free.old.items ≡ free_below sites.old.items (length sites.old.items) }
     ensures tied { free.new.items ≡ free_below sites.new.items (length sites.new.items) }
-    ensures fixed { (b : ℕ) → fixed_at sites.new.items b ≡ (if b == block.0 then Some site else fixed_at sites.old.items b) }
+    ensures fixed { (b : ℕ) →
+        fixed_at sites.new.items b ≡
+        (if b == block.0 then Some site else fixed_at sites.old.items b) }
 {
     take_out(free, block.0);
     sites[block.0 as usize] = Some(site);

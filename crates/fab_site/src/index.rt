@@ -3,7 +3,7 @@
 ghost use Rattle.std.specs.Prelude.{◌≡◌, ℕ, ◌+◌, ◌-◌, ◌*◌, ◌^◌, ◌<◌, ◌≤◌, Some};
 ghost use Rattle.fab_arch.specs.Grid.{shape, is_logic_site};
 ghost use Rattle.fab_site.specs.Index.{place_of, pad_index, index_of, site_count, held, number_for};
-ghost use Rattle.fab_net.specs.declared.pieces.BlockId.{BlockId};
+ghost use Rattle.fab_net.specs.declared.netlist_types.BlockId.{BlockId};
 
 use fab_arch::{Grid, Site};
 use fab_net::BlockId;

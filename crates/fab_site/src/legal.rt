@@ -1,4 +1,4 @@
-//! Whether a placement is legal.
+//! Whether a placement is legal. Tests alone call this.
 
 ghost use Rattle.std.specs.Prelude.{◌≡◌, ◌↔◌, ℕ, ◌<◌, length, if◌then◌else◌, slice_get, Some, IsTrue};
 ghost use Rattle.fab_arch.specs.declared.array.Site.{Site};
@@ -24,7 +24,8 @@ pub fn is_legal(design: &Design, grid: &Grid, fixed: &Fixed, placement: &Placeme
 /// Whether each block is on a site of its kind.
 fn all_fit(design: &Design, grid: &Grid, sites: &[Site]) -> bool
     requires { length sites.now ≡ length design.now.kinds }
-    ensures { IsTrue result ↔ ((b : ℕ) → b < length sites.now → Fits design.now grid.now b (site_of sites.now b)) }
+    ensures { IsTrue result ↔
+        ((b : ℕ) → b < length sites.now → Fits design.now grid.now b (site_of sites.now b)) }
 {
     for block in 0..sites.len() {
         if !fits(design, grid, block, sites[block]) {
@@ -59,7 +60,8 @@ fn wanted(kind: BlockKind) -> SiteKind
 
 /// Whether each fixed block is where it is fixed.
 fn all_stay(fixed: &[Option<Site>], sites: &[Site]) -> bool
-    ensures { IsTrue result ↔ ((b : ℕ) (s : Site) → fixed_at fixed.now b ≡ Some s → slice_get sites.now b ≡ Some s) }
+    ensures { IsTrue result ↔
+        ((b : ℕ) (s : Site) → fixed_at fixed.now b ≡ Some s → slice_get sites.now b ≡ Some s) }
 {
     for block in 0..fixed.len() {
         if !stays(fixed[block], sites, block) {

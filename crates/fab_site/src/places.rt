@@ -2,12 +2,12 @@
 
 ghost use Rattle.std.specs.Prelude.{◌≡◌, ◌↔◌, ℕ, ◌+◌, ◌^◌, ◌<◌, ◌≤◌, [], length, is_some, slice_get, slice_set, Some, IsTrue, IfOk};
 ghost use Rattle.fab_arch.specs.Grid.{kind_at};
-ghost use Rattle.fab_net.specs.declared.pieces.BlockId.{BlockId};
+ghost use Rattle.fab_net.specs.declared.netlist_types.BlockId.{BlockId};
 ghost use Rattle.fab_site.specs.Index.{IsIndexed, index_of, site_count, number_for};
 ghost use Rattle.fab_site.specs.Placement.{AreApart, IsLegal, IsSwapOf, swapped, site_of as site_of_block, at as block_at};
 
 use crate::index::{held, index_of, number_for, site_count};
-use crate::pieces::Swap;
+use crate::placement_types::Swap;
 use fab_arch::{Grid, Site};
 use fab_net::{BlockId, Design};
 use std::alloc::{AllocError, Global};
@@ -113,7 +113,8 @@ impl Placement {
     /// The block on a site, or `None` if the site is empty or none of the array's.
     pub fn at(&self, site: Site) -> Option<BlockId>
         ensures first { result ≡ block_at self.now.sites site }
-        ensures stands { (b : BlockId) → (result ≡ Some b) ↔ (slice_get self.now.sites b.0 ≡ Some site) }
+        ensures stands { (b : BlockId) → (result ≡ Some b) ↔
+            (slice_get self.now.sites b.0 ≡ Some site) }
     {
         held(&self.holders, index_of(&self.grid, site))
     }
@@ -144,16 +145,6 @@ impl Placement {
         change_places(&mut self.sites, swap);
     }
 
-    /// Makes this the same as another placement on its array, of as many blocks. Allocates nothing.
-    pub fn take_over(&mut self, from: &Placement)
-        requires array { self.old.grid ≡ from.now.grid }
-        requires blocks { length self.old.sites ≡ length from.now.sites }
-        ensures { self.new ≡ from.now }
-    {
-        self.sites.copy_from_slice(&from.sites);
-        self.holders.copy_from_slice(&from.holders);
-    }
-
     /// A copy of the placement.
     pub fn copy(&self) -> Result<Placement, AllocError>
         ensures { IfOk result (λ p. p ≡ self.now) }
@@ -169,7 +160,8 @@ impl Placement {
 /// The table of the block on each site.
 fn holders_of(alloc: Global, grid: &Grid, sites: &[Site]) -> Result<Vec<u32>, AllocError>
     requires few { length sites.now ≤ 65535 }
-    requires there { (b : ℕ) → b < length sites.now → IsTrue (is_some (kind_at grid.now (site_of_block sites.now b))) }
+    requires there { (b : ℕ) → b < length sites.now →
+        IsTrue (is_some (kind_at grid.now (site_of_block sites.now b))) }
     requires apart { AreApart sites.now }
     ensures { IfOk result (λ v. IsIndexed grid.now sites.now v.items) }
 {
@@ -187,7 +179,8 @@ fn set_holder(grid: &Grid, holders: &mut Vec<u32>, site: Site, holder: Option<Bl
     requires size { length holders.old.items ≡ site_count grid.now }
     requires fits { (b : BlockId) → holder ≡ Some b → b.0 + 1 < 2 ^ 32 }
     ensures size { length holders.new.items ≡ length holders.old.items }
-    ensures set { (i : ℕ) → index_of grid.now site ≡ Some i → holders.new.items ≡ slice_set holders.old.items i (number_for holder) }
+    ensures set { (i : ℕ) → index_of grid.now site ≡ Some i →
+        holders.new.items ≡ slice_set holders.old.items i (number_for holder) }
 {
     let number = number_for(holder);
     if let Some(index) = index_of(grid, site) {

@@ -5,7 +5,7 @@ use Rattle.std.specs.List.{AllByRecursion, before_first, position_or_len, list_a
 use Rattle.std.proofs.lemmas.Bool.{cases_Bool, eqb-true}
 use Rattle.std.proofs.lemmas.Bool.Decides.{nat_tests}
 use Rattle.std.proofs.lemmas.List.{get_or-take, get_or-drop, length-take, length-drop}
-use Rattle.fab_text.specs.declared.pieces.Span.{Span}
+use Rattle.fab_text.specs.declared.spans.Span.{Span}
 use Rattle.fab_text.specs.Lines.{Physical, Placed, is_separator, is_line_feed, is_hash, physical, put_first, content, is_continued, without_backslash, run, words_at, words_of, joined, join_first, bytes_at, line_of, lines_from}
 use Rattle.fab_text.specs.LineWords.{is_mark, can_be_word, AreWords, LinesHaveWords}
 use Rattle.fab_text.proofs.Physical.{IsFront, take-front, front_le, front_of_front, trimmed-front, content-front}

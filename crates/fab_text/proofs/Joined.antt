@@ -1,7 +1,7 @@
 -- Lines that a backslash continues.
 use Rattle.std.proofs.Common.{◌≡◌, ℕ, ◌+◌, ◌<◌, Bool, true, false, cond, List, [], ◌∷◌, ◌++◌, length, drop, refl, sym, ap, ◌∙◌, arith, append_assoc}
 use Rattle.std.proofs.lemmas.List.{drop_all, length-drop}
-use Rattle.fab_text.specs.declared.pieces.Span.{Span}
+use Rattle.fab_text.specs.declared.spans.Span.{Span}
 use Rattle.fab_text.specs.Lines.{Physical, Placed, physical, content, is_continued, words_of, joined, join_first}
 use Rattle.fab_text.specs.Steps.{IsNextLine}
 use Rattle.fab_text.proofs.Physical.{begins_any}

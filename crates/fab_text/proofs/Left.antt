@@ -1,7 +1,7 @@
 -- The lines of a text that are left.
 use Rattle.std.proofs.Common.{◌≡◌, ℕ, ◌<◌, ◌≤◌, List, [], ◌∷◌, length, drop, refl, arith}
 use Rattle.std.proofs.lemmas.List.{drop_all}
-use Rattle.fab_text.specs.declared.pieces.Span.{Span}
+use Rattle.fab_text.specs.declared.spans.Span.{Span}
 use Rattle.fab_text.specs.Lines.{line_of, physical, joined, lines_from}
 
 pub without_words : (text : List ℕ) (place n next after : ℕ) (spans : List Span) → joined n (physical place (drop place text)) ≡ record { number = n; spans = spans } ∷ joined after (physical next (drop next text))

@@ -7,7 +7,7 @@ use Rattle.std.proofs.lemmas.List.Elements.{filter-append}
 use Rattle.std.proofs.lemmas.List.Sums.{sum_by-cons}
 use Rattle.std.specs.Prelude.{filter, count_by}
 use Rattle.std.specs.List.{AllByRecursion}
-use Rattle.fab_text.specs.declared.pieces.Span.{Span}
+use Rattle.fab_text.specs.declared.spans.Span.{Span}
 use Rattle.fab_text.specs.Lines.{Physical, Placed, is_line_feed, physical, put_first, content, is_continued, words_of, joined, join_first, has_words, bytes_at, line_of, lines_from}
 use Rattle.fab_text.specs.Numbering.{LineFeedsEndLines, TextsEndLines, ends_with_feed, goes_on, LineFeedsAreCounted, IsFirstNumber, FirstNumbersCount}
 use Rattle.fab_text.proofs.Clean.{IsClean, HasClean, front_clean, all_filter}

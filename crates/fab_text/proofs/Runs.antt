@@ -2,7 +2,7 @@
 use Rattle.std.proofs.Common.{◌≡◌, ℕ, ◌+◌, false, List, [], ◌∷◌, ◌++◌, length, arith}
 use Rattle.std.proofs.lemmas.Bool.Decides.{nat_tests}
 use Rattle.std.specs.List.{AllByRecursion}
-use Rattle.fab_text.specs.declared.pieces.Span.{Span}
+use Rattle.fab_text.specs.declared.spans.Span.{Span}
 use Rattle.fab_text.specs.Lines.{is_separator, run, words_at}
 use Rattle.fab_text.specs.Runs.{EndsWord, RunsAreWords}
 use Rattle.fab_text.proofs.Words.{BeginsFrom, run-ends, words-begin}

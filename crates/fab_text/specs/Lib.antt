@@ -1,3 +1,4 @@
+-- The definitions of fab_text, by file.
 pub mod Decimal
 pub mod Examples
 pub mod Failures

@@ -2,7 +2,7 @@
 -- lines are joined in detail is our own).
 use Rattle.std.specs.Prelude.{ℕ, ◌+◌, ◌-◌, Bool, true, false, not, ◌||◌, ◌==◌, List, [], ◌∷◌, ◌++◌, if◌then◌else◌, length, map, filter, slice_range, slice_index, take, drop}
 use Rattle.std.specs.List.{before_first, suffix_len}
-use Rattle.fab_text.specs.declared.pieces.Span.{Span}
+use Rattle.fab_text.specs.declared.spans.Span.{Span}
 
 -- a space, a tab or a carriage return
 abbrev pub is_separator : ℕ → Bool
@@ -77,6 +77,7 @@ abbrev pub joined : ℕ → List Physical → List Placed
 joined n [] = []
 joined n (p ∷ ps) = if is_continued (content p.bytes) then join_first n (words_of p) (joined (n + 1) ps) else record { number = n; spans = words_of p } ∷ joined (n + 1) ps
 
+-- the line has a word
 abbrev pub has_words : Placed → Bool
 has_words l = not (is_nil l.spans)
   where
@@ -94,6 +95,7 @@ pub record TextLine : Type 0 where
 abbrev pub bytes_at : List ℕ → Span → List ℕ
 bytes_at text s = slice_range text s.start s.stop
 
+-- a line with the words that its places have in the text
 abbrev pub line_of : List ℕ → Placed → TextLine
 line_of text l = record { number = l.number; words = map (bytes_at text) l.spans; spans = l.spans }
 

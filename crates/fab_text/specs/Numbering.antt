@@ -1,4 +1,4 @@
--- How a text is split into physical lines, and how its lines are numbered.
+-- How a text is split into physical lines, and how its lines are numbered (our own).
 use Rattle.std.specs.Prelude.{ℕ, ◌+◌, ◌<◌, ◌≡◌, Bool, true, false, List, [], ◌∷◌, ◌++◌, length, count_by, codes, refl}
 use Rattle.std.specs.List.{AllByRecursion}
 use Rattle.fab_text.specs.Lines.{Physical, Placed, is_line_feed, physical, trimmed, content, is_continued, joined, lines, lines_from}

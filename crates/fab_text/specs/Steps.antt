@@ -1,6 +1,6 @@
--- What the private steps of the reader do.
+-- What the private steps of the reader do (our own).
 use Rattle.std.specs.Prelude.{ℕ, ◌≡◌, Bool, List, ◌∷◌, ◌++◌, drop}
-use Rattle.fab_text.specs.declared.pieces.Span.{Span}
+use Rattle.fab_text.specs.declared.spans.Span.{Span}
 use Rattle.fab_text.specs.Lines.{Physical, physical, is_continued, content, words_of}
 
 -- the physical line at a place of a text: whether the next one continues it, a place from which the rest of the

@@ -4,12 +4,12 @@
 
 pub mod numbers;
 pub mod output;
-pub mod pieces;
 pub mod printing;
 pub mod reading;
+pub mod spans;
 
 pub use numbers::{NumFault, decimal};
 pub use output::{Counted, Sink, WriteFault, write_whole};
-pub use pieces::{Line, Span};
 pub use printing::{push_fixed3, push_fixed4, push_number};
 pub use reading::Lines;
+pub use spans::{Line, Span};

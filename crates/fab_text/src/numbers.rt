@@ -63,7 +63,8 @@ fn parts(text: &[u8], places: u32) -> (&[u8], &[u8])
 /// Appends the digits to those of `value`: the resulting number, if it fits in 64 bits.
 fn with_digits(value: u64, digits: &[u8]) -> Option<u64>
     requires { IsTrue (list_all is_ascii_digit digits.now) }
-    ensures { SomeIff result (digits_value_after 10 value digits.now < 2 ^ 64) (digits_value_after 10 value digits.now) }
+    ensures { SomeIff result (digits_value_after 10 value digits.now < 2 ^ 64)
+        (digits_value_after 10 value digits.now) }
 {
     let mut total = value;
     for digit in digits {
@@ -93,7 +94,8 @@ fn is_numeral(whole: &[u8], fraction: &[u8]) -> bool
 /// The number that digits write, times ten to the power of `rest`, if it fits in 64 bits.
 fn in_units(whole: &[u8], fraction: &[u8], rest: u32) -> Option<u64>
     requires { IsTrue (is_numeral (whole.now ++ fraction.now)) }
-    ensures { SomeIff result (digits_value 10 (whole.now ++ fraction.now) * 10 ^ rest < 2 ^ 64) (digits_value 10 (whole.now ++ fraction.now) * 10 ^ rest) }
+    ensures { SomeIff result (digits_value 10 (whole.now ++ fraction.now) * 10 ^ rest < 2 ^ 64)
+        (digits_value 10 (whole.now ++ fraction.now) * 10 ^ rest) }
 {
     let value = with_digits(0, whole)?;
     let value = with_digits(value, fraction)?;

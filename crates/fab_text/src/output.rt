@@ -118,7 +118,8 @@ impl<W: Write> Sink for Counted<W> {
 /// Writes all of the bytes. If a write fails, only a beginning of them has been written.
 pub fn write_whole<W: Sink>(out: &mut W, bytes: &[u8]) -> Result<(), WriteFault>
     ensures whole { OnOk result (Appends (W.contents out.old) (W.contents out.new) bytes.now) }
-    ensures beginning { OnErr result ((n : ℕ) × (n < length bytes.now) × Appends (W.contents out.old) (W.contents out.new) (take n bytes.now)) }
+    ensures beginning { OnErr result ((n : ℕ) × (n < length bytes.now) ×
+        Appends (W.contents out.old) (W.contents out.new) (take n bytes.now)) }
     ensures sound { OnOk result (W.failed out.new ≡ W.failed out.old) }
     ensures failed { OnErr result (W.failed out.new ≡ grown (W.failed out.old)) }
 {

@@ -10,7 +10,7 @@ ghost use Rattle.fab_text.specs.LineWords.{LinesHaveWords};
 ghost use Rattle.fab_text.specs.Shown.{shown};
 ghost use Rattle.fab_text.specs.Lines.{is_separator, is_hash, is_line_feed, trimmed, content, is_continued, words_at, bytes_at, physical, without_backslash, joined, lines, lines_from};
 
-use crate::pieces::{Line, Span};
+use crate::spans::{Line, Span};
 use memchr::memchr2;
 use std::alloc::{AllocError, Global};
 use std::marker::Model;
@@ -52,8 +52,12 @@ fn line_feed_place(rest: &[u8]) -> Option<usize>
 fn plain_line(rest: &[u8]) -> (&[u8], usize)
     requires { 0 < length rest.now }
     ensures line { result.0.now ≡ before_first is_line_feed rest.now }
-    ensures taken { (0 < result.1) × (result.1 ≤ length rest.now) × (length result.0.now ≤ result.1) }
-    ensures rest { (at : ℕ) → physical at rest.now ≡ record { start = at; bytes = result.0.now } ∷ physical (at + result.1) (drop result.1 rest.now) }
+    ensures taken { (0 < result.1) × (result.1 ≤ length rest.now) ×
+        (length result.0.now ≤ result.1) }
+    ensures rest { (at : ℕ) →
+        physical at rest.now ≡
+        record { start = at; bytes = result.0.now } ∷
+        physical (at + result.1) (drop result.1 rest.now) }
 {
     match line_feed_place(rest) {
         Some(i) => (&rest[..i], i + 1),
@@ -65,8 +69,12 @@ fn plain_line(rest: &[u8]) -> (&[u8], usize)
 fn first_line(rest: &[u8]) -> (&[u8], usize, &[u8])
     requires { 0 < length rest.now }
     ensures line { result.0.now ≡ before_first is_line_feed rest.now }
-    ensures taken { (0 < result.1) × (result.1 ≤ length rest.now) × (length result.0.now ≤ result.1) }
-    ensures rest { (at : ℕ) → physical at rest.now ≡ record { start = at; bytes = result.0.now } ∷ physical (at + result.1) (drop result.1 rest.now) }
+    ensures taken { (0 < result.1) × (result.1 ≤ length rest.now) ×
+        (length result.0.now ≤ result.1) }
+    ensures rest { (at : ℕ) →
+        physical at rest.now ≡
+        record { start = at; bytes = result.0.now } ∷
+        physical (at + result.1) (drop result.1 rest.now) }
     ensures before { result.2.now ≡ before_first is_hash result.0.now }
 {
     let Some(i) = memchr2(b'\n', b'#', rest) else {
@@ -83,9 +91,12 @@ fn first_line(rest: &[u8]) -> (&[u8], usize, &[u8])
 /// Whether the next line continues a physical line, and how many of its first bytes hold its words. `before` is what stands before its
 /// first `#`.
 fn kept_len(before: &[u8]) -> (bool, usize)
-    ensures continued { (line : List ℕ) → before.now ≡ before_first is_hash line → result.0 ≡ is_continued (content line) }
-    ensures within { (line : List ℕ) → before.now ≡ before_first is_hash line → result.1 ≤ length line }
-    ensures kept { (line : List ℕ) → before.now ≡ before_first is_hash line → take result.1 line ≡ without_backslash (content line) }
+    ensures continued { (line : List ℕ) → before.now ≡ before_first is_hash line →
+        result.0 ≡ is_continued (content line) }
+    ensures within { (line : List ℕ) → before.now ≡ before_first is_hash line →
+        result.1 ≤ length line }
+    ensures kept { (line : List ℕ) → before.now ≡ before_first is_hash line →
+        take result.1 line ≡ without_backslash (content line) }
 {
     let kept = trim_end(before);
     if is_continued(kept) {
@@ -145,7 +156,9 @@ impl<'a> Gathered<'a> {
         requires order { start ≤ stop }
         requires within { stop ≤ length self.old.text.now }
         ensures text { self.new.text.now ≡ self.old.text.now }
-        ensures spans { OnOk result (self.new.spans.items ≡ self.old.spans.items ++ record { start = start; stop = stop } ∷ []) }
+        ensures spans { OnOk result
+            (self.new.spans.items ≡
+            self.old.spans.items ++ record { start = start; stop = stop } ∷ []) }
     {
         self.words.push(&self.text[start..stop])?;
         if let Err(failed) = self.spans.push(Span { start, stop }) {
@@ -171,7 +184,9 @@ impl<'a> Gathered<'a> {
         requires order { from ≤ to }
         requires within { to ≤ length self.old.text.now }
         ensures text { self.new.text.now ≡ self.old.text.now }
-        ensures spans { OnOk result (self.new.spans.items ≡ self.old.spans.items ++ words_at from (slice_range self.old.text.now from to)) }
+        ensures spans { OnOk result
+            (self.new.spans.items ≡
+            self.old.spans.items ++ words_at from (slice_range self.old.text.now from to)) }
     {
         if from < to {
             self.reserve(to - from)?;
@@ -199,7 +214,8 @@ impl<'a> Gathered<'a> {
         requires { at < length self.old.text.now }
         ensures text { self.new.text.now ≡ self.old.text.now }
         ensures next { IfOk result (λ r. (at < r.1) × (r.1 ≤ length self.old.text.now)) }
-        ensures line { IfOk result (λ r. IsNextLine self.old.text.now at r.0 r.1 self.old.spans.items self.new.spans.items) }
+        ensures line { IfOk result (λ r.
+            IsNextLine self.old.text.now at r.0 r.1 self.old.spans.items self.new.spans.items) }
     {
         let (_line, taken, before) = first_line(&self.text[at..]);
         let (continued, len) = kept_len(before);
@@ -251,8 +267,11 @@ fn next_line<'a>(
     requires within { at ≤ length text.now }
     requires small { at_number ≤ at + 1 }
     ensures next { IfOk result (λ r. (r.1 ≤ length text.now) × (r.2 ≤ r.1 + 1)) }
-    ensures some { IfOk result (λ r. IfSome r.0 (λ line. lines_from text.now at at_number ≡ shown line ∷ lines_from text.now r.1 r.2)) }
-    ensures none { IfOk result (λ r. IfNone r.0 ((lines_from text.now at at_number ≡ []) × (lines_from text.now r.1 r.2 ≡ []))) }
+    ensures some { IfOk result (λ r.
+        IfSome r.0 (λ line.
+        lines_from text.now at at_number ≡ shown line ∷ lines_from text.now r.1 r.2)) }
+    ensures none { IfOk result (λ r.
+        IfNone r.0 ((lines_from text.now at at_number ≡ []) × (lines_from text.now r.1 r.2 ≡ []))) }
 {
     let mut nothing = empty;
     let mut place = at;

@@ -18,7 +18,7 @@ use Rattle.fab_text.specs.Decimal.{decimal_of}
 use Rattle.fab_text.specs.declared.numbers.NumFault.TheVariants.{BadDigit}
 use Rattle.fab_sched.specs.declared.schedules.Cooling.{Cooling}
 use Rattle.fab_sched.specs.declared.schedules.Cooling.TheVariants.{Factor, Adaptive}
-use Rattle.vplace.specs.declared.asked.PlaceWords.{PlaceWords}
+use Rattle.vplace.specs.declared.requests.PlaceWords.{PlaceWords}
 use Rattle.vplace.specs.Asked.{AreAsked, IsCoolingAsked, moves_asked, size_asked, stop_asked}
 use Rattle.vplace.specs.Files.{Held}
 use Rattle.vplace.specs.Leaving.{IsPut}

@@ -4,12 +4,12 @@ use Rattle.std.specs.Prelude.{Ok, Err}
 use Rattle.fab_text.specs.Decimal.{decimal_of}
 use Rattle.fab_run.specs.declared.inputs.Options.{Options}
 use Rattle.fab_run.specs.Setting.{Texts}
-use Rattle.vplace.specs.declared.asked.Number.TheVariants.{InitT, ExitT, AlphaT}
-use Rattle.vplace.specs.declared.asked.PlaceWords.{PlaceWords}
-use Rattle.vplace.specs.declared.asked.ResumeWords.{ResumeWords}
-use Rattle.vplace.specs.declared.asked.WordFault.{WordFault}
-use Rattle.vplace.specs.declared.asked.WordFault.TheVariants.{SizeInPart, StopInPart, BadNumber}
-use Rattle.vplace.specs.declared.checking.CheckNames.{CheckNames}
+use Rattle.vplace.specs.declared.requests.Number.TheVariants.{InitT, ExitT, AlphaT}
+use Rattle.vplace.specs.declared.requests.PlaceWords.{PlaceWords}
+use Rattle.vplace.specs.declared.requests.ResumeWords.{ResumeWords}
+use Rattle.vplace.specs.declared.requests.WordFault.{WordFault}
+use Rattle.vplace.specs.declared.requests.WordFault.TheVariants.{SizeInPart, StopInPart, BadNumber}
+use Rattle.vplace.specs.declared.check_command.CheckNames.{CheckNames}
 use Rattle.fab_sched.specs.declared.schedules.Cooling.{Cooling}
 use Rattle.fab_sched.specs.declared.schedules.Cooling.TheVariants.{Factor, Adaptive}
 use Rattle.vplace.specs.Asked.{AreAsked, IsCoolingAsked, IsResumeFault, IsWordFault, size_asked, stop_asked}

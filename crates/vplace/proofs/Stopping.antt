@@ -19,8 +19,8 @@ use Rattle.fab_run.specs.Placed.{AskFor, AskToGoOn, IsPlaced}
 use Rattle.fab_run.specs.PointMeaning.{IsSamePoint, StandsForPoint}
 use Rattle.fab_run.specs.PointText.{IsWritable, point_text}
 use Rattle.fab_run.specs.Setting.{Texts}
-use Rattle.vplace.specs.declared.asked.PlaceWords.{PlaceWords}
-use Rattle.vplace.specs.declared.asked.ResumeWords.{ResumeWords}
+use Rattle.vplace.specs.declared.requests.PlaceWords.{PlaceWords}
+use Rattle.vplace.specs.declared.requests.ResumeWords.{ResumeWords}
 use Rattle.vplace.specs.declared.status.Status.{Status}
 use Rattle.fab_run.specs.declared.fault.RunFault.{RunFault}
 use Rattle.vplace.specs.Asked.{AreAsked, stop_asked}

@@ -6,11 +6,11 @@ use Rattle.fab_sched.specs.declared.schedules.Cooling.TheVariants.{Factor, Adapt
 use Rattle.fab_run.specs.declared.inputs.Moves.{Moves}
 use Rattle.fab_run.specs.declared.inputs.Moves.TheVariants.{Given, Inner}
 use Rattle.fab_run.specs.declared.inputs.Options.{Options}
-use Rattle.vplace.specs.declared.asked.Number.TheVariants.{InitT, ExitT, AlphaT}
-use Rattle.vplace.specs.declared.asked.WordFault.{WordFault}
-use Rattle.vplace.specs.declared.asked.WordFault.TheVariants.{SizeInPart, StopInPart, BadNumber}
-use Rattle.vplace.specs.declared.asked.PlaceWords.{PlaceWords}
-use Rattle.vplace.specs.declared.asked.ResumeWords.{ResumeWords}
+use Rattle.vplace.specs.declared.requests.Number.TheVariants.{InitT, ExitT, AlphaT}
+use Rattle.vplace.specs.declared.requests.WordFault.{WordFault}
+use Rattle.vplace.specs.declared.requests.WordFault.TheVariants.{SizeInPart, StopInPart, BadNumber}
+use Rattle.vplace.specs.declared.requests.PlaceWords.{PlaceWords}
+use Rattle.vplace.specs.declared.requests.ResumeWords.{ResumeWords}
 
 -- the requested size of the array: both numbers give one, and without both none is requested; one number alone is refused
 abbrev pub size_asked : Option ℕ → Option ℕ → Option (Option (ℕ × ℕ))

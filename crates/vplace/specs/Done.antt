@@ -2,9 +2,9 @@
 use Rattle.std.specs.Prelude.{ℕ, ◌≡◌, ◌<◌, ◌⊎◌, List, Option, length}
 use Rattle.std.specs.Io.KnownBytes.{Appends}
 use Rattle.fab_run.specs.Check.{IsReported}
-use Rattle.vplace.specs.declared.asked.PlaceWords.{PlaceWords}
-use Rattle.vplace.specs.declared.asked.ResumeWords.{ResumeWords}
-use Rattle.vplace.specs.declared.checking.CheckNames.{CheckNames}
+use Rattle.vplace.specs.declared.requests.PlaceWords.{PlaceWords}
+use Rattle.vplace.specs.declared.requests.ResumeWords.{ResumeWords}
+use Rattle.vplace.specs.declared.check_command.CheckNames.{CheckNames}
 use Rattle.vplace.specs.declared.flags.Asked.{Asked}
 use Rattle.vplace.specs.declared.flags.Asked.TheVariants.{Example, Check, Place, Resume}
 use Rattle.vplace.specs.Asking.{AskForHelp, Asks}

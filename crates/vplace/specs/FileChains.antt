@@ -7,8 +7,8 @@ use Rattle.fab_run.specs.declared.inputs.Options.{Options}
 use Rattle.fab_run.specs.Ends.{Answer}
 use Rattle.fab_run.specs.Placed.{AskFor, IsPlaced}
 use Rattle.fab_run.specs.Setting.{Texts}
-use Rattle.vplace.specs.declared.asked.PlaceWords.{PlaceWords}
-use Rattle.vplace.specs.declared.asked.ResumeWords.{ResumeWords}
+use Rattle.vplace.specs.declared.requests.PlaceWords.{PlaceWords}
+use Rattle.vplace.specs.declared.requests.ResumeWords.{ResumeWords}
 use Rattle.vplace.specs.Asked.{AreAsked}
 use Rattle.vplace.specs.Files.{Held, text_among}
 use Rattle.vplace.specs.Placing.{DidPlace, GivesPads, name_of, save_name}
@@ -69,11 +69,13 @@ pub record LastOf : Type 0 where
   pub arch_name : List ℕ
   pub lies : Option (List ℕ)
 
+-- the names of the last of some calls, and what lies where
 abbrev pub last_of : LastOf → List ResumeCall → LastOf
 last_of l [] = l
 last_of l (c ∷ cs) =
     last_of (record { net_name = c.words.net.items; arch_name = c.words.arch.items; lies = c.after c.words.out.items }) cs
 
+-- the same, of a first call and those after it
 abbrev pub last_call : PlaceCall → List ResumeCall → LastOf
 last_call c cs = last_of (record { net_name = c.words.net.items; arch_name = c.words.arch.items; lies = c.after c.words.out.items }) cs
 

@@ -2,9 +2,9 @@
 use Rattle.std.specs.Prelude.{ℕ, ◌≡◌, ◌<◌, ◌^◌, List, [], Option, Some, None, codes, unwrap_or, option_map}
 use Rattle.std.specs.Str.Parse.{IsNumeral, digits_value, without_leading_plus}
 use Rattle.clap.specs.Walk.{Row, first_of, one_of}
-use Rattle.vplace.specs.declared.asked.PlaceWords.{PlaceWords}
-use Rattle.vplace.specs.declared.asked.ResumeWords.{ResumeWords}
-use Rattle.vplace.specs.declared.checking.CheckNames.{CheckNames}
+use Rattle.vplace.specs.declared.requests.PlaceWords.{PlaceWords}
+use Rattle.vplace.specs.declared.requests.ResumeWords.{ResumeWords}
+use Rattle.vplace.specs.declared.check_command.CheckNames.{CheckNames}
 use Rattle.vplace.specs.CommandLine.{word_of}
 
 -- the text is a number below 2^bits: digits, perhaps after a plus sign
@@ -20,7 +20,7 @@ IsNumberOf bits given (Some n) = (text : List ℕ) × (given ≡ Some text) × I
 abbrev pub GivesNumber : ℕ → List Row → List ℕ → Option ℕ → Type 0
 GivesNumber bits rows option n = IsNumberOf bits (one_of option rows) n
 
--- the same for an option that has a default, so that it always gives a number
+-- the same for an option that has a default: the number given, or 0 where none is
 abbrev pub GivesDefault : List Row → List ℕ → ℕ → Type 0
 GivesDefault rows option n = (given : Option ℕ) × GivesNumber 64 rows option given × (n ≡ unwrap_or given 0)
 

@@ -46,6 +46,7 @@ pub record OutPlan : Type 0 where
   pub forecast : Forecast
   pub shut : Option Shut
 
+-- the names of a call, what it may leave, and which names are shut
 abbrev pub plan_for : List ℕ → Option (List ℕ) → Forecast → Option Shut → OutPlan
 plan_for out save f shut = record { out = out; save = save; forecast = f; shut = shut }
 

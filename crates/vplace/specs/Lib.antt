@@ -1,3 +1,4 @@
+-- The definitions of vplace, by file.
 pub mod Status
 pub mod Asked
 pub mod Files

@@ -4,8 +4,8 @@ use Rattle.fab_run.specs.declared.inputs.Options.{Options}
 use Rattle.fab_run.specs.Ends.{Answer}
 use Rattle.fab_run.specs.Placed.{AskFor, IsPlaced}
 use Rattle.fab_run.specs.Setting.{Texts}
-use Rattle.vplace.specs.declared.checking.CheckNames.{CheckNames}
-use Rattle.vplace.specs.declared.asked.PlaceWords.{PlaceWords}
+use Rattle.vplace.specs.declared.check_command.CheckNames.{CheckNames}
+use Rattle.vplace.specs.declared.requests.PlaceWords.{PlaceWords}
 use Rattle.vplace.specs.Asked.{AreAsked}
 use Rattle.vplace.specs.Files.{Gives, Held}
 use Rattle.vplace.specs.Leaving.{IsPut}

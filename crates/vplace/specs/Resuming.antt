@@ -4,7 +4,7 @@ use Rattle.fab_run.specs.Ends.{Answer}
 use Rattle.fab_run.specs.Going.{Going, HasPoint}
 use Rattle.fab_run.specs.Placed.{AskToGoOn, IsPlaced}
 use Rattle.fab_run.specs.Setting.{Texts}
-use Rattle.vplace.specs.declared.asked.ResumeWords.{ResumeWords}
+use Rattle.vplace.specs.declared.requests.ResumeWords.{ResumeWords}
 use Rattle.vplace.specs.Asked.{stop_asked}
 use Rattle.vplace.specs.Files.{Gives, Held}
 use Rattle.vplace.specs.Leaving.{IsPut}

@@ -18,10 +18,10 @@ use Rattle.vplace.specs.declared.messages.Role.{Role}
 use Rattle.vplace.specs.declared.messages.Role.TheVariants.{Arch, Net, Pads, Place, Point}
 use Rattle.vplace.specs.declared.messages.OutRole.{OutRole}
 use Rattle.vplace.specs.declared.messages.OutRole.TheVariants.{Place as OutPlace, Point as OutPoint}
-use Rattle.vplace.specs.declared.asked.Number.{Number}
-use Rattle.vplace.specs.declared.asked.Number.TheVariants.{InitT, ExitT, AlphaT}
-use Rattle.vplace.specs.declared.asked.WordFault.{WordFault}
-use Rattle.vplace.specs.declared.asked.WordFault.TheVariants.{SizeInPart, StopInPart, BadNumber}
+use Rattle.vplace.specs.declared.requests.Number.{Number}
+use Rattle.vplace.specs.declared.requests.Number.TheVariants.{InitT, ExitT, AlphaT}
+use Rattle.vplace.specs.declared.requests.WordFault.{WordFault}
+use Rattle.vplace.specs.declared.requests.WordFault.TheVariants.{SizeInPart, StopInPart, BadNumber}
 
 -- the line was written, with a line feed at its end, unless the writer failed
 abbrev pub IsSaid : List ℕ → Option (List ℕ) → Option (List ℕ) → ℕ → ℕ → Type 0
@@ -31,12 +31,15 @@ IsSaid line old new failed_old failed_new = Appends old new (line ++ codes "\n")
 abbrev pub IsFaultSaid : Option (List ℕ) → Option (List ℕ) → ℕ → ℕ → Type 0
 IsFaultSaid old new failed_old failed_new = (text : List ℕ) × (0 < length text) × (Appends old new text ⊎ (failed_new ≡ grown failed_old))
 
+-- the line of a report that cannot be written
 abbrev pub report_line : List ℕ
 report_line = codes "vplace: cannot write report"
 
+-- the line of a lack of memory
 abbrev pub no_memory_line : List ℕ
 no_memory_line = codes "vplace: no memory"
 
+-- the line of a file that cannot be read
 abbrev pub unreadable_line : Role → List ℕ
 unreadable_line Arch = codes "vplace: cannot read arch"
 unreadable_line Net = codes "vplace: cannot read net"
@@ -44,6 +47,7 @@ unreadable_line Pads = codes "vplace: cannot read pads"
 unreadable_line Place = codes "vplace: cannot read place"
 unreadable_line Point = codes "vplace: cannot read point"
 
+-- the line of a file that cannot be written
 abbrev pub unwritable_line : OutRole → List ℕ
 unwritable_line OutPlace = codes "vplace: cannot write place"
 unwritable_line OutPoint = codes "vplace: cannot write point"
@@ -65,11 +69,13 @@ IsFaultTold fault refusal net status Said =
 abbrev pub IsToldRefusal : (RunFault → Type 0) → List ℕ → Status → (List ℕ → Type 0) → Type 0
 IsToldRefusal IsFault net status Said = (fault : RunFault) × IsFault fault × (status_of fault ≡ status) × Said (fault_line fault net)
 
+-- the name of a number's option
 abbrev pub option_name : Number → List ℕ
 option_name InitT = codes "init-t"
 option_name ExitT = codes "exit-t"
 option_name AlphaT = codes "alpha-t"
 
+-- the line of a fault of the words
 abbrev pub word_fault_line : WordFault → List ℕ
 word_fault_line SizeInPart = codes "vplace: --nx and --ny go together"
 word_fault_line StopInPart = codes "vplace: --stop and --save go together"

@@ -9,6 +9,7 @@ use Rattle.fab_run.specs.declared.fault.RunFault.TheVariants.{Arch, Net, Pads, P
 use Rattle.vplace.specs.declared.status.Status.{Status}
 use Rattle.vplace.specs.declared.status.Status.TheVariants.{Done, Refused, CommandLine, NoMemory, Device}
 
+-- the number of a status
 abbrev pub code_of : Status → ℕ
 code_of Done = 0
 code_of Refused = 1

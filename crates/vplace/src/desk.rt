@@ -1,5 +1,5 @@
-// A small design in memory: two pads and one logic block, whose every move finds its block's own site; with its files, and runs of the
-// program on them.
+//! For tests: a small design in memory of two pads and one logic block, whose every move finds its block's own site; with its files, and
+//! runs of the program on them.
 
 ghost use Rattle.std.specs.Prelude.{Some, [], ◌∷◌, option_map, codes};
 ghost use Rattle.vplace.specs.Files.{shut_but, text_among};
@@ -136,10 +136,16 @@ impl Desk {
 }
 
 impl NamedFiles for Desk {
-    ghost held = { λ desk. Some (text_among ((codes "t.arch", Some desk.arch.now) ∷ (codes "t.net", Some desk.net.now) ∷ (codes "u.net", Some desk.undriven.now) ∷ (codes "t.pads", Some desk.pads.now) ∷ (codes "t.place", option_map (λ bytes. bytes.items) desk.placed) ∷ (codes "t.point", option_map (λ bytes. bytes.items) desk.point) ∷ [])) };
+    ghost held = { λ desk.
+        Some (text_among
+        ((codes "t.arch", Some desk.arch.now) ∷ (codes "t.net", Some desk.net.now) ∷
+        (codes "u.net", Some desk.undriven.now) ∷ (codes "t.pads", Some desk.pads.now) ∷
+        (codes "t.place", option_map (λ bytes. bytes.items) desk.placed) ∷
+        (codes "t.point", option_map (λ bytes. bytes.items) desk.point) ∷ [])) };
 
     // A name that is not known, and one whose disk is full.
-    ghost shut = { λ desk. Some (shut_but (codes "t.place" ∷ codes "t.point" ∷ codes "huge" ∷ codes "none" ∷ [])) };
+    ghost shut = { λ desk.
+        Some (shut_but (codes "t.place" ∷ codes "t.point" ∷ codes "huge" ∷ codes "none" ∷ [])) };
 
     // The name.
     type Outlet = Vec<u8>;

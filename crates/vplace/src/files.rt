@@ -57,18 +57,22 @@ pub trait NamedFiles {
     /// All bytes of a file.
     fn read(&self, alloc: Global, name: &[u8]) -> Result<Vec<u8>, ReadFault>
         ensures gives { IfOk result (λ bytes. Gives (held self.now) name.now bytes.items) }
-        ensures lacks { IfErr result (λ fault. fault ≡ Unreadable → Lacks (held self.now) name.now) };
+        ensures lacks { IfErr result (λ fault.
+            fault ≡ Unreadable → Lacks (held self.now) name.now) };
 
     /// Checks that bytes can be put at a name, and reserves a place for them. Nothing is made at the name itself.
     fn reserve(&self, alloc: Global, name: &[u8]) -> Result<Self::Outlet, WriteFault>
         ensures name { IfOk result (λ outlet. name_of outlet ≡ name.now) }
-        ensures shut { IfErr result (λ fault. fault ≡ Unwritable → IsShut (shut self.now) name.now) };
+        ensures shut { IfErr result (λ fault.
+            fault ≡ Unwritable → IsShut (shut self.now) name.now) };
 
-    /// Puts bytes at the name that the place was reserved for, in place of all that it gave.
+    /// Writes the bytes to the name that the place was reserved for, and replaces what was there.
     fn put(&mut self, outlet: Self::Outlet, bytes: &[u8]) -> Result<(), WriteFault>
-        ensures put { OnOk result (Puts (held self.old) (held self.new) (name_of outlet) bytes.now) }
+        ensures put { OnOk result
+            (Puts (held self.old) (held self.new) (name_of outlet) bytes.now) }
         ensures kept { OnErr result (held self.new ≡ held self.old) }
-        ensures shut { IfErr result (λ fault. fault ≡ Unwritable → IsShut (shut self.old) (name_of outlet)) };
+        ensures shut { IfErr result (λ fault.
+            fault ≡ Unwritable → IsShut (shut self.old) (name_of outlet)) };
 
     /// Releases a place that is not needed.
     fn release(&self, outlet: Self::Outlet);

@@ -8,12 +8,12 @@ ghost use Rattle.vplace.specs.CommandLine.{check_options, command, shown_after_n
 ghost use Rattle.vplace.specs.Given.{AreGivenToCheck};
 ghost use Rattle.vplace.specs.declared.flags.Asked.TheVariants.{Example};
 
-use crate::asked::{PlaceWords, ResumeWords};
-use crate::checking::CheckNames;
+use crate::arguments::as_text;
+use crate::check_command::CheckNames;
 use crate::options::{ARCH, NET, OptionRow, Takes, file_name, with_options};
 use crate::place_flags::{place_command, place_words};
+use crate::requests::{PlaceWords, ResumeWords};
 use crate::resume_flags::{resume_command, resume_words};
-use crate::words::as_text;
 use clap::{ArgMatches, Command, Error};
 use std::alloc::{AllocError, Global};
 
@@ -104,7 +104,8 @@ fn check_names(alloc: Global, matches: &ArgMatches<'_>) -> Result<CheckNames, Al
 
 // The words as the parser takes them, after the program's name.
 fn shown_words(alloc: Global, words: &[Vec<u8>]) -> Result<Vec<String>, AllocError>
-    ensures { IfOk result (λ texts. map string_bytes texts.items ≡ shown_after_name (map (λ word. word.items) words.now)) }
+    ensures { IfOk result (λ texts.
+        map string_bytes texts.items ≡ shown_after_name (map (λ word. word.items) words.now)) }
 {
     let mut texts = Vec::new(alloc);
     texts.push(String::from_str(alloc, NAME)?)?;

@@ -55,7 +55,8 @@ pub fn forecast_for(schedule: &Schedule, done: u64, stop: Option<u64>) -> Foreca
 /// The schedule that the options ask for, of a design with this many blocks. An error if a number is out of its limits.
 pub fn schedule_by(options: &Options, blocks: usize) -> Result<Schedule, SchedFault>
     requires { blocks ≤ 65535 }
-    ensures only { (p : Plan) → IsAskedPlan options.now blocks p → IsLawful p → MatchResult result (λ s. s ≡ p) (λ e. ⊥) }
+    ensures only { (p : Plan) → IsAskedPlan options.now blocks p → IsLawful p →
+        MatchResult result (λ s. s ≡ p) (λ e. ⊥) }
 {
     let moves = match options.moves {
         Moves::Given(moves) => moves,

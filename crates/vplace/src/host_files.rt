@@ -1,5 +1,5 @@
-//! The files of the system. A plain file is written to a temporary file next to it, which then replaces it, so that neither a full disk nor
-//! a kill damages the old file. Where that is not possible, the file itself is written.
+//! The files of the system. A plain file is written to a part file next to it (`NAME.vplace-part`), which then replaces it, so that neither
+//! a full disk nor a kill damages the old file. Where that is not possible, the file itself is written.
 
 ghost use Rattle.std.specs.Prelude.{◌≡◌, None, IfOk};
 ghost use Rattle.std.specs.Io.KnownBytes.{Appends};
@@ -43,7 +43,7 @@ enum Way {
     InPlace(String),
 }
 
-// A temporary file that is to replace another. The lock, a second handle of the file, is held until it is gone or has the other's name.
+// A temporary file that is to replace another. The lock, a second handle of the file, is held until the file is removed or renamed.
 #[derive(Drop)]
 struct Beside {
     file: File,
@@ -118,8 +118,8 @@ fn written<W: Write + Drop>(mut out: W, bytes: &[u8]) -> Result<W, WriteFault>
     }
 }
 
-// Waits until the bytes of a file are on its disk. Of what keeps nothing that could be synced, as pipes and most devices, and of file systems
-// without syncs, the system says that the call is not for it.
+// Waits until the bytes of a file are on its disk. Pipes, most devices and some file systems cannot sync, and the system answers
+// `InvalidInput`: that is no fault.
 fn synced(file: File) -> Result<(), WriteFault> {
     match file.sync_all() {
         Err(error) if error.kind() != ErrorKind::InvalidInput => Err(WriteFault::of(&error)),
@@ -376,7 +376,7 @@ impl HostFiles<'_> {
             return Err(fault);
         }
         let is_there = self.is_at(&lock, name.as_str())?;
-        if is_there && self.is_renamed(name.as_str(), target.as_str())? {
+        if is_there && self.try_rename(name.as_str(), target.as_str())? {
             self.sync_folder(target.as_str());
             return Ok(());
         }
@@ -388,9 +388,9 @@ impl HostFiles<'_> {
         self.overwrite(target.as_str(), bytes)
     }
 
-    // Gives a temporary file the name of its target, if that is one that it may replace. Returns whether it did. An error means that memory is
-    // short.
-    fn is_renamed(&self, name: &str, target: &str) -> Result<bool, WriteFault> {
+    // Gives a temporary file the name of its target, if that is one that it may replace. Returns whether it did. An error means that memory
+    // is short.
+    fn try_rename(&self, name: &str, target: &str) -> Result<bool, WriteFault> {
         if !self.is_replaceable(target)? {
             return Ok(false);
         }

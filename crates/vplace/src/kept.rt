@@ -1,5 +1,4 @@
-//! What a run that may stop keeps from before its first move, so that its checkpoint needs nothing that could be refused after the last one but
-//! the memory for its text.
+//! What a run that may stop prepares before its first move. After its last move only the text of the checkpoint needs memory.
 
 ghost use Rattle.std.specs.Prelude.{◌≡◌, IfOk};
 ghost use Rattle.fab_text.specs.Lines.{lines};
@@ -37,8 +36,11 @@ impl Kept {
     /// The text of a point of the run.
     pub fn text_of(&self, alloc: Global, point: &Point) -> Result<Vec<u8>, AllocError>
         requires { IsWritable self.now.design self.now.grid point.now }
-        ensures exact { IfOk result (λ text. text.items ≡ point_text self.now.seed self.now.design self.now.grid point.now) }
-        ensures back { IfOk result (λ text. StandsForPoint self.now.grid.io_rat self.now.design (lines text.items) self.now.seed self.now.grid point.now) }
+        ensures exact { IfOk result (λ text.
+            text.items ≡ point_text self.now.seed self.now.design self.now.grid point.now) }
+        ensures back { IfOk result (λ text.
+            StandsForPoint self.now.grid.io_rat self.now.design (lines text.items) self.now.seed
+            self.now.grid point.now) }
     {
         let mut text = Counted::new(Vec::new(alloc));
         match write_point(alloc, &mut text, self.seed, &self.design, &self.grid, point) {

@@ -1,11 +1,10 @@
 //! `vplace`, the program: its words, the files that they name, and what is said on the two outputs.
 #![tactic(auto)]
 
-mod asked;
-mod checking;
+mod arguments;
+mod check_command;
 #[cfg(test)]
 mod desk;
-mod ending;
 mod example;
 mod files;
 mod flags;
@@ -20,34 +19,35 @@ mod options;
 mod out_file;
 mod out_names;
 mod patient;
+mod place_command;
 mod place_flags;
-mod placing;
 #[cfg(test)]
 mod placing_tests;
 mod program;
 mod reading;
 #[cfg(test)]
 mod refused_tests;
+mod requests;
+mod results;
+mod resume_command;
 mod resume_flags;
-mod resuming;
 #[cfg(test)]
 mod resuming_tests;
 mod status;
 mod streams;
 #[cfg(test)]
 mod tests;
-mod words;
 
+use arguments::given_words;
 use fab_text::Counted;
 use host_files::HostFiles;
 use patient::Patient;
 use std::io;
 use std::process::ExitCode;
 use streams::taken;
-use words::given_words;
 
 fn main(rt: HostRuntime) -> ExitCode {
-    // As many as there are standard streams, until the run is over.
+    // Holds a descriptor for each standard stream that is closed, until the run is over.
     let _streams = (taken(&rt), taken(&rt), taken(&rt));
     let mut out = Counted::new(Patient {
         inner: io::writer(&rt),

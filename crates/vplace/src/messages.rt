@@ -1,4 +1,4 @@
-//! What is said on standard error: one line for each fault, and the status that goes with it.
+//! The lines that are printed on standard error, one for each fault, and their statuses.
 
 ghost use Rattle.std.specs.Prelude.{◌≡◌, ◌≢◌, ◌⊎◌, ◌++◌, IfOk, codes};
 ghost use Rattle.std.specs.String.{string_bytes};
@@ -9,7 +9,7 @@ ghost use Rattle.fab_run.specs.FaultLines.{fault_line as line_of_fault};
 ghost use Rattle.vplace.specs.Said.{IsFaultSaid, IsSaid, no_memory_line, option_name as name_of_option, report_line, unreadable_line, unwritable_line, word_fault_line};
 ghost use Rattle.vplace.specs.Status.{status_of};
 
-use crate::asked::{Number, WordFault};
+use crate::requests::{Number, WordFault};
 use crate::status::{Status, status_after};
 use fab_run::{RunFault, fault_line};
 use fab_text::{Sink, write_whole};
@@ -18,8 +18,10 @@ use std::alloc::{AllocError, Global};
 /// Says that memory ran out. If standard error fails too, nobody can be told.
 pub fn no_memory<E: Sink>(err: &mut E) -> Status
     ensures status { result ≡ Status.NoMemory }
-    ensures said { IsSaid no_memory_line (E.contents err.old) (E.contents err.new) (E.failed err.old) (E.failed err.new) }
-    ensures heard { IsFaultSaid (E.contents err.old) (E.contents err.new) (E.failed err.old) (E.failed err.new) }
+    ensures said { IsSaid no_memory_line (E.contents err.old) (E.contents err.new)
+        (E.failed err.old) (E.failed err.new) }
+    ensures heard { IsFaultSaid (E.contents err.old) (E.contents err.new) (E.failed err.old)
+        (E.failed err.new) }
 {
     let _ = write_whole(err, b"vplace: no memory\n");
     Status::NoMemory
@@ -50,8 +52,10 @@ fn unreadable_text(role: Role) -> &'static [u8]
 /// Says that the file of a role cannot be read.
 pub fn unreadable<E: Sink>(err: &mut E, role: Role) -> Status
     ensures status { result ≡ Status.Device }
-    ensures said { IsSaid (unreadable_line role) (E.contents err.old) (E.contents err.new) (E.failed err.old) (E.failed err.new) }
-    ensures heard { IsFaultSaid (E.contents err.old) (E.contents err.new) (E.failed err.old) (E.failed err.new) }
+    ensures said { IsSaid (unreadable_line role) (E.contents err.old) (E.contents err.new)
+        (E.failed err.old) (E.failed err.new) }
+    ensures heard { IsFaultSaid (E.contents err.old) (E.contents err.new) (E.failed err.old)
+        (E.failed err.new) }
 {
     let _ = write_whole(err, unreadable_text(role));
     Status::Device
@@ -60,8 +64,10 @@ pub fn unreadable<E: Sink>(err: &mut E, role: Role) -> Status
 /// Says that the report cannot be written.
 pub fn unwritable_report<E: Sink>(err: &mut E) -> Status
     ensures status { result ≡ Status.Device }
-    ensures said { IsSaid report_line (E.contents err.old) (E.contents err.new) (E.failed err.old) (E.failed err.new) }
-    ensures heard { IsFaultSaid (E.contents err.old) (E.contents err.new) (E.failed err.old) (E.failed err.new) }
+    ensures said { IsSaid report_line (E.contents err.old) (E.contents err.new) (E.failed err.old)
+        (E.failed err.new) }
+    ensures heard { IsFaultSaid (E.contents err.old) (E.contents err.new) (E.failed err.old)
+        (E.failed err.new) }
 {
     let _ = write_whole(err, b"vplace: cannot write report\n");
     Status::Device
@@ -79,8 +85,10 @@ pub enum OutRole {
 /// Says that the file of a role cannot be written.
 pub fn unwritable<E: Sink>(err: &mut E, role: OutRole) -> Status
     ensures status { result ≡ Status.Device }
-    ensures said { IsSaid (unwritable_line role) (E.contents err.old) (E.contents err.new) (E.failed err.old) (E.failed err.new) }
-    ensures heard { IsFaultSaid (E.contents err.old) (E.contents err.new) (E.failed err.old) (E.failed err.new) }
+    ensures said { IsSaid (unwritable_line role) (E.contents err.old) (E.contents err.new)
+        (E.failed err.old) (E.failed err.new) }
+    ensures heard { IsFaultSaid (E.contents err.old) (E.contents err.new) (E.failed err.old)
+        (E.failed err.new) }
 {
     let line: &[u8] = match role {
         OutRole::Place => b"vplace: cannot write place\n",
@@ -116,8 +124,14 @@ fn word_fault_text(alloc: Global, fault: WordFault) -> Result<String, AllocError
 /// Says what is wrong with the words of `place` or of `resume`.
 pub fn word_fault<E: Sink>(alloc: Global, err: &mut E, fault: WordFault) -> Status
     ensures status { (result ≡ Status.CommandLine) ⊎ (result ≡ Status.NoMemory) }
-    ensures said { ((result ≡ Status.CommandLine) × IsSaid (word_fault_line fault) (E.contents err.old) (E.contents err.new) (E.failed err.old) (E.failed err.new)) ⊎ ((result ≡ Status.NoMemory) × IsSaid no_memory_line (E.contents err.old) (E.contents err.new) (E.failed err.old) (E.failed err.new)) }
-    ensures heard { IsFaultSaid (E.contents err.old) (E.contents err.new) (E.failed err.old) (E.failed err.new) }
+    ensures said { ((result ≡ Status.CommandLine) ×
+        IsSaid (word_fault_line fault) (E.contents err.old) (E.contents err.new) (E.failed err.old)
+        (E.failed err.new)) ⊎
+        ((result ≡ Status.NoMemory) ×
+        IsSaid no_memory_line (E.contents err.old) (E.contents err.new) (E.failed err.old)
+        (E.failed err.new)) }
+    ensures heard { IsFaultSaid (E.contents err.old) (E.contents err.new) (E.failed err.old)
+        (E.failed err.new) }
 {
     match word_fault_text(alloc, fault) {
         Ok(line) => {
@@ -132,10 +146,17 @@ pub fn word_fault<E: Sink>(alloc: Global, err: &mut E, fault: WordFault) -> Stat
 pub fn run_fault<E: Sink>(alloc: Global, err: &mut E, fault: &RunFault, net: &[u8]) -> Status
     ensures status { (result ≡ status_of fault.now) ⊎ (result ≡ Status.NoMemory) }
     // The line of the fault was written, or that there was no memory.
-    ensures said { ((status_of fault.now ≢ Status.NoMemory) × (result ≡ status_of fault.now) × IsSaid (line_of_fault fault.now net.now) (E.contents err.old) (E.contents err.new) (E.failed err.old) (E.failed err.new)) ⊎ ((result ≡ Status.NoMemory) × IsSaid no_memory_line (E.contents err.old) (E.contents err.new) (E.failed err.old) (E.failed err.new)) }
-    ensures heard { IsFaultSaid (E.contents err.old) (E.contents err.new) (E.failed err.old) (E.failed err.new) }
+    ensures said { ((status_of fault.now ≢ Status.NoMemory) × (result ≡ status_of fault.now) ×
+        IsSaid (line_of_fault fault.now net.now) (E.contents err.old) (E.contents err.new)
+        (E.failed err.old) (E.failed err.new)) ⊎
+        ((result ≡ Status.NoMemory) ×
+        IsSaid no_memory_line (E.contents err.old) (E.contents err.new) (E.failed err.old)
+        (E.failed err.new)) }
+    ensures heard { IsFaultSaid (E.contents err.old) (E.contents err.new) (E.failed err.old)
+        (E.failed err.new) }
     ensures open { result ≢ Status.Done }
-    ensures device { result ≡ Status.Device → (fault.now ≡ Report) ⊎ ((fault.now ≡ Place Write) ⊎ (fault.now ≡ Point PointWrite)) }
+    ensures device { result ≡ Status.Device → (fault.now ≡ Report) ⊎
+        ((fault.now ≡ Place Write) ⊎ (fault.now ≡ Point PointWrite)) }
 {
     let status = status_after(fault);
     if status == Status::NoMemory {

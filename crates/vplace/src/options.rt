@@ -5,7 +5,7 @@ ghost use Rattle.clap.specs.Words.{app_of, first_of, found_of, rows_of, rule_of}
 ghost use Rattle.vplace.specs.CommandLine.{option, rule_for, with_rules};
 ghost use Rattle.vplace.specs.Given.{GivesDefault, GivesName, GivesNumber, GivesOptionalName, GivesText};
 
-use crate::words::as_bytes;
+use crate::arguments::as_bytes;
 use clap::{Arg, ArgAction, ArgMatches, Command, value_parser};
 use std::alloc::{AllocError, Global};
 
@@ -27,44 +27,51 @@ pub enum Takes {
 /// An option: its name, what it takes, and its help.
 pub type OptionRow = (&'static str, Takes, &'static str);
 
-// Options of more than one subcommand.
+// The options of more than one subcommand.
 
+/// The architecture file.
 pub const ARCH: OptionRow = (
     "arch",
     Takes::NeededFile,
     "The architecture: pads for each position, and the pins of a logic block",
 );
 
+/// The netlist file.
 pub const NET: OptionRow = (
     "net",
     Takes::NeededFile,
     "The netlist: the blocks, and the nets on their pins",
 );
 
+/// The file for the placement.
 pub const OUT: OptionRow = (
     "out",
     Takes::NeededFile,
     "The file for the placement, written when the run is over",
 );
 
+/// The most moves of a turn.
 pub const BATCH: OptionRow = (
     "batch",
     Takes::Whole(Some("64")),
     "How many moves are judged ahead at a time, 1 to 4096; the placement does not depend on it",
 );
 
+/// At most how many threads judge moves ahead.
 pub const WORKERS: OptionRow = (
     "workers",
     Takes::Whole(Some("4")),
     "At most how many threads judge moves ahead, 1 to 64; the placement does not depend on it",
 );
 
+/// After how many moves of the whole run to stop.
 pub const STOP: OptionRow = (
     "stop",
     Takes::Whole(None),
     "Stop after this many moves of the whole run, if any are left then; with --save",
 );
 
+/// The file for the checkpoint of a run that stops.
 pub const SAVE: OptionRow = (
     "save",
     Takes::File,
@@ -116,7 +123,9 @@ pub fn with_options<'a>(
     mut command: Command<'a>,
     options: &[OptionRow],
 ) -> Result<Command<'a>, AllocError>
-    ensures options { IfOk result (λ made. app_of made ≡ with_rules (app_of command.entry) (map (λ row. rule_for row.0.now row.1) options.now)) }
+    ensures options { IfOk result (λ made.
+        app_of made ≡
+        with_rules (app_of command.entry) (map (λ row. rule_for row.0.now row.1) options.now)) }
 {
     for (name, takes, help) in options {
         command = command.arg(option_of(alloc, name, *takes, help))?;
@@ -126,7 +135,8 @@ pub fn with_options<'a>(
 
 // The text that an option was given, if it was.
 fn given<'a>(matches: &ArgMatches<'a>, option: &str) -> Option<&'a str>
-    ensures { option_map (λ text. text.now) result ≡ first_of option.now (rows_of (found_of matches.now)) }
+    ensures { option_map (λ text. text.now) result ≡
+        first_of option.now (rows_of (found_of matches.now)) }
 {
     matches.get_str(option)
 }
@@ -137,7 +147,8 @@ pub fn file_name(
     matches: &ArgMatches<'_>,
     option: &str,
 ) -> Result<Vec<u8>, AllocError>
-    ensures { IfOk result (λ name. GivesName (rows_of (found_of matches.now)) option.now name.items) }
+    ensures { IfOk result (λ name.
+        GivesName (rows_of (found_of matches.now)) option.now name.items) }
 {
     as_bytes(alloc, given(matches, option).unwrap_or(""))
 }
@@ -148,7 +159,9 @@ pub fn optional_name(
     matches: &ArgMatches<'_>,
     option: &str,
 ) -> Result<Option<Vec<u8>>, AllocError>
-    ensures { IfOk result (λ name. GivesOptionalName (rows_of (found_of matches.now)) option.now (option_map (λ bytes. bytes.items) name)) }
+    ensures { IfOk result (λ name.
+        GivesOptionalName (rows_of (found_of matches.now)) option.now
+        (option_map (λ bytes. bytes.items) name)) }
 {
     match given(matches, option) {
         Some(text) => Ok(Some(as_bytes(alloc, text)?)),
@@ -179,7 +192,8 @@ pub fn number(matches: &ArgMatches<'_>, option: &str) -> u64
 
 /// The text of an option that has a default.
 pub fn text(alloc: Global, matches: &ArgMatches<'_>, option: &str) -> Result<Vec<u8>, AllocError>
-    ensures { IfOk result (λ text. GivesText (rows_of (found_of matches.now)) option.now text.items) }
+    ensures { IfOk result (λ text.
+        GivesText (rows_of (found_of matches.now)) option.now text.items) }
 {
     Vec::from_slice(alloc, given(matches, option).unwrap_or("").as_bytes())
 }

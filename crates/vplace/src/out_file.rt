@@ -1,5 +1,5 @@
-//! The output file of a run: its text stays in memory until the run has answered, and the names of the files that the run may leave are tried
-//! before the first move.
+//! The output file of a run: its text stays in memory until the run has answered, and the names of the files that the run may leave are
+//! tried before the first move.
 
 ghost use Rattle.std.specs.Prelude.{◌≡◌, [], true, Some, OnOk, OnErr, IfErr};
 ghost use Rattle.std.specs.Option.{ForSome};
@@ -14,8 +14,8 @@ use std::alloc::Global;
 use std::io::Write;
 use std::marker::{Brand, PhantomData};
 
-/// What is known of the files of a run before its first move, as part of a type: code that borrows an out file of this type cannot leave one
-/// of another name or forecast.
+/// What is known of the files of a run before its first move, as part of a type: code that borrows an out file of this type cannot leave
+/// one of another name or forecast.
 pub trait Planned {
     ghost plan: { OutPlan };
 }

@@ -5,11 +5,11 @@ ghost use Rattle.clap.specs.Words.{found_of, rows_of, shape_of};
 ghost use Rattle.vplace.specs.CommandLine.{command, place_options};
 ghost use Rattle.vplace.specs.Given.{AreGivenBy};
 
-use crate::asked::PlaceWords;
 use crate::options::{
     ARCH, BATCH, NET, OUT, OptionRow, SAVE, STOP, Takes, WORKERS, file_name, number, optional_name,
     side, text, whole, with_options,
 };
+use crate::requests::PlaceWords;
 use clap::{ArgMatches, Command};
 use std::alloc::{AllocError, Global};
 

@@ -8,15 +8,15 @@ ghost use Rattle.vplace.specs.Done.{IsAsAsked, IsChecked, IsExample, IsPlaced, I
 ghost use Rattle.vplace.specs.Said.{IsFaultSaid, IsSaid, no_memory_line};
 ghost use Rattle.vplace.specs.Status.{IsRefused};
 
-use crate::checking::{check_files, check_texts};
+use crate::arguments::as_bytes;
+use crate::check_command::{check_files, check_texts};
 use crate::example::{ARCH, NET, PLACE};
 use crate::files::NamedFiles;
 use crate::flags::{Asked, parse_words};
 use crate::messages;
-use crate::placing::place_files;
-use crate::resuming::resume_files;
+use crate::place_command::place_files;
+use crate::resume_command::resume_files;
 use crate::status::Status;
-use crate::words::as_bytes;
 use clap::Error;
 use clap::error::ErrorKind;
 use fab_text::{Sink, write_whole};
@@ -35,12 +35,21 @@ fn tell<O: Sink, E: Sink>(alloc: Global, error: &Error, out: &mut O, err: &mut E
     ensures silent { IsRefused result → O.contents out.new ≡ O.contents out.old }
     ensures written { result ≡ Status.Done → O.failed out.new ≡ O.failed out.old }
     ensures quiet { result ≡ Status.Done → E.contents err.new ≡ E.contents err.old }
-    ensures said { result ≢ Status.Done → IsFaultSaid (E.contents err.old) (E.contents err.new) (E.failed err.old) (E.failed err.new) }
+    ensures said { result ≢ Status.Done →
+        IsFaultSaid (E.contents err.old) (E.contents err.new) (E.failed err.old)
+        (E.failed err.new) }
     ensures told { result ≡ Status.Done → IsTold (O.contents out.old) (O.contents out.new) }
-    ensures memory { result ≡ Status.NoMemory → IsSaid no_memory_line (E.contents err.old) (E.contents err.new) (E.failed err.old) (E.failed err.new) }
-    ensures help { result ≡ Status.Done → (kind_of error.now ≡ ErrorKind.DisplayHelp) ⊎ (kind_of error.now ≡ ErrorKind.DisplayVersion) }
-    ensures wrong { kind_of error.now ≢ ErrorKind.DisplayHelp → kind_of error.now ≢ ErrorKind.DisplayVersion → (result ≡ Status.CommandLine) ⊎ (result ≡ Status.NoMemory) }
-    ensures served { (kind_of error.now ≡ ErrorKind.DisplayHelp) ⊎ (kind_of error.now ≡ ErrorKind.DisplayVersion) → IsServed result (O.failed out.old) (O.failed out.new) }
+    ensures memory { result ≡ Status.NoMemory →
+        IsSaid no_memory_line (E.contents err.old) (E.contents err.new) (E.failed err.old)
+        (E.failed err.new) }
+    ensures help { result ≡ Status.Done → (kind_of error.now ≡ ErrorKind.DisplayHelp) ⊎
+        (kind_of error.now ≡ ErrorKind.DisplayVersion) }
+    ensures wrong { kind_of error.now ≢ ErrorKind.DisplayHelp →
+        kind_of error.now ≢ ErrorKind.DisplayVersion → (result ≡ Status.CommandLine) ⊎
+        (result ≡ Status.NoMemory) }
+    ensures served { (kind_of error.now ≡ ErrorKind.DisplayHelp) ⊎
+        (kind_of error.now ≡ ErrorKind.DisplayVersion) →
+        IsServed result (O.failed out.old) (O.failed out.new) }
     ensures starved { kind_of error.now ≡ ErrorKind.OutOfMemory → result ≡ Status.NoMemory }
 {
     if error.kind() == ErrorKind::OutOfMemory {
@@ -74,13 +83,23 @@ fn run<R: AllocGlobal + Threads + Wait + Sync, F: NamedFiles, O: Sink, E: Sink>(
     ensures silent { IsRefused result → O.contents out.new ≡ O.contents out.old }
     ensures written { result ≡ Status.Done → O.failed out.new ≡ O.failed out.old }
     ensures quiet { result ≡ Status.Done → E.contents err.new ≡ E.contents err.old }
-    ensures said { result ≢ Status.Done → IsFaultSaid (E.contents err.old) (E.contents err.new) (E.failed err.old) (E.failed err.new) }
-    ensures memory { result ≡ Status.NoMemory → IsSaid no_memory_line (E.contents err.old) (E.contents err.new) (E.failed err.old) (E.failed err.new) }
-    ensures example { words.now ≡ [] → result ≡ Status.Done → IsExample ARCH.now NET.now PLACE.now (O.contents out.old) (O.contents out.new) }
-    ensures decided { result ≡ Status.Done → IsAsAsked ARCH.now NET.now PLACE.now (map (λ word. word.items) words.now) (F.held files.old) (F.held files.new) (O.contents out.old) (O.contents out.new) }
-    ensures wrong { words.now ≢ [] → faults (map (λ word. word.items) words.now) ≢ [] → (result ≡ Status.CommandLine) ⊎ ((result ≡ Status.NoMemory) ⊎ AskForHelp (map (λ word. word.items) words.now)) }
+    ensures said { result ≢ Status.Done →
+        IsFaultSaid (E.contents err.old) (E.contents err.new) (E.failed err.old)
+        (E.failed err.new) }
+    ensures memory { result ≡ Status.NoMemory →
+        IsSaid no_memory_line (E.contents err.old) (E.contents err.new) (E.failed err.old)
+        (E.failed err.new) }
+    ensures example { words.now ≡ [] → result ≡ Status.Done →
+        IsExample ARCH.now NET.now PLACE.now (O.contents out.old) (O.contents out.new) }
+    ensures decided { result ≡ Status.Done →
+        IsAsAsked ARCH.now NET.now PLACE.now (map (λ word. word.items) words.now) (F.held files.old)
+        (F.held files.new) (O.contents out.old) (O.contents out.new) }
+    ensures wrong { words.now ≢ [] → faults (map (λ word. word.items) words.now) ≢ [] →
+        (result ≡ Status.CommandLine) ⊎
+        ((result ≡ Status.NoMemory) ⊎ AskForHelp (map (λ word. word.items) words.now)) }
     ensures kept { result ≢ Status.Done → F.held files.new ≡ F.held files.old }
-    ensures served { AskForHelpAlone (map (λ word. word.items) words.now) → IsServed result (O.failed out.old) (O.failed out.new) }
+    ensures served { AskForHelpAlone (map (λ word. word.items) words.now) →
+        IsServed result (O.failed out.old) (O.failed out.new) }
 {
     let alloc = rt.alloc();
     match parse_words(alloc, words) {
@@ -109,26 +128,41 @@ pub fn program<R: AllocGlobal + Threads + Wait + Sync, F: NamedFiles, O: Sink, E
     ensures quiet { result ≡ 0 → E.contents err.new ≡ E.contents err.old }
 
     // If it is not 0, something was said there, unless standard error failed too; with 3, that there was no memory.
-    ensures said { result ≢ 0 → IsFaultSaid (E.contents err.old) (E.contents err.new) (E.failed err.old) (E.failed err.new) }
-    ensures memory { result ≡ 3 → IsSaid no_memory_line (E.contents err.old) (E.contents err.new) (E.failed err.old) (E.failed err.new) }
+    ensures said { result ≢ 0 →
+        IsFaultSaid (E.contents err.old) (E.contents err.new) (E.failed err.old)
+        (E.failed err.new) }
+    ensures memory { result ≡ 3 →
+        IsSaid no_memory_line (E.contents err.old) (E.contents err.new) (E.failed err.old)
+        (E.failed err.new) }
 
     // With no words it is 0 only if the report of the check of the built-in texts was written.
-    ensures example { words.now ≡ [] → result ≡ 0 → IsExample ARCH.now NET.now PLACE.now (O.contents out.old) (O.contents out.new) }
+    ensures example { words.now ≡ [] → result ≡ 0 →
+        IsExample ARCH.now NET.now PLACE.now (O.contents out.old) (O.contents out.new) }
 
-    // In all, 0 means that something that can be asked for was written: help or the version; the report of the built-in check, or of a check of
-    // named files; or the report of a run of named files, or of one that goes on from a named checkpoint, whose placement is then at the
-    // out name, or, if it stopped, its checkpoint at the save name.
-    ensures done { result ≡ 0 → IsTold (O.contents out.old) (O.contents out.new) ⊎ (IsExample ARCH.now NET.now PLACE.now (O.contents out.old) (O.contents out.new) ⊎ (IsChecked (F.held files.old) (O.contents out.old) (O.contents out.new) ⊎ (IsPlaced (F.held files.old) (F.held files.new) (O.contents out.old) (O.contents out.new) ⊎ IsResumed (F.held files.old) (F.held files.new) (O.contents out.old) (O.contents out.new)))) }
+    // In all, 0 means that something that can be asked for was written: help or the version; the report of the built-in check, or of a
+    // check of named files; or the report of a run of named files, or of one that goes on from a named checkpoint, whose placement is then
+    // at the out name, or, if it stopped, its checkpoint at the save name.
+    ensures done { result ≡ 0 → IsTold (O.contents out.old) (O.contents out.new) ⊎
+        (IsExample ARCH.now NET.now PLACE.now (O.contents out.old) (O.contents out.new) ⊎
+        (IsChecked (F.held files.old) (O.contents out.old) (O.contents out.new) ⊎
+        (IsPlaced (F.held files.old) (F.held files.new) (O.contents out.old)
+        (O.contents out.new) ⊎
+        IsResumed (F.held files.old) (F.held files.new) (O.contents out.old)
+        (O.contents out.new)))) }
 
     // And it was the words that asked for it: help or the version was told only if they ask for that, the built-in check was done only
     // with no words, and the names and numbers of a check or a run are those that its own subcommand's options give.
-    ensures decided { result ≡ 0 → IsAsAsked ARCH.now NET.now PLACE.now (map (λ word. word.items) words.now) (F.held files.old) (F.held files.new) (O.contents out.old) (O.contents out.new) }
+    ensures decided { result ≡ 0 →
+        IsAsAsked ARCH.now NET.now PLACE.now (map (λ word. word.items) words.now) (F.held files.old)
+        (F.held files.new) (O.contents out.old) (O.contents out.new) }
 
     // Wrong words end with 2, unless memory runs out, or they ask for help or the version.
-    ensures wrong { words.now ≢ [] → faults (map (λ word. word.items) words.now) ≢ [] → (result ≡ 2) ⊎ ((result ≡ 3) ⊎ AskForHelp (map (λ word. word.items) words.now)) }
+    ensures wrong { words.now ≢ [] → faults (map (λ word. word.items) words.now) ≢ [] →
+        (result ≡ 2) ⊎ ((result ≡ 3) ⊎ AskForHelp (map (λ word. word.items) words.now)) }
 
     // Words that ask for help or the version, with nothing wrong in them, end with 0, unless memory runs out or the output fails.
-    ensures served { AskForHelpAlone (map (λ word. word.items) words.now) → (result ≡ 0) ⊎ ((result ≡ 3) ⊎ ((result ≡ 4) × (O.failed out.new ≡ grown (O.failed out.old)))) }
+    ensures served { AskForHelpAlone (map (λ word. word.items) words.now) → (result ≡ 0) ⊎
+        ((result ≡ 3) ⊎ ((result ≡ 4) × (O.failed out.new ≡ grown (O.failed out.old)))) }
 
     // If it is not 0, the files are as before.
     ensures kept { result ≢ 0 → F.held files.new ≡ F.held files.old }

@@ -21,10 +21,15 @@ pub fn read_role<F: NamedFiles, E: Sink>(
     err: &mut E,
 ) -> Result<Vec<u8>, Status>
     ensures gives { IfOk result (λ text. Gives (F.held files.now) name.now text.items) }
-    ensures unread { IfErr result (λ status. IsUnread (F.held files.now) role name.now status (λ line. IsSaid line (E.contents err.old) (E.contents err.new) (E.failed err.old) (E.failed err.new))) }
+    ensures unread { IfErr result (λ status.
+        IsUnread (F.held files.now) role name.now status (λ line.
+        IsSaid line (E.contents err.old) (E.contents err.new) (E.failed err.old)
+        (E.failed err.new))) }
     ensures read { OnOk result (E.contents err.new ≡ E.contents err.old) }
     ensures still { OnOk result (E.failed err.new ≡ E.failed err.old) }
-    ensures said { OnErr result (IsFaultSaid (E.contents err.old) (E.contents err.new) (E.failed err.old) (E.failed err.new)) }
+    ensures said { OnErr result
+        (IsFaultSaid (E.contents err.old) (E.contents err.new) (E.failed err.old)
+        (E.failed err.new)) }
     ensures fault { IfErr result (λ status. (status ≡ Status.Device) ⊎ (status ≡ Status.NoMemory)) }
 {
     match files.read(alloc, name) {
@@ -45,10 +50,15 @@ pub fn read_arch_and_net<F: NamedFiles, E: Sink>(
     ensures arch { IfOk result (λ texts. Gives (F.held files.now) arch_name.now texts.0.items) }
     ensures net { IfOk result (λ texts. Gives (F.held files.now) net_name.now texts.1.items) }
     // Only where the architecture was read, the netlist is.
-    ensures unread { IfErr result (λ status. AreTextsUnread (F.held files.now) arch_name.now net_name.now status (λ line. IsSaid line (E.contents err.old) (E.contents err.new) (E.failed err.old) (E.failed err.new))) }
+    ensures unread { IfErr result (λ status.
+        AreTextsUnread (F.held files.now) arch_name.now net_name.now status (λ line.
+        IsSaid line (E.contents err.old) (E.contents err.new) (E.failed err.old)
+        (E.failed err.new))) }
     ensures read { OnOk result (E.contents err.new ≡ E.contents err.old) }
     ensures still { OnOk result (E.failed err.new ≡ E.failed err.old) }
-    ensures said { OnErr result (IsFaultSaid (E.contents err.old) (E.contents err.new) (E.failed err.old) (E.failed err.new)) }
+    ensures said { OnErr result
+        (IsFaultSaid (E.contents err.old) (E.contents err.new) (E.failed err.old)
+        (E.failed err.new)) }
     ensures fault { IfErr result (λ status. (status ≡ Status.Device) ⊎ (status ≡ Status.NoMemory)) }
 {
     let arch = read_role(alloc, files, Role::Arch, arch_name, err)?;

@@ -1,5 +1,5 @@
-// The program where it is refused memory. A test passes as it is, and where one growth of its process is refused: tests/refusals/growths refuses
-// each in turn. Since no second one is refused, a run that was refused is made again, and then it has to come to its end.
+// The program where it is refused memory. A test passes as it is, and where one growth of its process is refused: tests/refusals/growths
+// refuses each in turn. Since no second one is refused, a run that was refused is made again, and then it has to come to its end.
 
 use crate::desk::{Desk, PLACE, POINT, REPORT, WORDS};
 use crate::narrow::Narrow;
@@ -12,8 +12,8 @@ use std::sync::Wait;
 use std::test::*;
 use std::thread::Threads;
 
-// Tells how many growths later one is refused, if it is among the next 10,000: that is, if what was tried has met none. tests/refusals/growths
-// reads it.
+// Tells how many growths later one is refused, if it is among the next 10,000: that is, if what was tried has met none.
+// tests/refusals/growths reads it.
 fn tell_refusal_to_come(rt: &(impl AllocGlobal + Print)) {
     for later in 0..10_000u64 {
         if Vec::<u8>::with_capacity(rt.alloc(), 1).is_err() {
@@ -108,8 +108,8 @@ struct Wanted<'a> {
 
 const NO_MEMORY: &[u8] = b"vplace: no memory\n";
 
-// Whether a run came to what it has to. If it was refused memory, it says so, has written a beginning of its report, and leaves its files as
-// they were.
+// Whether a run came to what it has to. If it was refused memory, it says so, has written a beginning of its report, and leaves its files
+// as they were.
 fn is_made(rt: &impl Abort, left: &Left, wanted: Wanted<'_>) -> bool {
     assert_eq!(rt; left.desk.taken(), 0);
     let placed = left.desk.placed().unwrap_or(b"");
@@ -220,7 +220,8 @@ fn growths_of_a_program_that_goes_on(rt: HostRuntime) -> Result<(), Fail> {
     Err(Fail::from("two runs were refused"))
 }
 
-// Words that are answered with this status and no run: help, or a wrong command line. What is said must be the same each time that it is said.
+// Words that are answered with this status and no run: help, or a wrong command line. What is said must be the same each time that it is
+// said.
 fn assert_said(
     rt: &(impl Abort + AllocGlobal + Print + Threads + Wait + Sync),
     words: &[&[u8]],

@@ -5,11 +5,11 @@ ghost use Rattle.clap.specs.Words.{found_of, rows_of, shape_of};
 ghost use Rattle.vplace.specs.CommandLine.{command, resume_options};
 ghost use Rattle.vplace.specs.Given.{AreGivenToResume};
 
-use crate::asked::ResumeWords;
 use crate::options::{
     ARCH, BATCH, NET, OUT, OptionRow, SAVE, STOP, Takes, WORKERS, file_name, number, optional_name,
     whole, with_options,
 };
+use crate::requests::ResumeWords;
 use clap::{ArgMatches, Command};
 use std::alloc::{AllocError, Global};
 

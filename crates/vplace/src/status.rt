@@ -45,7 +45,8 @@ impl Status {
 pub fn status_after(fault: &RunFault) -> Status
     ensures status { result ≡ status_of fault.now }
     ensures open { result ≢ Status.Done }
-    ensures device { result ≡ Status.Device → (fault.now ≡ Report) ⊎ ((fault.now ≡ Place Write) ⊎ (fault.now ≡ Point PointWrite)) }
+    ensures device { result ≡ Status.Device → (fault.now ≡ Report) ⊎
+        ((fault.now ≡ Place Write) ⊎ (fault.now ≡ Point PointWrite)) }
 {
     match fault {
         RunFault::NoMemory

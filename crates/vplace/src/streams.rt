@@ -7,8 +7,8 @@ use std::os::fd::AsRawFd;
 // The numbers of the standard streams are below this one.
 const STREAMS: i32 = 3;
 
-/// Takes the least number of a standard stream that is closed, if one is. What has it then is a folder, which can be neither read as a file nor
-/// written, so a closed output fails as it should.
+/// Takes the least number of a standard stream that is closed, if one is. What has it then is a folder, which can be neither read as a file
+/// nor written, so a closed output fails as it should.
 pub fn taken(rt: &HostRuntime) -> Option<File> {
     match File::open(rt, "/") {
         Ok(folder) if folder.as_raw_fd() < STREAMS => Some(folder),

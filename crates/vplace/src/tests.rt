@@ -2,11 +2,11 @@
 
 ghost use Rattle.std.specs.Prelude.{None, []};
 
+use crate::arguments::{as_bytes, as_text};
 use crate::desk::{Desk, PLACE, POINT, REPORT, WORDS};
 use crate::files::{NamedFiles, ReadFault, WriteFault};
 use crate::narrow::Narrow;
 use crate::program::program;
-use crate::words::{as_bytes, as_text};
 use fab_text::Counted;
 use std::alloc::{AllocError, Global};
 use std::cell::Cell;

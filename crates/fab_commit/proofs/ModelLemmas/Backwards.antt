@@ -5,9 +5,9 @@ use Rattle.std.proofs.lemmas.Bool.{cases_Bool, false≢true, le-leb, or_parts}
 use Rattle.std.proofs.lemmas.List.{set_comm}
 use Rattle.std.proofs.lemmas.List.Folds.{list_any-append}
 use Rattle.fab_arch.specs.declared.array.Site.{Site}
-use Rattle.fab_net.specs.declared.pieces.BlockId.{BlockId}
+use Rattle.fab_net.specs.declared.netlist_types.BlockId.{BlockId}
 use Rattle.fab_net.specs.Netlist.{Netlist}
-use Rattle.fab_site.specs.declared.pieces.Swap.{Swap}
+use Rattle.fab_site.specs.declared.placement_types.Swap.{Swap}
 use Rattle.fab_site.specs.Placement.{at, same_site, site_of, swapped, with_other}
 use Rattle.fab_site.specs.Words.{pick_of}
 use Rattle.fab_site.proofs.Swaps.{IsHeldBy, IsReady, Placed, held_by, length-swapped, placed}

@@ -5,7 +5,7 @@ use Rattle.std.proofs.lemmas.List.Sums.{sum_by-cons}
 use Rattle.std.proofs.lemmas.Bool.{or_left, or_right, eq-eqb}
 use Rattle.std.proofs.lemmas.Int.{ints}
 use Rattle.fab_arch.specs.declared.array.Site.{Site}
-use Rattle.fab_site.specs.declared.pieces.Swap.{Swap}
+use Rattle.fab_site.specs.declared.placement_types.Swap.{Swap}
 use Rattle.fab_net.specs.Netlist.{Netlist, counted, net_at, has_number}
 use Rattle.fab_arch.specs.Grid.{GridShape}
 use Rattle.fab_site.specs.Placement.{swapped}

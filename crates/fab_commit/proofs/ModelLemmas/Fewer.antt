@@ -5,9 +5,9 @@ use Rattle.std.specs.Prelude.{nat_le, slice_index}
 use Rattle.std.specs.List.{filter, list_any}
 use Rattle.std.proofs.lemmas.Bool.{false_from_ne_true, false≢true, le-leb, or_cases, or_left, or_parts, or_right}
 use Rattle.fab_arch.specs.declared.array.Site.{Site}
-use Rattle.fab_net.specs.declared.pieces.BlockId.{BlockId}
+use Rattle.fab_net.specs.declared.netlist_types.BlockId.{BlockId}
 use Rattle.fab_net.specs.Netlist.{Netlist, nets_of}
-use Rattle.fab_site.specs.declared.pieces.Swap.{Swap}
+use Rattle.fab_site.specs.declared.placement_types.Swap.{Swap}
 use Rattle.fab_site.specs.Placement.{swapped}
 use Rattle.fab_site.proofs.Swaps.{IsHeldBy, IsReady}
 use Rattle.fab_cost.specs.Runs.{few_of, is_large}

@@ -9,8 +9,8 @@ use Rattle.std.proofs.Math.Nat.{mod-add-div'}
 use Rattle.fab_arch.specs.declared.array.Site.{Site}
 use Rattle.fab_arch.specs.Grid.{GridShape, kind_at}
 use Rattle.fab_net.specs.Netlist.{Netlist}
-use Rattle.fab_net.specs.declared.pieces.BlockId.{BlockId}
-use Rattle.fab_site.specs.declared.pieces.Swap.{Swap}
+use Rattle.fab_net.specs.declared.netlist_types.BlockId.{BlockId}
+use Rattle.fab_site.specs.declared.placement_types.Swap.{Swap}
 use Rattle.fab_site.specs.Placement.{IsLegal, IsSwapOf, same_site, site_of, at}
 use Rattle.fab_site.specs.Words.{pick_of}
 use Rattle.fab_site.proofs.Swapping.{other_within}

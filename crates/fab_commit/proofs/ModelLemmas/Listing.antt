@@ -3,8 +3,8 @@ use Rattle.std.proofs.Common.{◌≡◌, ℕ, suc, ◌+◌, ◌-◌, ◌<◌, Bo
 use Rattle.std.specs.Prelude.{nat_lt}
 use Rattle.std.specs.List.{filter, list_any, range_with_len}
 use Rattle.std.proofs.lemmas.Bool.{and_parts, or_left, or_right, or_cases, eq-eqb, ne_eqb, eqb-true, false≢true, lt-ltb, cases_eq, cases_lt}
-use Rattle.fab_net.specs.declared.pieces.BlockId.{BlockId}
-use Rattle.fab_net.specs.declared.pieces.NetId.{NetId}
+use Rattle.fab_net.specs.declared.netlist_types.BlockId.{BlockId}
+use Rattle.fab_net.specs.declared.netlist_types.NetId.{NetId}
 use Rattle.fab_net.specs.BlockNets.{net_id}
 use Rattle.fab_move.specs.declared.marks.Mark.{Mark}
 use Rattle.fab_move.specs.declared.marks.Mark.TheVariants.{Block, Place, Net}

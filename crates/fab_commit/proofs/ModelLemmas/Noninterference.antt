@@ -2,8 +2,8 @@
 use Rattle.std.proofs.Common.{◌≡◌, ◌≢◌, ℕ, zero, suc, ◌+◌, Bool, true, false, cond, ◌==◌, List, [], ◌∷◌, ◌++◌, Option, Some, None, slice_get, length, refl, sym, ap, subst, ◌∙◌, inl, inr, arith}
 use Rattle.std.proofs.lemmas.Bool.{or_left, or_right, or_cases, eq-eqb, false≢true, false_from_ne_true, cases_Bool}
 use Rattle.fab_arch.specs.declared.array.Site.{Site}
-use Rattle.fab_net.specs.declared.pieces.BlockId.{BlockId}
-use Rattle.fab_site.specs.declared.pieces.Swap.{Swap}
+use Rattle.fab_net.specs.declared.netlist_types.BlockId.{BlockId}
+use Rattle.fab_site.specs.declared.placement_types.Swap.{Swap}
 use Rattle.fab_move.specs.declared.marks.Mark.{Mark}
 use Rattle.fab_move.specs.declared.marks.Mark.TheVariants.{Block, Place, Net}
 use Rattle.fab_move.specs.declared.proposals.Proposal.{Proposal}

@@ -8,7 +8,7 @@ use Rattle.std.proofs.lemmas.List.Elements.{All-filter, All-push, All-nil, filte
 use Rattle.std.specs.List.{AllByRecursion}
 use Rattle.std.proofs.Math.Nat.{div-lt_iff_lt-mul, mul-le-mul_right, div-mul-le_self, mod-add-div', le-div_iff_mul-le}
 use Rattle.fab_arch.specs.declared.array.Site.{Site}
-use Rattle.fab_site.specs.declared.pieces.Swap.{Swap}
+use Rattle.fab_site.specs.declared.placement_types.Swap.{Swap}
 use Rattle.fab_move.specs.declared.marks.Mark.{Mark}
 use Rattle.fab_commit.specs.declared.model.events.Way.{Way}
 use Rattle.fab_move.specs.declared.proposals.Proposal.{Proposal}

@@ -3,8 +3,8 @@ use Rattle.std.proofs.Common.{◌≡◌, ◌≢◌, ℕ, zero, suc, ◌+◌, Boo
 use Rattle.std.proofs.lemmas.Bool.{or_left, or_right, or_parts, eq-eqb, false≢true}
 use Rattle.std.proofs.lemmas.List.{set_comm}
 use Rattle.fab_arch.specs.declared.array.Site.{Site}
-use Rattle.fab_net.specs.declared.pieces.BlockId.{BlockId}
-use Rattle.fab_site.specs.declared.pieces.Swap.{Swap}
+use Rattle.fab_net.specs.declared.netlist_types.BlockId.{BlockId}
+use Rattle.fab_site.specs.declared.placement_types.Swap.{Swap}
 use Rattle.fab_net.specs.Netlist.{has_number}
 use Rattle.fab_site.specs.Placement.{same_site, nowhere, site_of, at, at_from, with_other, swapped}
 

@@ -7,7 +7,7 @@ use Rattle.std.proofs.lemmas.Bool.{cases_lt, le-leb, le-ltb, lt-leb, lt-ltb}
 use Rattle.std.proofs.lemmas.List.{map-append}
 use Rattle.std.proofs.lemmas.List.Elements.{filter-append, recursion_from_All}
 use Rattle.std.proofs.lemmas.List.FromFn.{length-map-range_with_len}
-use Rattle.fab_site.specs.declared.pieces.Swap.{Swap}
+use Rattle.fab_site.specs.declared.placement_types.Swap.{Swap}
 use Rattle.fab_commit.specs.declared.model.events.Event.{Event}
 use Rattle.fab_commit.specs.declared.model.events.Event.TheVariants.{Commit, Refresh, Claim, Judge, Lose}
 use Rattle.fab_commit.specs.declared.model.events.Way.{Way}

@@ -6,7 +6,7 @@ use Rattle.fab_cost.specs.Swapping.{CountedStandsFor}
 use Rattle.fab_arch.specs.declared.array.Site.{Site}
 use Rattle.fab_arch.specs.Grid.{GridShape}
 use Rattle.fab_cost.specs.declared.edge_boxes.EdgeBoxes.{EdgeBoxes}
-use Rattle.fab_site.specs.declared.pieces.Swap.{Swap}
+use Rattle.fab_site.specs.declared.placement_types.Swap.{Swap}
 use Rattle.fab_site.specs.declared.places.Placement.{Placement}
 use Rattle.fab_site.specs.Placement.{IsLegal, IsSwapOf, swapped}
 use Rattle.fab_move.specs.declared.verdicts.Decision.{Decision}

@@ -5,9 +5,9 @@ use Rattle.std.specs.Prelude.{slice_index, not}
 use Rattle.std.specs.List.{filter, range_with_len}
 use Rattle.fab_arch.specs.declared.array.Site.{Site}
 use Rattle.fab_arch.specs.Grid.{GridShape, kind_at}
-use Rattle.fab_net.specs.declared.pieces.BlockId.{BlockId}
+use Rattle.fab_net.specs.declared.netlist_types.BlockId.{BlockId}
 use Rattle.fab_net.specs.Netlist.{Netlist}
-use Rattle.fab_site.specs.declared.pieces.Swap.{Swap}
+use Rattle.fab_site.specs.declared.placement_types.Swap.{Swap}
 use Rattle.fab_site.specs.Free.{is_free}
 use Rattle.fab_site.specs.Placement.{Fits, IsLegal, IsSwapOf, fixed_at, same_site, site_of, at, swapped}
 use Rattle.fab_site.specs.Words.{pick_of}

@@ -6,13 +6,13 @@ use Rattle.std.proofs.lemmas.Bool.{cases_Bool, cases_eq, eq-eqb, ne_eqb, false�
 use Rattle.std.proofs.lemmas.List.{get_or-set_same, get_or-set_other, length-map}
 use Rattle.fab_arch.specs.declared.array.Site.{Site}
 use Rattle.fab_arch.specs.Grid.{GridShape}
-use Rattle.fab_net.specs.declared.pieces.BlockId.{BlockId}
-use Rattle.fab_net.specs.declared.pieces.NetId.{NetId}
+use Rattle.fab_net.specs.declared.netlist_types.BlockId.{BlockId}
+use Rattle.fab_net.specs.declared.netlist_types.NetId.{NetId}
 use Rattle.fab_net.specs.BlockNets.{net_id}
 use Rattle.fab_net.specs.Netlist.{Netlist, nets_of}
 use Rattle.fab_site.specs.Placement.{same_site}
 use Rattle.fab_site.specs.Index.{index_of}
-use Rattle.fab_site.specs.declared.pieces.Swap.{Swap}
+use Rattle.fab_site.specs.declared.placement_types.Swap.{Swap}
 use Rattle.fab_cost.specs.Runs.{is_large}
 use Rattle.fab_cost.proofs.Nets.{net_counts}
 use Rattle.fab_site.proofs.Tables.{index_apart, same_is, itself}
@@ -53,7 +53,7 @@ place_touched g blocks places nets site i x at_i low (Place q) =
     elsewhere None h = refl
     elsewhere (Some j) h = get_or-set_other places i j x 0 (λ e. h (ap Some e))
 
-block_alone : (b : BlockId) (xs : List ℕ) (x k : ℕ) → b.0 < length xs → slice_index (set xs b.0 x) k ≡ cond (k == b.0) x (slice_index xs k)
+pub block_alone : (b : BlockId) (xs : List ℕ) (x k : ℕ) → b.0 < length xs → slice_index (set xs b.0 x) k ≡ cond (k == b.0) x (slice_index xs k)
 block_alone b xs x k low = elim (cases_eq k b.0) [
   | inl e ↦ (let f : eqb k b.0 ≡ true = eq-eqb k b.0 e in ap (λ j. slice_index (set xs b.0 x) j) e ∙ get_or-set_same xs b.0 x 0 low ∙ ap (λ v. cond v x (slice_index xs k)) (sym f))
   | inr n ↦ (let f : eqb k b.0 ≡ false = ne_eqb k b.0 n in get_or-set_other xs b.0 k x 0 (λ e. n e) ∙ ap (λ v. cond v x (slice_index xs k)) (sym f))
@@ -112,7 +112,7 @@ swap_touched d g s x m old other block to from a b c e =
 
 -- whether marks were touched, one list after another
 
-any_append : (f : Mark → Bool) (xs ys : List Mark) → list_any f (xs ++ ys) ≡ (list_any f xs || list_any f ys)
+pub any_append : (f : Mark → Bool) (xs ys : List Mark) → list_any f (xs ++ ys) ≡ (list_any f xs || list_any f ys)
 any_append f [] ys = refl
 any_append f (x ∷ xs) ys = elim (f x) as (λ b. (b || list_any f (xs ++ ys)) ≡ ((b || list_any f xs) || list_any f ys)) [
   | true ↦ refl

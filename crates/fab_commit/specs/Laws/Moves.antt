@@ -4,7 +4,7 @@ use Rattle.std.specs.List.{All}
 use Rattle.fab_arch.specs.declared.array.Site.{Site}
 use Rattle.fab_arch.specs.Grid.{kind_at}
 use Rattle.fab_net.specs.Netlist.{Netlist}
-use Rattle.fab_site.specs.declared.pieces.Swap.{Swap}
+use Rattle.fab_site.specs.declared.placement_types.Swap.{Swap}
 use Rattle.fab_site.specs.Placement.{IsLegal}
 use Rattle.fab_move.specs.declared.marks.Mark.{Mark}
 use Rattle.fab_move.specs.declared.proposals.Proposal.TheVariants.{Move}
@@ -63,6 +63,7 @@ pub record IsOfItsBase (p : Run) (x : Standing) (w : World) (v : JudgedMove) : T
   pub based : (x.done ≤ v.base) × (v.base ≤ w.live.done)
   pub judged_there : v.judged ≡ judged_here p (from p x (v.base - x.done)) v.number
 
+-- each verdict that a world still has is a judgement on the placement of its base
 abbrev pub VerdictsAreOfTheirBase : Type 0
 VerdictsAreOfTheirBase =
     (p : Run) (x : Standing) (events : List Event) → 0 < p.plan.moves →
@@ -82,8 +83,7 @@ RedoneIsSerial =
     verdict_here now ≡ Some v
     → clash p.problem.design now.accepted v.base v.judged.footprint ≡ is_redone p x v.base now.live.done
 
--- stamps of the last accepted move that touched a mark tell the same as the accepted swaps, and one more swap sets the stamps of what
--- it touches
+-- stamps decide whether a swap touched a mark exactly as the list of accepted swaps does; one more swap sets the stamps of what it touches
 pub record StampsTell : Type 0 where
   pub clash_is : (d : Netlist) (accepted : List Accepted) (base : ℕ) (marks : List Mark) → clash d accepted base marks ≡ is_stamped d accepted base marks
   pub stamp_is : (d : Netlist) (accepted : List Accepted) (a : Accepted) (m : Mark) → AreBefore a.number accepted → stamp d (accepted ++ a ∷ []) m ≡ (if has_mark m (touched d a.swap) then a.number + 1 else stamp d accepted m)

@@ -37,6 +37,7 @@ EveryBatchIsSerial =
     let now = turns r (world x) batches in
     (now.live ≡ from r x (now.live.done - x.done)) × (now ≡ world_behind r (last_turn r (no_turn x) batches))
 
+-- how a move got its answer, if it was judged again, and if not
 abbrev pub way_if : Bool → Way
 way_if redone = if redone then Redone else Taken
 

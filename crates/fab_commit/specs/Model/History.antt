@@ -4,10 +4,11 @@ use Rattle.fab_commit.specs.Serial.{Run, Standing, judged_here, step, from}
 use Rattle.fab_commit.specs.declared.run.swaps.Accepted.{Accepted}
 use Rattle.fab_commit.specs.Model.World.{accepted_now, clash}
 
+-- the next move with its swap, if it is accepted
 abbrev pub accepted_at : Run → Standing → List Accepted
 accepted_at p x = if is_some x.heat then accepted_now x.done (judged_here p x x.done) else []
 
--- the accepted moves among the next n
+-- the accepted moves among the next n, each with its swap
 abbrev pub accepted_from : Run → Standing → ℕ → List Accepted
 accepted_from p x zero = []
 accepted_from p x (suc n) = accepted_at p x ++ accepted_from p (step p x) n

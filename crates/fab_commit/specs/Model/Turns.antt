@@ -25,7 +25,7 @@ abbrev pub redone : Run → LastTurn → List ℕ → ℕ
 redone r t [] = 0
 redone r t (batch ∷ batches) = redone_next r batch t + redone r (next_turn r batch t) batches
 
--- where the part of a run from move `first` on that lies in the stage of move k begins
+-- the first move, from `first` on, of the stage of move k
 abbrev pub part_of : ℕ → ℕ → ℕ → ℕ
 part_of moves first k = max first (k - k % moves)
 
@@ -34,8 +34,8 @@ abbrev pub cut_of : ℕ → ℕ → ℕ → ℕ → ℕ
 cut_of moves first batch k =
     let part = part_of moves first k in part + (k - part) / batch * batch
 
--- what move k is first judged on: where the turn before its own began, if that turn belongs to this part of the run, otherwise where
--- its own turn begins
+-- how many moves had been made where move k is first judged: where the turn before its own begins, if that turn belongs to this part of the
+-- run, else where its own turn begins
 abbrev pub base_of : ℕ → ℕ → ℕ → ℕ → ℕ
 base_of moves first batch k = max (part_of moves first k) (cut_of moves first batch k - batch)
 

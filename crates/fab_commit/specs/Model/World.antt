@@ -3,7 +3,7 @@
 use Rattle.std.specs.Prelude.{ℕ, ◌+◌, ◌-◌, ◌*◌, ◌/◌, Bool, true, false, not, if◌then◌else◌, nat_lt, nat_le, ◌&&◌, ◌||◌, ◌==◌, List, [], ◌∷◌, ◌++◌, Option, Some, None}
 use Rattle.std.specs.List.{list_any, filter, range_with_len}
 use Rattle.fab_net.specs.Netlist.{Netlist}
-use Rattle.fab_site.specs.declared.pieces.Swap.{Swap}
+use Rattle.fab_site.specs.declared.placement_types.Swap.{Swap}
 use Rattle.fab_move.specs.declared.marks.Mark.{Mark}
 use Rattle.fab_move.specs.Judge.{Judged, meet, touched}
 use Rattle.fab_commit.specs.declared.model.judged.Claimed.{Claimed}
@@ -178,7 +178,7 @@ abbrev pub run_through : Run → World → List Event → World
 run_through p w [] = w
 run_through p w (e ∷ events) = run_through p (happens p w e) events
 
--- how a commit got its answer, from the verdict that was there and the same verdict if it was usable
+-- how a commit got its answer: the first argument is the verdict of the move, if there was one, the second the same if it was usable
 abbrev pub way_of : Option JudgedMove → Option JudgedMove → Way
 way_of found (Some v) = Taken
 way_of None None = Late

@@ -3,9 +3,9 @@ use Rattle.std.specs.Prelude.{ℕ, ◌≡◌, ◌<◌, Bool, false, not, if◌th
 use Rattle.std.specs.List.{All, filter}
 use Rattle.fab_arch.specs.declared.array.Site.{Site}
 use Rattle.fab_arch.specs.Grid.{GridShape, kind_at}
-use Rattle.fab_net.specs.declared.pieces.BlockId.{BlockId}
+use Rattle.fab_net.specs.declared.netlist_types.BlockId.{BlockId}
 use Rattle.fab_net.specs.Netlist.{Netlist}
-use Rattle.fab_site.specs.declared.pieces.Swap.{Swap}
+use Rattle.fab_site.specs.declared.placement_types.Swap.{Swap}
 use Rattle.fab_site.specs.Placement.{IsLegal}
 use Rattle.fab_sched.specs.Annealing.{Plan, IsLawful}
 use Rattle.fab_commit.specs.declared.model.judged.JudgedMove.{JudgedMove}
@@ -47,14 +47,14 @@ pub record IsReached (r : Run) (w : World) (told : List Way) : Type 0 where
   pub here : w ≡ run_through r (world (at_start r first)) events
   pub ways : told ≡ ways r (world (at_start r first)) events
 
--- the standing is that of moves made one at a time from a legal first placement, and each move has its way
+-- the standing is that of moves made one at a time from a legal first placement, and there is one way for each of them
 pub record IsSerial (r : Run) (x : Standing) (told : List Way) : Type 0 where
   pub first : List Site
   pub legal : IsLegal r.problem.design r.problem.grid r.problem.fixed first
   pub stands : x ≡ from r (at_start r first) x.done
   pub each : length told ≡ x.done
 
--- the state, in the form of the definition
+-- the world of a state of the program
 abbrev pub world_of : WorldState → World
 world_of s =
     record {
@@ -65,6 +65,7 @@ world_of s =
       accepted = s.accepted.items;
     }
 
+-- the block, if any, is one of the design's
 abbrev pub IsBlock : Netlist → Option BlockId → Type 0
 IsBlock d None = Unit {0}
 IsBlock d (Some b) = b.0 < length d.kinds
@@ -95,9 +96,11 @@ last_among worker all [] = None
 last_among worker all (v ∷ rest) =
     if v.worker == worker && is_last worker all v.number then Some v.number else last_among worker all rest
 
+-- it is this number
 abbrev pub is_number : Option ℕ → ℕ → Bool
 is_number None n = false
 is_number (Some m) n = n == m
 
+-- the verdicts without the worker's last one
 abbrev pub without_verdict : ℕ → Option ℕ → List JudgedMove → List JudgedMove
 without_verdict worker last verdicts = filter (λ (v : JudgedMove). not (v.worker == worker && is_number last v.number)) verdicts

@@ -92,7 +92,8 @@ with_shorter turns batch (suc short) = replicate turns batch ++ suc short ∷ []
 abbrev pub unjudged : LastTurn → LastTurn
 unjudged t = record { start = t.start; made = t.made; ahead = 0 }
 
--- after turn t, turns of this batch and then a shorter one made `made` moves; if no move of the stage is left, none was shorter but by that
+-- after turn t, turns of this batch and then a shorter one made `made` moves; if that used up the stage, no turn is shorter than the stage
+-- makes it, and nothing is left to judge ahead
 pub record HaveEnded (r : Run) (batch : ℕ) (t : LastTurn) (o : Owner) (made : ℕ) (now : Owner) (due : Ahead) : Type 0 where
   pub turns : ℕ
   pub short : ℕ
@@ -123,7 +124,7 @@ pub record AreMadeAlone {A : Type 0} (r : Run) (batch count : ℕ) (o : Owner) (
   pub ends : OnOk answer (EndsAt r batch (standing_of o.state) (standing_of now.state) old new)
   pub cut : OnErr answer (LeadsTo r batch (standing_of o.state) (standing_of now.state) old new)
 
--- nothing is judged ahead
+-- nothing is judged ahead, and the base is that of `due`
 pub record IsUnjudged (now : Pipeline) (due : Ahead) : Type 0 where
   pub base : now.base ≡ due.base
   pub ahead : now.ahead.items ≡ []

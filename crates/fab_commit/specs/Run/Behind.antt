@@ -1,7 +1,7 @@
--- The state of those who follow the owner, as contracts see it (our own).
+-- The state of a worker, which follows the owner's posts, as contracts see it (our own).
 use Rattle.std.specs.Prelude.{◌≡◌, ◌+◌, ◌*◌, ◌≤◌, true, List, [], ◌∷◌, None, refl}
 use Rattle.fab_arch.specs.declared.array.Site.{Site}
-use Rattle.fab_site.specs.declared.pieces.Swap.{Swap}
+use Rattle.fab_site.specs.declared.placement_types.Swap.{Swap}
 use Rattle.fab_site.specs.Placement.{IsLegal, site, swapped}
 use Rattle.fab_cost.specs.Cost.{cost_of}
 use Rattle.fab_commit.specs.declared.run.post.Post.{Post}
@@ -11,7 +11,7 @@ use Rattle.fab_commit.specs.Serial.{Run, Standing, side}
 use Rattle.fab_commit.specs.Run.Commits.{StageStands, heat_of}
 use Rattle.fab_commit.specs.Run.Owners.{Leads}
 
--- what the run is given, and the standing that was followed to
+-- what the run is given, and the standing after the posts that were followed
 pub record BehindOf (W : Type 0) : Type 0 where
   pub given : Given W
   pub standing : Standing
@@ -53,6 +53,6 @@ to_where_it_was = record { block = record { 0 = 1 }; from = site 2 2 0; to = sit
 pub two_swaps : all_swapped (site 1 1 0 ∷ site 2 2 0 ∷ []) (record { number = 0; swap = to_an_empty_site } ∷ record { number = 1; swap = to_where_it_was } ∷ []) ≡ site 2 1 0 ∷ site 1 1 0 ∷ []
 two_swaps = refl
 
--- behind the last move of a run there is no temperature
+-- after the last move of a run there is no temperature
 pub behind_the_last_move : (x : Standing) (p : Post) → (after_post x (record p { ended = true })).heat ≡ None
 behind_the_last_move x p = refl

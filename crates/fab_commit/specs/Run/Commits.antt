@@ -17,6 +17,7 @@ use Rattle.fab_commit.specs.declared.model.judged.JudgedMove.{JudgedMove}
 use Rattle.fab_commit.specs.Serial.{Run, Standing, one_if, side}
 use Rattle.fab_commit.specs.Model.World.{World}
 
+-- a run of a design on an array, with fixed sites, words and a plan
 abbrev pub run : Netlist → GridShape → List (Option Site) → (ℕ → List ℕ) → Plan → Run
 run d g fixed words plan = record { problem = problem d g fixed words; plan = plan }
 
@@ -59,9 +60,11 @@ abbrev pub turn_of : Option ℕ → Turn
 turn_of None = Finished
 turn_of (Some t) = More
 
+-- no temperature once the run is over
 abbrev pub heat_of : Bool → ℕ → Option ℕ
 heat_of ended t = if ended then None else Some t
 
+-- the standing of an annealer's state
 abbrev pub standing_of : State → Standing
 standing_of s =
     record {

@@ -8,12 +8,11 @@ use Rattle.fab_commit.specs.Run.Commits.{standing_of}
 use Rattle.fab_commit.specs.Run.Owners.{Leads}
 use Rattle.fab_commit.specs.Model.TurnEvents.{LastTurn}
 
--- who follows these posts from the start on is at this standing of this run
+-- a state that follows these posts from `start` is at this standing of this run
 abbrev pub IsTied : {S : Type 0} → (S → Run) → (S → Standing) → (S → Post → S) → Option S → List Post → Run → Standing → Type 0
 IsTied {S} run standing after start posts r x = (s0 : S) × (start ≡ Some s0) × (run (followed after s0 posts) ≡ r) × (standing (followed after s0 posts) ≡ x)
 
--- a crew, if there is one, is where the owner is before the first turn, and behind turn t where that turn began; the owner has the swaps that
--- it accepted since
+-- before the first turn the crew, if any, is where the owner is; after turn t it is where t began, and the owner's swaps lead on from there
 abbrev pub IsBeside : {S : Type 0} → (S → Run) → (S → Standing) → (S → Post → S) → Option S → Run → LastTurn → Owner → Bool → Option (List Post × List Post) → Type 0
 IsBeside run standing after start r t o begun crew =
     (begun ≡ false → IfSome crew (λ p. IsTied run standing after start p.0 r (standing_of o.state)))

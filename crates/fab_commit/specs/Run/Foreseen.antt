@@ -1,21 +1,21 @@
 -- What a crew foresees of a move, as contracts see it (our own).
-use Rattle.std.specs.Prelude.{ℕ, ℤ, pos, negsuc, ◌≡◌, ◌<◌, ◌≤◌, ◌++◌, true, false, List, [], ◌∷◌, length, map, take, Option, Some, None, codes, refl}
+use Rattle.std.specs.Prelude.{ℕ, ℤ, pos, negsuc, ◌≡◌, ◌+◌, ◌<◌, ◌≤◌, ◌++◌, true, false, List, [], ◌∷◌, filter, length, map, take, Option, Some, None, slice_index_or, codes, refl}
 use Rattle.fab_arch.specs.declared.array.Site.{Site}
 use Rattle.fab_arch.specs.Grid.{kind_at}
-use Rattle.fab_net.specs.declared.pieces.BlockId.{BlockId}
-use Rattle.fab_net.specs.declared.pieces.NetId.{NetId}
-use Rattle.fab_net.specs.declared.pieces.BlockKind.TheVariants.{Logic}
+use Rattle.fab_net.specs.declared.netlist_types.BlockId.{BlockId}
+use Rattle.fab_net.specs.declared.netlist_types.NetId.{NetId}
+use Rattle.fab_net.specs.declared.netlist_types.BlockKind.TheVariants.{Logic}
 use Rattle.fab_net.specs.Netlist.{Netlist, nets_of, terminal}
-use Rattle.fab_site.specs.declared.pieces.Swap.{Swap}
+use Rattle.fab_site.specs.declared.placement_types.Swap.{Swap}
 use Rattle.fab_move.specs.declared.proposals.Proposal.{Proposal}
 use Rattle.fab_move.specs.declared.proposals.Proposal.TheVariants.{Nothing, Void, Move}
 use Rattle.fab_move.specs.declared.verdicts.Decision.{Decision}
 use Rattle.fab_move.specs.Judge.{IsDecision, footprint}
 use Rattle.fab_move.specs.Propose.{proposal}
-use Rattle.fab_cost.specs.Runs.{few_of}
+use Rattle.fab_cost.specs.Runs.{few_of, is_large}
 use Rattle.fab_cost.specs.Swapping.{change}
 use Rattle.fab_commit.specs.declared.run.foreseen.Foreseen.{Foreseen}
-use Rattle.fab_commit.specs.declared.run.swap_nets.SwapNets.{SwapNets}
+use Rattle.fab_commit.specs.declared.run.kept_nets.LargeNets.{LargeNets}
 use Rattle.fab_commit.specs.Serial.{Run, Standing, judged_here}
 
 -- the swap that a proposal is, if it is one
@@ -33,15 +33,24 @@ abbrev pub nets_on : Netlist → Option BlockId → List NetId
 nets_on d None = []
 nets_on d (Some b) = map (λ n. record { 0 = n }) (nets_of d b.0)
 
--- what is kept of a swap's nets, which need not be there: those of its block, and behind them those of the block that it displaces
-pub record AreKept (d : Netlist) (s : Swap) (n : SwapNets) : Type 0 where
-  pub own : n.is_kept ≡ true → n.own ≡ length (nets_on d (Some s.block))
-  pub most : n.is_kept ≡ true → n.all ≤ 15
-  pub all : n.is_kept ≡ true → n.all ≡ length (nets_on d (Some s.block) ++ nets_on d s.other)
-  pub nets : n.is_kept ≡ true → take n.all n.nets ≡ nets_on d (Some s.block) ++ nets_on d s.other
+-- those of some nets that have more than 16 terminals
+abbrev pub large_among : Netlist → List NetId → List NetId
+large_among d ns = filter (λ n. is_large d n.0) ns
+
+-- what is kept of a swap's nets with more than 16 terminals, if anything: first those of its block, then those of the block that it
+-- displaces, 5 at most
+pub record AreKept (d : Netlist) (s : Swap) (n : LargeNets) : Type 0 where
+  pub most : n.is_kept ≡ true → n.all ≤ 5
+  pub nets : n.is_kept ≡ true → take n.all n.nets ≡ large_among d (nets_on d (Some s.block)) ++ large_among d (nets_on d s.other)
+
+-- these nets were added to those that were kept, unless there was no room
+pub record AreAppended (old new : LargeNets) (more : List NetId) : Type 0 where
+  pub most : new.all ≤ 5
+  pub were : new.is_kept ≡ true → old.is_kept ≡ true
+  pub nets : new.is_kept ≡ true → take new.all new.nets ≡ take old.all old.nets ++ more
 
 -- this is what move k would be on the placement of x: what it proposes, its words, its decision, how much of its change of cost comes from nets
--- with up to 16 terminals, and its swap's nets, if they are kept. All that the decision rests on is what the proposal names (`marks`). Its
+-- with up to 16 terminals, and its swap's other nets, if they are kept. All that the decision rests on is what the proposal names (`marks`). Its
 -- swap, if any, is of blocks of the design (`block`, `other`), and between sites of one kind (`kind`)
 pub record IsForeseen (r : Run) (x : Standing) (k : ℕ) (f : Foreseen) : Type 0 where
   pub proposes : f.proposal ≡ proposal r.problem.design r.problem.grid r.problem.fixed x.sites x.range (r.problem.words k)
@@ -53,6 +62,10 @@ pub record IsForeseen (r : Run) (x : Standing) (k : ℕ) (f : Foreseen) : Type 0
   pub other : (s : Swap) (b : BlockId) → f.proposal ≡ Move s → s.other ≡ Some b → b.0 < length r.problem.design.kinds
   pub kind : (s : Swap) → swap_in f.proposal ≡ Some s → kind_at r.problem.grid s.to ≡ kind_at r.problem.grid s.from
   pub nets : (s : Swap) → f.proposal ≡ Move s → AreKept r.problem.design s f.nets
+
+-- these are what moves in a row from k on would be on the placement of x
+abbrev pub AreForeseen : Run → Standing → ℕ → List Foreseen → Type 0
+AreForeseen r x k all = (i : ℕ) (f : Foreseen) → i < length all → IsForeseen r x (k + i) (slice_index_or all i f)
 
 -- on the placement of y, move k proposes this swap, and so much of its change of cost comes from nets with up to 16 terminals
 pub record IsStill (r : Run) (y : Standing) (k : ℕ) (few : ℤ) (s : Swap) : Type 0 where
@@ -72,10 +85,13 @@ two_blocks = record {
   globals = false ∷ false ∷ [];
 }
 
--- what is kept of the first one's swap with the other: a net of both is there twice
+-- the nets of both: a net of both is there twice, and none has many terminals
 pub nets_of_both : nets_on two_blocks (Some (record { 0 = 0 })) ++ nets_on two_blocks (Some (record { 0 = 1 })) ≡ record { 0 = 1 } ∷ record { 0 = 0 } ∷ record { 0 = 1 } ∷ []
 nets_of_both = refl
 
+pub none_of_both_is_large : large_among two_blocks (nets_on two_blocks (Some (record { 0 = 0 }))) ++ large_among two_blocks (nets_on two_blocks (Some (record { 0 = 1 }))) ≡ []
+none_of_both_is_large = refl
+
 -- a move that raises the cost by 3 ten-thousandths, of which nets with few terminals take 2 away, and is rejected
-pub a_rejected_move : (s : Swap) (words : List ℕ) (nets : SwapNets) → decision_in (record { proposal = Move s; few = negsuc 1; delta = pos 3; words = words; accepted = false; nets = nets }) ≡ record { swap = Some s; delta = pos 3; accepted = false }
+pub a_rejected_move : (s : Swap) (words : List ℕ) (nets : LargeNets) → decision_in (record { proposal = Move s; few = negsuc 1; delta = pos 3; words = words; accepted = false; nets = nets }) ≡ record { swap = Some s; delta = pos 3; accepted = false }
 a_rejected_move s words nets = refl

@@ -7,7 +7,7 @@ abbrev pub noted : Option (Vec ℕ) → Option (List ℕ)
 noted None = None
 noted (Some v) = Some v.items
 
--- the same after these numbers, which only an owner that keeps any keeps too
+-- the kept numbers with these added; where none are kept, none
 abbrev pub noted_more : Option (List ℕ) → List ℕ → Option (List ℕ)
 noted_more None more = None
 noted_more (Some l) more = Some (l ++ more)

@@ -3,7 +3,7 @@ use Rattle.std.specs.Prelude.{ℕ, ◌≡◌, ◌+◌, ◌-◌, ◌≤◌, min, 
 use Rattle.std.specs.List.{All, count_by, filter, list_any, range_with_len}
 use Rattle.fab_arch.specs.declared.array.Site.{Site}
 use Rattle.fab_arch.specs.Grid.{GridShape, kind_at}
-use Rattle.fab_site.specs.declared.pieces.Swap.{Swap}
+use Rattle.fab_site.specs.declared.placement_types.Swap.{Swap}
 use Rattle.fab_site.specs.Placement.{IsSwapOf, swapped}
 use Rattle.fab_move.specs.declared.verdicts.Verdict.{Verdict as Answer}
 use Rattle.fab_move.specs.Judge.{says}
@@ -60,6 +60,7 @@ pub record AreAnswers (r : Run) (x : Standing) (k : ℕ) (answers : List Answer)
   pub are : map (verdict_of x.done) answers ≡ map (verdict_on r x) (range_with_len k (length answers))
   pub kinds : All (KeepsKind r.problem.grid) answers
 
+-- accepted by move k or a later one
 abbrev pub since : ℕ → Accepted → Bool
 since k a = nat_le k a.number
 

@@ -24,7 +24,7 @@ pub record IsPoint (d : Netlist) (g : GridShape) (p : Point) : Type 0 where
   pub left : p.stage.done < p.schedule.moves
   pub counted : (p.stage.accepted ≤ p.total) × (p.total ≤ done_at p)
 
--- the point tells the annealer's standing, its schedule, and which blocks are fixed at which sites
+-- the point holds the annealer's standing, its schedule, and which blocks are fixed at which sites
 pub record TellsPoint {W : Type 0} (a : AnnealOf W) (p : Point) : Type 0 where
   pub schedule : p.schedule ≡ a.plan
   pub stage : Some p.stage ≡ stage_at a.plan a.standing a.standing.heat
@@ -49,7 +49,7 @@ going_on d g p words =
       redone = 0;
     }
 
--- the annealer that goes on from a point tells that point again, and its standing is one that its run can have
+-- the annealer that goes on from a point holds that point again, and its standing is one that its run can have
 abbrev pub PointsAreToldAgain : {W : Type 0} → (W → ℕ → List ℕ) → Type 0
 PointsAreToldAgain {W} moves =
     (d : Netlist) (g : GridShape) (p : Point) (words : W) → IsPoint d g p →

@@ -1,4 +1,4 @@
--- Moves of a stage without a word on how many of them turns of a batch judge again, as contracts see them (our own).
+-- Moves of a stage, where the count of moves judged again is left open, as contracts see them (our own).
 use Rattle.std.specs.Prelude.{ℕ, ◌≡◌, ◌+◌, ◌-◌, ◌≤◌, ◌++◌, List, [], Result, OnOk, OnErr}
 use Rattle.std.specs.declared.alloc.AllocError.{AllocError}
 use Rattle.fab_dial.specs.declared.readings.Reading.{Reading}
@@ -34,8 +34,8 @@ pub record IsIdle (s now : Pipeline) : Type 0 where
   pub swaps : now.owner.swaps.items ≡ []
   pub redone : now.owner.redone ≡ s.owner.redone
 
--- an annealer made `count` moves of its stage in turns of this batch, of which the last may be shorter, as the readings tell: it showed each
--- turn; or memory ran out after some turns
+-- an annealer made `count` moves of its stage in turns of this batch, of which the last may be shorter, and showed each turn; or memory ran
+-- out after some turns
 pub record IsMade {W A : Type 0} (moves : W → ℕ → List ℕ) (batch count : ℕ) (a b : AnnealOf W) (answer : Result A AllocError) (old new : List Reading) : Type 0 where
   -- What the run is given stays the same.
   pub same : IsSameRun a b

@@ -1,4 +1,4 @@
-//! Claims and verdicts, by worker and by number.
+//! Claims and verdicts, by worker and by number. Part of the model: no run executes it.
 
 ghost use Rattle.std.specs.Prelude.{◌≡◌, ◌-◌, ◌==◌, ◌&&◌, nat_lt, None, Some, MatchOption};
 ghost use Rattle.std.specs.List.{list_any, range_with_len};
@@ -58,7 +58,8 @@ pub(crate) fn drop_claim(claims: &mut Vec<Claimed>, worker: u64)
 
 /// The verdict for a move, if there is one.
 pub(crate) fn verdict_for(verdicts: &[JudgedMove], number: u64) -> Option<&JudgedMove>
-    ensures { MatchOption result (verdict_for number verdicts.now ≡ None) (λ v. verdict_for number verdicts.now ≡ Some v.now) }
+    ensures { MatchOption result (verdict_for number verdicts.now ≡ None) (λ v.
+        verdict_for number verdicts.now ≡ Some v.now) }
 {
     for verdict in verdicts {
         if verdict.number == number {
@@ -77,14 +78,16 @@ pub(crate) fn drop_verdict_for(verdicts: &mut Vec<JudgedMove>, number: u64)
 
 /// Whether a verdict of a worker has a greater number.
 fn has_greater(verdicts: &[JudgedMove], worker: u64, number: u64) -> bool
-    ensures { result ≡ list_any (λ (v : JudgedMove). v.worker == worker && nat_lt number v.number) verdicts.now }
+    ensures { result ≡ list_any (λ (v : JudgedMove).
+        v.worker == worker && nat_lt number v.number) verdicts.now }
 {
     verdicts.iter().any(|verdict| verdict.worker == worker && number < verdict.number)
 }
 
 /// Whether a verdict is the worker's, and no verdict of the worker has a greater number.
 fn is_last_of(verdicts: &[JudgedMove], worker: u64, verdict: &JudgedMove) -> bool
-    ensures { result ≡ (verdict.now.worker == worker && is_last worker verdicts.now verdict.now.number) }
+    ensures { result ≡
+        (verdict.now.worker == worker && is_last worker verdicts.now verdict.now.number) }
 {
     verdict.worker == worker && !has_greater(verdicts, worker, verdict.number)
 }

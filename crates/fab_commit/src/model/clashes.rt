@@ -1,4 +1,4 @@
-//! Whether an accepted swap touched what a verdict rests on.
+//! Whether an accepted swap touched what a verdict rests on. Part of the model: no run executes it.
 
 ghost use Rattle.std.specs.Prelude.{◌≡◌, ◌<◌, ◌==◌, length};
 ghost use Rattle.std.specs.List.{All, list_any};

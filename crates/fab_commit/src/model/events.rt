@@ -1,4 +1,4 @@
-//! The events that moves judged ahead go through.
+//! The events that moves judged ahead go through. Part of the model: no run executes it.
 
 /// How a committed move got its answer.
 #[derive(Clone, Copy, Debug, PartialEq, Eq)]

@@ -1,4 +1,4 @@
-//! What is claimed and judged, by the numbers of moves.
+//! What is claimed and judged, by the numbers of moves. Part of the model: no run executes it.
 
 use fab_move::{Mark, Verdict};
 use std::marker::Model;

@@ -1,4 +1,4 @@
-//! Moves are judged ahead and committed, one event at a time.
+//! Moves are judged ahead and committed, one event at a time. Part of the model: no run executes it.
 
 ghost use Rattle.std.specs.Prelude.{◌≡◌, ◌++◌, [], slice_get, IfOk, OnOk, OnErr};
 ghost use Rattle.fab_site.specs.Placement.{IsLegal};
@@ -40,7 +40,9 @@ impl<'a, W: Words + Drop> Model for World<'a, W> {
       ways = w.state.ways.items;
     } };
 
-    ghost invariant = { λ w. IsWhole (run_for W.moves w.given) w.state × IsReached (run_for W.moves w.given) (world_of w.state) w.state.ways.items };
+    ghost invariant = { λ w.
+        IsWhole (run_for W.moves w.given) w.state ×
+        IsReached (run_for W.moves w.given) (world_of w.state) w.state.ways.items };
 }
 
 impl<'a, W: Words + Drop> Drop for World<'a, W> {
@@ -63,7 +65,18 @@ impl<'a, W: Words + Drop> World<'a, W> {
         words: W,
     ) -> Result<World<'a, W>, AllocError>
         requires legal { IsLegal design.now grid.now fixed placement.sites }
-        ensures { IfOk result (λ w. w ≡ record { design = design.now; grid = grid.now; fixed = fixed; plan = schedule; words = words; world = world (at_start (run design.now grid.now fixed (W.moves words) schedule) placement.sites); ways = [] }) }
+        ensures { IfOk result (λ w.
+            w ≡ record {
+              design = design.now;
+              grid = grid.now;
+              fixed = fixed;
+              plan = schedule;
+              words = words;
+              world = world
+                  (at_start (run design.now grid.now fixed (W.moves words) schedule)
+                  placement.sites);
+              ways = [];
+            }) }
     {
         let _moves = schedule.moves();
         let given = Given {
@@ -82,8 +95,11 @@ impl<'a, W: Words + Drop> World<'a, W> {
     /// Applies an event. An event that does not apply changes nothing. An error means that memory ran out; then everything stays as it was.
     pub fn step(&mut self, event: Event) -> Result<(), AllocError>
         ensures same { IsSameGiven self.old self.new }
-        ensures step { OnOk result (self.new.world ≡ happens (run_in W.moves self.old) self.old.world event) }
-        ensures ways { OnOk result (self.new.ways ≡ self.old.ways ++ ways_now (run_in W.moves self.old) self.old.world event) }
+        ensures step { OnOk result
+            (self.new.world ≡ happens (run_in W.moves self.old) self.old.world event) }
+        ensures ways { OnOk result
+            (self.new.ways ≡
+            self.old.ways ++ ways_now (run_in W.moves self.old) self.old.world event) }
         ensures unchanged { OnErr result (self.new ≡ self.old) }
     {
         step(self.given.alloc, &self.given, &mut self.state, event)
@@ -111,7 +127,8 @@ impl<'a, W: Words + Drop> World<'a, W> {
     pub fn placement(&self) -> &Placement
         ensures grid { result.now.grid ≡ self.now.grid }
         ensures sites { result.now.sites ≡ self.now.world.live.sites }
-        ensures legal { IsLegal self.now.design self.now.grid self.now.fixed self.now.world.live.sites }
+        ensures legal { IsLegal self.now.design self.now.grid self.now.fixed
+            self.now.world.live.sites }
     {
         &self.state.live.placement
     }

@@ -1,4 +1,4 @@
-//! What a world keeps, and how each event changes it.
+//! What a world keeps, and how each event changes it. Part of the model: no run executes it.
 
 ghost use Rattle.std.specs.Prelude.{◌≡◌, ◌+◌, ◌<◌, ◌≤◌, ◌∷◌, ◌++◌, [], false, Some, vec_len, vec_capacity, IfOk, OnOk, OnErr};
 ghost use Rattle.std.specs.List.{All};
@@ -70,7 +70,9 @@ fn claim<W: Words>(
     requires whole { IsWhole (run_for W.moves given.now) state.old }
     ensures whole { IsWhole (run_for W.moves given.now) state.new }
     ensures ways { state.new.ways.items ≡ state.old.ways.items }
-    ensures ok { OnOk result (world_of state.new ≡ happens (run_for W.moves given.now) (world_of state.old) (Claim worker)) }
+    ensures ok { OnOk result
+        (world_of state.new ≡
+        happens (run_for W.moves given.now) (world_of state.old) (Claim worker)) }
     ensures err { OnErr result (world_of state.new ≡ world_of state.old) }
 {
     if claim_of(&state.claims, worker).is_some() {
@@ -91,10 +93,13 @@ fn judge<W: Words>(
     worker: u64,
 ) -> Result<(), AllocError>
     requires whole { IsWhole (run_for W.moves given.now) state.old }
-    requires reached { IsReached (run_for W.moves given.now) (world_of state.old) state.old.ways.items }
+    requires reached { IsReached (run_for W.moves given.now) (world_of state.old)
+        state.old.ways.items }
     ensures whole { IsWhole (run_for W.moves given.now) state.new }
     ensures ways { state.new.ways.items ≡ state.old.ways.items }
-    ensures ok { OnOk result (world_of state.new ≡ happens (run_for W.moves given.now) (world_of state.old) (Judge worker)) }
+    ensures ok { OnOk result
+        (world_of state.new ≡
+        happens (run_for W.moves given.now) (world_of state.old) (Judge worker)) }
     ensures err { OnErr result (world_of state.new ≡ world_of state.old) }
 {
     let Some(number) = claim_of(&state.claims, worker) else {
@@ -120,7 +125,8 @@ fn lose<W: Words>(given: &Given<'_, W>, state: &mut WorldState, worker: u64)
     requires whole { IsWhole (run_for W.moves given.now) state.old }
     ensures whole { IsWhole (run_for W.moves given.now) state.new }
     ensures ways { state.new.ways.items ≡ state.old.ways.items }
-    ensures lost { world_of state.new ≡ happens (run_for W.moves given.now) (world_of state.old) (Lose worker) }
+    ensures lost { world_of state.new ≡
+        happens (run_for W.moves given.now) (world_of state.old) (Lose worker) }
 {
     if claim_of(&state.claims, worker).is_some() {
         drop_claim(&mut state.claims, worker);
@@ -138,7 +144,8 @@ fn refresh<W: Words>(
     requires whole { IsWhole (run_for W.moves given.now) state.old }
     ensures whole { IsWhole (run_for W.moves given.now) state.new }
     ensures ways { state.new.ways.items ≡ state.old.ways.items }
-    ensures ok { OnOk result (world_of state.new ≡ happens (run_for W.moves given.now) (world_of state.old) Refresh) }
+    ensures ok { OnOk result
+        (world_of state.new ≡ happens (run_for W.moves given.now) (world_of state.old) Refresh) }
     ensures err { OnErr result (world_of state.new ≡ world_of state.old) }
 {
     state.older = copy_of(&state.live)?;
@@ -157,12 +164,19 @@ fn make<W: Words>(
     requires blocks { All (HasBlocks given.now.design.now) accepted.old.items }
     requires room { HasRoomFor live.old.accepted 1 }
     requires swap_room { vec_len accepted.old < vec_capacity accepted.old }
-    requires lawful { (s : Swap) → decision.now.swap ≡ Some s → IsSwapOf given.now.grid.now live.old.placement.sites s }
-    requires decides { IsDecision decision.now (judged_here (run_for W.moves given.now) (standing_of live.old) live.old.done) }
+    requires lawful { (s : Swap) → decision.now.swap ≡ Some s →
+        IsSwapOf given.now.grid.now live.old.placement.sites s }
+    requires decides { IsDecision decision.now
+        (judged_here (run_for W.moves given.now) (standing_of live.old) live.old.done) }
     ensures sound { IsSound (run_for W.moves given.now) live.new }
     ensures blocks { All (HasBlocks given.now.design.now) accepted.new.items }
-    ensures stands { standing_of live.new ≡ after_move (run_for W.moves given.now) (standing_of live.old) (judged_here (run_for W.moves given.now) (standing_of live.old) live.old.done) }
-    ensures accepted { accepted.new.items ≡ accepted.old.items ++ accepted_now live.old.done (judged_here (run_for W.moves given.now) (standing_of live.old) live.old.done) }
+    ensures stands { standing_of live.new ≡
+        after_move (run_for W.moves given.now) (standing_of live.old)
+        (judged_here (run_for W.moves given.now) (standing_of live.old) live.old.done) }
+    ensures accepted { accepted.new.items ≡
+        accepted.old.items ++
+        accepted_now live.old.done
+        (judged_here (run_for W.moves given.now) (standing_of live.old) live.old.done) }
 {
     enter(accepted, live.done, decision);
     commit(given, live, decision);
@@ -182,9 +196,17 @@ fn judge_and_make<W: Words>(
     requires swap_room { vec_len accepted.old < vec_capacity accepted.old }
     ensures sound { IsSound (run_for W.moves given.now) live.new }
     ensures blocks { All (HasBlocks given.now.design.now) accepted.new.items }
-    ensures stands { OnOk result (standing_of live.new ≡ after_move (run_for W.moves given.now) (standing_of live.old) (judged_here (run_for W.moves given.now) (standing_of live.old) live.old.done)) }
-    ensures accepted { OnOk result (accepted.new.items ≡ accepted.old.items ++ accepted_now live.old.done (judged_here (run_for W.moves given.now) (standing_of live.old) live.old.done)) }
-    ensures err { OnErr result ((standing_of live.new ≡ standing_of live.old) × (accepted.new.items ≡ accepted.old.items)) }
+    ensures stands { OnOk result
+        (standing_of live.new ≡
+        after_move (run_for W.moves given.now) (standing_of live.old)
+        (judged_here (run_for W.moves given.now) (standing_of live.old) live.old.done)) }
+    ensures accepted { OnOk result
+        (accepted.new.items ≡
+        accepted.old.items ++
+        accepted_now live.old.done
+        (judged_here (run_for W.moves given.now) (standing_of live.old) live.old.done)) }
+    ensures err { OnErr result ((standing_of live.new ≡ standing_of live.old) ×
+        (accepted.new.items ≡ accepted.old.items)) }
 {
     let answer = judge_on(given, live, live.done)?;
     make(given, live, accepted, &decision_of(&answer));
@@ -212,15 +234,23 @@ fn commit_next<W: Words>(
     state: &mut WorldState,
 ) -> Result<(), AllocError>
     requires whole { IsWhole (run_for W.moves given.now) state.old }
-    requires reached { IsReached (run_for W.moves given.now) (world_of state.old) state.old.ways.items }
+    requires reached { IsReached (run_for W.moves given.now) (world_of state.old)
+        state.old.ways.items }
     requires before { state.old.live.done < end (run_for W.moves given.now) (world_of state.old) }
     requires room { HasRoomFor state.old.live.accepted 1 }
     requires swap_room { vec_len state.old.accepted < vec_capacity state.old.accepted }
     requires way_room { vec_len state.old.ways < vec_capacity state.old.ways }
     ensures whole { IsWhole (run_for W.moves given.now) state.new }
-    ensures ways { OnOk result (state.new.ways.items ≡ state.old.ways.items ++ way_of (verdict_here (world_of state.old)) (usable (run_for W.moves given.now) (world_of state.old) (verdict_here (world_of state.old))) ∷ []) }
-    ensures ok { OnOk result (world_of state.new ≡ commit_of (run_for W.moves given.now) (world_of state.old)) }
-    ensures err { OnErr result ((world_of state.new ≡ world_of state.old) × (state.new.ways.items ≡ state.old.ways.items)) }
+    ensures ways { OnOk result
+        (state.new.ways.items ≡
+        state.old.ways.items ++
+        way_of (verdict_here (world_of state.old))
+        (usable (run_for W.moves given.now) (world_of state.old)
+        (verdict_here (world_of state.old))) ∷ []) }
+    ensures ok { OnOk result
+        (world_of state.new ≡ commit_of (run_for W.moves given.now) (world_of state.old)) }
+    ensures err { OnErr result ((world_of state.new ≡ world_of state.old) ×
+        (state.new.ways.items ≡ state.old.ways.items)) }
 {
     let number = state.live.done;
     match verdict_for(&state.verdicts, number) {
@@ -254,11 +284,17 @@ fn commit_one<W: Words>(
     state: &mut WorldState,
 ) -> Result<(), AllocError>
     requires whole { IsWhole (run_for W.moves given.now) state.old }
-    requires reached { IsReached (run_for W.moves given.now) (world_of state.old) state.old.ways.items }
+    requires reached { IsReached (run_for W.moves given.now) (world_of state.old)
+        state.old.ways.items }
     ensures whole { IsWhole (run_for W.moves given.now) state.new }
-    ensures ways { OnOk result (state.new.ways.items ≡ state.old.ways.items ++ ways_now (run_for W.moves given.now) (world_of state.old) Commit) }
-    ensures ok { OnOk result (world_of state.new ≡ happens (run_for W.moves given.now) (world_of state.old) Commit) }
-    ensures err { OnErr result ((world_of state.new ≡ world_of state.old) × (state.new.ways.items ≡ state.old.ways.items)) }
+    ensures ways { OnOk result
+        (state.new.ways.items ≡
+        state.old.ways.items ++
+        ways_now (run_for W.moves given.now) (world_of state.old) Commit) }
+    ensures ok { OnOk result
+        (world_of state.new ≡ happens (run_for W.moves given.now) (world_of state.old) Commit) }
+    ensures err { OnErr result ((world_of state.new ≡ world_of state.old) ×
+        (state.new.ways.items ≡ state.old.ways.items)) }
 {
     if state.live.done >= end_of(given, &state.older) {
         return Ok(());
@@ -277,11 +313,17 @@ fn one_event<W: Words>(
     event: Event,
 ) -> Result<(), AllocError>
     requires whole { IsWhole (run_for W.moves given.now) state.old }
-    requires reached { IsReached (run_for W.moves given.now) (world_of state.old) state.old.ways.items }
+    requires reached { IsReached (run_for W.moves given.now) (world_of state.old)
+        state.old.ways.items }
     ensures whole { IsWhole (run_for W.moves given.now) state.new }
-    ensures ways { OnOk result (state.new.ways.items ≡ state.old.ways.items ++ ways_now (run_for W.moves given.now) (world_of state.old) event) }
-    ensures ok { OnOk result (world_of state.new ≡ happens (run_for W.moves given.now) (world_of state.old) event) }
-    ensures err { OnErr result ((world_of state.new ≡ world_of state.old) × (state.new.ways.items ≡ state.old.ways.items)) }
+    ensures ways { OnOk result
+        (state.new.ways.items ≡
+        state.old.ways.items ++
+        ways_now (run_for W.moves given.now) (world_of state.old) event) }
+    ensures ok { OnOk result
+        (world_of state.new ≡ happens (run_for W.moves given.now) (world_of state.old) event) }
+    ensures err { OnErr result ((world_of state.new ≡ world_of state.old) ×
+        (state.new.ways.items ≡ state.old.ways.items)) }
 {
     match event {
         Event::Claim(worker) => claim(given, state, worker),
@@ -303,12 +345,19 @@ pub(crate) fn step<W: Words>(
     event: Event,
 ) -> Result<(), AllocError>
     requires whole { IsWhole (run_for W.moves given.now) state.old }
-    requires reached { IsReached (run_for W.moves given.now) (world_of state.old) state.old.ways.items }
+    requires reached { IsReached (run_for W.moves given.now) (world_of state.old)
+        state.old.ways.items }
     ensures whole { IsWhole (run_for W.moves given.now) state.new }
-    ensures reached { IsReached (run_for W.moves given.now) (world_of state.new) state.new.ways.items }
-    ensures ways { OnOk result (state.new.ways.items ≡ state.old.ways.items ++ ways_now (run_for W.moves given.now) (world_of state.old) event) }
-    ensures ok { OnOk result (world_of state.new ≡ happens (run_for W.moves given.now) (world_of state.old) event) }
-    ensures err { OnErr result ((world_of state.new ≡ world_of state.old) × (state.new.ways.items ≡ state.old.ways.items)) }
+    ensures reached { IsReached (run_for W.moves given.now) (world_of state.new)
+        state.new.ways.items }
+    ensures ways { OnOk result
+        (state.new.ways.items ≡
+        state.old.ways.items ++
+        ways_now (run_for W.moves given.now) (world_of state.old) event) }
+    ensures ok { OnOk result
+        (world_of state.new ≡ happens (run_for W.moves given.now) (world_of state.old) event) }
+    ensures err { OnErr result ((world_of state.new ≡ world_of state.old) ×
+        (state.new.ways.items ≡ state.old.ways.items)) }
 {
     one_event(alloc, given, state, event)
 }

@@ -1,7 +1,6 @@
-//! Moves that the owner judges itself, each on the live placement. Most judgements made ahead would be spoilt there, and the owner counts those
-//! that would.
+//! Moves that the owner decides itself, each on the live placement. It counts those that turns of the batch would judge again.
 
-ghost use Rattle.std.specs.Prelude.{◌≡◌, ℕ, ◌+◌, ◌<◌, ◌≤◌, ◌++◌, [], ◌∷◌, false, length, Some, MatchResult, OnOk};
+ghost use Rattle.std.specs.Prelude.{◌≡◌, ℕ, ◌+◌, ◌<◌, ◌≤◌, ◌++◌, [], ◌∷◌, false, length, Some, IfSome, MatchResult, OnOk};
 ghost use Rattle.std.specs.List.{count_by, range_with_len};
 ghost use Rattle.fab_sched.specs.Annealing.{IsLawful};
 ghost use Rattle.fab_site.specs.Placement.{IsSwapOf};
@@ -14,29 +13,29 @@ ghost use Rattle.fab_commit.specs.Run.Readings.{reading_at};
 ghost use Rattle.fab_commit.specs.Model.History.{is_redone};
 ghost use Rattle.fab_commit.specs.Model.TurnEvents.{LastTurn, next_turn};
 
+use crate::run::kept_nets::LargeNets;
 use crate::run::owner::{Owner, stamp};
 use crate::run::pipeline::reserve;
 use crate::run::state::{Given, State, commit, moves_left, view_of};
-use crate::run::swap_nets::SwapNets;
 use crate::run::swaps::enter;
 use fab_board::Gate;
-use fab_cost::WireCost;
+use fab_cost::{EdgeBoxes, WireCost};
 use fab_dial::{Dial, Reading, Shower};
 use fab_move::{Decision, propose, weigh};
 use fab_site::{Swap, Words};
 use std::alloc::AllocError;
 use std::sync::Wait;
 
-/// The moves that count as judged ahead: the next ones, on the placement after `base` moves.
+/// The next `moves` moves. Each counts as judged on the placement after `base` moves, whether a worker judged it or not.
 #[derive(Clone, Copy)]
 pub(crate) struct Ahead {
     pub(crate) base: u64,
     pub(crate) moves: u64,
 }
 
-#[inline(always)]
 /// Decides the next move on the live placement, by its words. Returns the decision, and whether a judgement on the placement after `base`
 /// moves was spoilt: whether a move accepted since has touched what the move rests on. Allocates nothing.
+#[inline(always)]
 pub(crate) fn decided_alone<W: Words>(
     given: &Given<'_, W>,
     owner: &Owner,
@@ -47,8 +46,11 @@ pub(crate) fn decided_alone<W: Words>(
     requires going { owner.now.state.ended ≡ false }
     requires words { words ≡ W.moves given.now.words owner.now.state.done }
     ensures again { result.1 ≡ is_touched_here (run_for W.moves given.now) owner.now base }
-    ensures lawful { (s : Swap) → result.0.swap ≡ Some s → IsSwapOf given.now.grid.now owner.now.state.placement.sites s }
-    ensures decides { IsDecision result.0 (judged_here (run_for W.moves given.now) (standing_of owner.now.state) owner.now.state.done) }
+    ensures lawful { (s : Swap) → result.0.swap ≡ Some s →
+        IsSwapOf given.now.grid.now owner.now.state.placement.sites s }
+    ensures decides { IsDecision result.0
+        (judged_here (run_for W.moves given.now) (standing_of owner.now.state)
+        owner.now.state.done) }
 {
     let state = &owner.state;
     let view = view_of(given, state);
@@ -60,7 +62,7 @@ pub(crate) fn decided_alone<W: Words>(
         view.range,
         words,
     );
-    let nets = SwapNets::none();
+    let nets = LargeNets::none();
     let again = owner
         .stamps
         .is_touched(given.design, given.grid, base, proposal, &nets);
@@ -80,13 +82,21 @@ fn asked_again<W: Words>(source: &W, k: u64, words: [u32; 4], again: bool) -> [u
     }
 }
 
-/// Makes the moves that have these words. `base` is the number of moves in the placement that they count as judged on. The gate has had
-/// the call before the first judgement; if it does nothing, that call stands for all. Allocates nothing.
+/// The cost, if it is wanted.
+fn cost_if(cost: &EdgeBoxes, wanted: bool) -> Option<&EdgeBoxes>
+    ensures { IfSome result (λ b. b.now ≡ cost.now) }
+{
+    if wanted { Some(cost) } else { None }
+}
+
+/// Makes the moves that have these words. They count as judged on the placement after `base` moves. The caller has called `before_judge`
+/// for the first one; a gate that does nothing gets no more such calls. `near` says whether a crew works. Allocates nothing.
 fn commit_some<W: Words, G: Gate>(
     given: &Given<'_, W>,
     owner: &mut Owner,
     words: &[[u32; 4]],
     base: u64,
+    near: bool,
     gate: &G,
 )
     requires plan { IsLawful given.now.schedule }
@@ -95,7 +105,11 @@ fn commit_some<W: Words, G: Gate>(
     requires words { AreWords (W.moves given.now.words) owner.old.state.done words.now }
     requires due { AreOpen (run_for W.moves given.now) owner.old base (length words.now) }
     ensures made { HasMade (run_for W.moves given.now) owner.old (length words.now) owner.new }
-    ensures redone { (due : AreOpen (run_for W.moves given.now) owner.old base (length words.now)) → owner.new.redone ≡ owner.old.redone + count_by (is_redone (run_for W.moves given.now) due.start base) (range_with_len owner.old.state.done (length words.now)) }
+    ensures redone { (due : AreOpen (run_for W.moves given.now) owner.old base (length words.now)) →
+        owner.new.redone ≡
+        owner.old.redone +
+        count_by (is_redone (run_for W.moves given.now) due.start base)
+        (range_with_len owner.old.state.done (length words.now)) }
     ensures room { (n : ℕ) → HasRoom owner.old (length words.now + n) → HasRoom owner.new n }
 {
     'moves: for i in 0..words.len() {
@@ -104,7 +118,8 @@ fn commit_some<W: Words, G: Gate>(
         gate.after_judge(number);
         gate.before_commit(number);
         enter(&mut owner.swaps, number, &decision);
-        stamp(given, &mut owner.stamps, number, &decision);
+        let cost = cost_if(&owner.state.cost, near);
+        stamp(given, &mut owner.stamps, number, &decision, cost);
         commit(given, &mut owner.state, &decision);
         owner.redone += u64::from(again);
     }
@@ -113,21 +128,23 @@ fn commit_some<W: Words, G: Gate>(
 /// The most moves whose words are made at once.
 pub(crate) const AT_ONCE: usize = 32;
 
-/// How many moves' words are made at once. A gate that notes its calls sees that the words of a move are asked for between the calls before
-/// and after its judgement, so with such a gate they are made by themselves.
+/// For how many moves words are made in one call: 1 if the gate does something, since such a gate may note that the words of a move are
+/// asked for between the calls before and after its judgement.
 pub(crate) fn at_once<G: Gate>(gate: &G) -> usize
     ensures { (1 ≤ result) × (result ≤ 32) }
 {
     if gate.does_nothing() { AT_ONCE } else { 1 }
 }
 
-/// Makes the next moves of the running stage. `base` is the number of moves in the placement that they count as judged on. `words` is room
-/// for the words of some moves. Allocates nothing.
+/// Makes the next moves of the running stage, each decided by the owner on the live placement, alone or beside a crew. They count as judged
+/// on the placement after `base` moves. `words` is room for the words of some moves, and `near` says whether a crew works. Allocates
+/// nothing.
 pub(crate) fn commit_alone<W: Words, G: Gate>(
     given: &Given<'_, W>,
     owner: &mut Owner,
     moves: u64,
     base: u64,
+    near: bool,
     gate: &G,
     words: &mut [[u32; 4]; AT_ONCE],
 )
@@ -136,7 +153,11 @@ pub(crate) fn commit_alone<W: Words, G: Gate>(
     requires room { HasRoom owner.old moves }
     requires due { AreOpen (run_for W.moves given.now) owner.old base moves }
     ensures made { HasMade (run_for W.moves given.now) owner.old moves owner.new }
-    ensures redone { (due : AreOpen (run_for W.moves given.now) owner.old base moves) → owner.new.redone ≡ owner.old.redone + count_by (is_redone (run_for W.moves given.now) due.start base) (range_with_len owner.old.state.done moves) }
+    ensures redone { (due : AreOpen (run_for W.moves given.now) owner.old base moves) →
+        owner.new.redone ≡
+        owner.old.redone +
+        count_by (is_redone (run_for W.moves given.now) due.start base)
+        (range_with_len owner.old.state.done moves) }
     ensures room { (n : ℕ) → HasRoom owner.old (moves + n) → HasRoom owner.new n }
 {
     let most = at_once(gate) as u64;
@@ -146,7 +167,7 @@ pub(crate) fn commit_alone<W: Words, G: Gate>(
         let some = &mut words[..count as usize];
         gate.before_judge(owner.state.done);
         given.words.fill_words(owner.state.done, some);
-        commit_some(given, owner, &*some, base, gate);
+        commit_some(given, owner, &*some, base, near, gate);
         made += count;
     }
 }
@@ -163,8 +184,18 @@ pub(crate) fn turn_alone<W: Words, G: Gate>(
 ) -> Result<Ahead, AllocError>
     requires alone { (t : LastTurn) × IsAlone (run_for W.moves given.now) t owner.old ahead }
     requires batch { (1 ≤ batch) × (batch ≤ 4096) }
-    ensures ok { MatchResult result (λ due. (t : LastTurn) → IsAlone (run_for W.moves given.now) t owner.old ahead → HasGone (run_for W.moves given.now) t owner.old (next_turn (run_for W.moves given.now) batch t).made (next_turn (run_for W.moves given.now) batch t).ahead owner.new due) (λ _. (t : LastTurn) → IsAlone (run_for W.moves given.now) t owner.old ahead → HasGone (run_for W.moves given.now) t owner.old 0 0 owner.new (record { base = owner.old.state.done; moves = 0 })) }
-    ensures leads { OnOk result (Leads given.now.grid.now owner.old.state.placement.sites owner.new.swaps.items owner.new.state.placement.sites) }
+    ensures ok { MatchResult result (λ due.
+        (t : LastTurn) → IsAlone (run_for W.moves given.now) t owner.old ahead →
+        HasGone (run_for W.moves given.now) t owner.old
+        (next_turn (run_for W.moves given.now) batch t).made
+        (next_turn (run_for W.moves given.now) batch t).ahead owner.new due)
+        (λ _.
+        (t : LastTurn) → IsAlone (run_for W.moves given.now) t owner.old ahead →
+        HasGone (run_for W.moves given.now) t owner.old 0 0 owner.new
+        (record { base = owner.old.state.done; moves = 0 })) }
+    ensures leads { OnOk result
+        (Leads given.now.grid.now owner.old.state.placement.sites owner.new.swaps.items
+        owner.new.state.placement.sites) }
 {
     let start = owner.state.done;
     let left = moves_left(&given.schedule, &owner.state);
@@ -172,8 +203,8 @@ pub(crate) fn turn_alone<W: Words, G: Gate>(
     owner.swaps.clear();
     reserve(owner, moves)?;
     let kept = ahead.moves.min(moves);
-    commit_alone(given, owner, kept, ahead.base, gate, words);
-    commit_alone(given, owner, moves - kept, start, gate, words);
+    commit_alone(given, owner, kept, ahead.base, false, gate, words);
+    commit_alone(given, owner, moves - kept, start, false, gate, words);
     Ok(Ahead {
         base: start,
         moves: batch.min(left - moves),
@@ -182,7 +213,8 @@ pub(crate) fn turn_alone<W: Words, G: Gate>(
 
 /// Ends a turn for which memory ran out before its first move. Returns the moves after it that count as judged ahead: none.
 pub(crate) fn cut_alone<W: Words>(_given: &Given<'_, W>, owner: &mut Owner, _ahead: Ahead) -> Ahead
-    ensures gone { (t : LastTurn) → IsAlone (run_for W.moves _given.now) t owner.old _ahead → HasGone (run_for W.moves _given.now) t owner.old 0 0 owner.new result }
+    ensures gone { (t : LastTurn) → IsAlone (run_for W.moves _given.now) t owner.old _ahead →
+        HasGone (run_for W.moves _given.now) t owner.old 0 0 owner.new result }
     ensures stands { standing_of owner.new.state ≡ standing_of owner.old.state }
     ensures none { result.moves ≡ 0 }
 {
@@ -204,7 +236,8 @@ pub(crate) fn show_state<W: Words, R: Wait>(
     requires sound { IsSound (run_for W.moves _given.now) state.now }
     requires own { shower.old.dial ≡ dial.now }
     ensures dial { shower.new.dial ≡ shower.old.dial }
-    ensures shown { shower.new.shown ≡ shower.old.shown ++ reading_at (run_for W.moves _given.now) (standing_of state.now) ∷ [] }
+    ensures shown { shower.new.shown ≡
+        shower.old.shown ++ reading_at (run_for W.moves _given.now) (standing_of state.now) ∷ [] }
 {
     let reading = Reading {
         moves: state.done,

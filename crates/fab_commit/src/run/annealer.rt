@@ -1,4 +1,4 @@
-//! An annealer: moves are judged ahead by workers, and committed in order of number.
+//! An annealer: it commits moves in order of number. Workers judge them ahead, or the calling thread judges each when its turn comes.
 
 ghost use Rattle.std.specs.Prelude.{◌≡◌, ◌↔◌, ◌+◌, ◌-◌, ◌<◌, ◌≤◌, if◌then◌else◌, [], ◌∷◌, ◌++◌, length, map, min, true, false, Some, None, Ok, IfOk, IfSome};
 ghost use Rattle.std.specs.Arc.{arc_value};
@@ -72,7 +72,10 @@ impl<'a, W: Words + Drop, K: Keeping> Model for Anneal<'a, W, K> {
       redone = a.pipeline.owner.redone;
     } };
 
-    ghost invariant = { λ a. HasTurn (run_for W.moves (arc_value a.given)) a.pipeline × IsSince (run_for W.moves (arc_value a.given)) K.numbers a.before (standing_of a.began.value) a.pipeline.owner.state };
+    ghost invariant = { λ a.
+        HasTurn (run_for W.moves (arc_value a.given)) a.pipeline ×
+        IsSince (run_for W.moves (arc_value a.given)) K.numbers a.before (standing_of a.began.value)
+        a.pipeline.owner.state };
 }
 
 impl<'a, W: Words + Drop, K: Keeping> Drop for Anneal<'a, W, K> {
@@ -101,7 +104,20 @@ impl<'a, W: Words + Drop> Anneal<'a, W> {
         words: W,
     ) -> Result<Anneal<'a, W>, AllocError>
         requires legal { IsLegal design.now grid.now fixed placement.sites }
-        ensures { IfOk result (λ a. a ≡ record { design = design.now; grid = grid.now; fixed = fixed; plan = schedule; words = words; standing = at_start (run design.now grid.now fixed (W.moves words) schedule) placement.sites; ahead = []; swaps = []; accepted = []; redone = 0 }) }
+        ensures { IfOk result (λ a.
+            a ≡ record {
+              design = design.now;
+              grid = grid.now;
+              fixed = fixed;
+              plan = schedule;
+              words = words;
+              standing = at_start (run design.now grid.now fixed (W.moves words) schedule)
+                  placement.sites;
+              ahead = [];
+              swaps = [];
+              accepted = [];
+              redone = 0;
+            }) }
     {
         let _moves = schedule.moves();
         let given = Given {
@@ -153,7 +169,19 @@ impl<'a, W: Words + Drop> Anneal<'a, W> {
         requires plan { IsLawful given.schedule }
         requires sound { IsSound (run_for W.moves given) live }
         requires none { noted live.accepted ≡ Some [] }
-        ensures { IfOk result (λ a. a ≡ record { design = given.entry.design.now; grid = given.entry.grid.now; fixed = given.entry.fixed; plan = given.entry.schedule; words = given.entry.words; standing = standing_of live; ahead = []; swaps = []; accepted = []; redone = 0 }) }
+        ensures { IfOk result (λ a.
+            a ≡ record {
+              design = given.entry.design.now;
+              grid = given.entry.grid.now;
+              fixed = given.entry.fixed;
+              plan = given.entry.schedule;
+              words = given.entry.words;
+              standing = standing_of live;
+              ahead = [];
+              swaps = [];
+              accepted = [];
+              redone = 0;
+            }) }
     {
         let alloc = given.alloc;
         let before = live.total;
@@ -171,7 +199,8 @@ impl<'a, W: Words + Drop> Anneal<'a, W> {
         }
     }
 
-    /// The same annealer, which keeps what `K` says of the moves that it accepts. If numbers are kept no longer, their memory is given back.
+    /// The same annealer, which keeps what `K` says of the moves that it accepts. If numbers are kept no longer, their memory is given
+    /// back.
     pub fn keeping<K: Keeping>(self) -> Anneal<'a, W, K>
         ensures { result ≡ self.entry }
     {
@@ -249,7 +278,8 @@ impl<'a, W: Words + Drop, K: Keeping> Anneal<'a, W, K> {
     pub fn placement(&self) -> &Placement
         ensures grid { result.now.grid ≡ self.now.grid }
         ensures sites { result.now.sites ≡ self.now.standing.sites }
-        ensures legal { IsLegal self.now.design self.now.grid self.now.fixed self.now.standing.sites }
+        ensures legal { IsLegal self.now.design self.now.grid self.now.fixed
+            self.now.standing.sites }
     {
         &self.pipeline.owner.state.placement
     }
@@ -272,7 +302,8 @@ impl<'a, W: Words + Drop, K: Keeping> Anneal<'a, W, K> {
     pub fn into_parts(self) -> (Placement, Option<Vec<u64>>)
         ensures grid { result.0.grid ≡ self.entry.grid }
         ensures sites { result.0.sites ≡ self.entry.standing.sites }
-        ensures legal { IsLegal self.entry.design self.entry.grid self.entry.fixed self.entry.standing.sites }
+        ensures legal { IsLegal self.entry.design self.entry.grid self.entry.fixed
+            self.entry.standing.sites }
         ensures numbers { noted result.1 ≡ (if K.numbers then Some self.entry.accepted else None) }
     {
         let Anneal {
@@ -288,7 +319,8 @@ impl<'a, W: Words + Drop, K: Keeping> Anneal<'a, W, K> {
     /// The verdicts that were judged ahead, in order of number: for the next moves of the stage, on the placement at the start of the
     /// last turn.
     pub fn ahead(&self) -> &[Verdict]
-        ensures numbers { map (λ v. v.k) result.now ≡ map (λ (v : JudgedMove). v.number) self.now.ahead }
+        ensures numbers { map (λ v. v.k) result.now ≡
+            map (λ (v : JudgedMove). v.number) self.now.ahead }
         ensures says { map says result.now ≡ map (λ (v : JudgedMove). v.judged) self.now.ahead }
     {
         &self.pipeline.ahead
@@ -329,7 +361,9 @@ impl<'a, W: Words + Drop, K: Keeping> Anneal<'a, W, K> {
     pub(crate) fn show_since<R: Wait>(&self, rt: &R, before: u64, dial: &Dial, shower: &mut Shower)
         requires own { shower.old.dial ≡ dial.now }
         ensures dial { shower.new.dial ≡ shower.old.dial }
-        ensures some { before < self.now.standing.done → shower.new.shown ≡ shower.old.shown ++ reading_at (run_of W.moves self.now) self.now.standing ∷ [] }
+        ensures some { before < self.now.standing.done →
+            shower.new.shown ≡
+            shower.old.shown ++ reading_at (run_of W.moves self.now) self.now.standing ∷ [] }
         ensures none { self.now.standing.done ≤ before → shower.new.shown ≡ shower.old.shown }
     {
         if before < self.done() {
@@ -351,8 +385,11 @@ impl<'a, W: Words + Drop, K: Keeping> Anneal<'a, W, K> {
         requires some { 0 < moves_left (run_of W.moves self.old) self.old.standing }
         requires batch { (1 ≤ batch) × (batch ≤ 4096) }
         requires own { shower.old.dial ≡ dial.now }
-        ensures made { IsMade W.moves batch (moves_left (run_of W.moves self.old) self.old.standing) self.old self.new result shower.old.shown shower.new.shown }
-        ensures counted { K.again ≡ true → IsMadeAlone W.moves batch (moves_left (run_of W.moves self.old) self.old.standing) self.old self.new result shower.old.shown shower.new.shown }
+        ensures made { IsMade W.moves batch (moves_left (run_of W.moves self.old) self.old.standing)
+            self.old self.new result shower.old.shown shower.new.shown }
+        ensures counted { K.again ≡ true →
+            IsMadeAlone W.moves batch (moves_left (run_of W.moves self.old) self.old.standing)
+            self.old self.new result shower.old.shown shower.new.shown }
         ensures uncounted { K.again ≡ false → self.new.redone ≡ self.old.redone }
         ensures dial { shower.new.dial ≡ shower.old.dial }
     {
@@ -360,15 +397,15 @@ impl<'a, W: Words + Drop, K: Keeping> Anneal<'a, W, K> {
         self.make_alone(rt, left, batch, gate, dial, shower)
     }
 
-    /// Makes the next `count` moves of the running stage, of which some are left, and at least so many. The calling thread judges each when its
-    /// turn comes, on the live placement; no move is judged ahead. The moves are those of turns of `batch` moves, from 1 to 4,096, of which
-    /// the last may be shorter. Each turn shows on the dial how far the run has come. The judgements ahead of these turns would have been
-    /// spoilt as often: where moves judged again are counted, `redone` grows by as many as they would have judged again, though nothing is
-    /// judged twice. By contract the shower is one of this dial.
+    /// Makes the next `count` moves of the running stage, of which some are left, and at least so many. The calling thread judges each when
+    /// its turn comes, on the live placement; no move is judged ahead. The moves are those of turns of `batch` moves, from 1 to 4,096, of
+    /// which the last may be shorter. Each turn shows on the dial how far the run has come. The judgements ahead of these turns would have
+    /// been spoilt as often: where moves judged again are counted, `redone` grows by as many as they would have judged again, though
+    /// nothing is judged twice. By contract the shower is one of this dial.
     ///
     /// The gate is called before and after the judgement of each move, and before its commit, all by the calling thread. So a gate that
     /// waits in one call for another waits for ever here. If the gate says that it does nothing, the words of some moves are asked for
-    /// together; else those of a move are asked for between the calls before and after its judgement.
+    /// together, after one call for them all; else those of a move are asked for between the calls before and after its judgement.
     ///
     /// An error means that memory ran out. Then the turns that were made stay, as `done`, `accepted` and `redone` tell, and another call
     /// can go on. In either case nothing is judged ahead then.
@@ -381,11 +418,15 @@ impl<'a, W: Words + Drop, K: Keeping> Anneal<'a, W, K> {
         dial: &Dial,
         shower: &mut Shower,
     ) -> Result<(), AllocError>
-        requires some { (count ≤ moves_left (run_of W.moves self.old) self.old.standing) × (0 < moves_left (run_of W.moves self.old) self.old.standing) }
+        requires some { (count ≤ moves_left (run_of W.moves self.old) self.old.standing) ×
+            (0 < moves_left (run_of W.moves self.old) self.old.standing) }
         requires batch { (1 ≤ batch) × (batch ≤ 4096) }
         requires own { shower.old.dial ≡ dial.now }
-        ensures made { IsMade W.moves batch count self.old self.new result shower.old.shown shower.new.shown }
-        ensures counted { K.again ≡ true → IsMadeAlone W.moves batch count self.old self.new result shower.old.shown shower.new.shown }
+        ensures made { IsMade W.moves batch count self.old self.new result shower.old.shown
+            shower.new.shown }
+        ensures counted { K.again ≡ true →
+            IsMadeAlone W.moves batch count self.old self.new result shower.old.shown
+            shower.new.shown }
         ensures uncounted { K.again ≡ false → self.new.redone ≡ self.old.redone }
         ensures dial { shower.new.dial ≡ shower.old.dial }
     {
@@ -410,16 +451,16 @@ impl<'a, W: Words + Drop, K: Keeping> Anneal<'a, W, K> {
 }
 
 impl<'a, W: Words + Send + Sync + Drop, K: Keeping> Anneal<'a, W, K> {
-    /// Makes the next `count` moves of the running stage as [`Anneal::make_alone`] does, while the plan's workers, from 1 to 64, judge moves
-    /// ahead, up to a batch of the stage behind the last of these. They are founded for these moves, each with a copy of the placement and its
-    /// boxes, and have ended when this returns. If there is no memory for them and the gate says that it does nothing, or if the system starts
-    /// no thread, the calling thread makes the moves alone. By contract the shower is one of the plan's dial.
+    /// Makes the next `count` moves of the running stage as [`Anneal::make_alone`] does, while the plan's workers, from 1 to 64, judge
+    /// moves ahead, up to a batch of the stage behind the last of these. They are founded for these moves, each with a copy of the
+    /// placement and its boxes, and have ended when this returns. If there is no memory for them and the gate says that it does nothing, or
+    /// if the system starts no thread, the calling thread makes the moves alone. By contract the shower is one of the plan's dial.
     ///
-    /// The gate is called before and after the first judgement of each move, by whichever thread judges it, and before its commit, which comes
-    /// before a move is judged again. If the gate says that it does nothing, a worker judges some moves in a row; else it judges one, and asks
-    /// for its words between the calls before and after the judgement, and then takes another. For want of memory for the workers no move is
-    /// made then, and this answers that memory ran out. A gate that waits in one call for another waits for ever where one thread makes both
-    /// calls: where no thread starts, and for moves that [`Anneal::turn`] judged ahead.
+    /// The gate is called before and after the first judgement of each move, by whichever thread judges it, and before its commit, which
+    /// comes before a move is judged again. If the gate says that it does nothing, a worker judges some moves in a row; else it judges one,
+    /// and asks for its words between the calls before and after the judgement, and then takes another. For want of memory for the workers
+    /// no move is made then, and this answers that memory ran out. A gate that waits in one call for another waits for ever where one
+    /// thread makes both calls: where no thread starts, and for moves that [`Anneal::turn`] judged ahead.
     pub fn make_beside<G: Gate, R: Threads + Wait + Sync>(
         &mut self,
         rt: &R,
@@ -427,11 +468,13 @@ impl<'a, W: Words + Send + Sync + Drop, K: Keeping> Anneal<'a, W, K> {
         plan: &StagePlan<'_, G>,
         shower: &mut Shower,
     ) -> Result<(), AllocError>
-        requires some { (count ≤ moves_left (run_of W.moves self.old) self.old.standing) × (0 < moves_left (run_of W.moves self.old) self.old.standing) }
+        requires some { (count ≤ moves_left (run_of W.moves self.old) self.old.standing) ×
+            (0 < moves_left (run_of W.moves self.old) self.old.standing) }
         requires batch { (1 ≤ plan.now.batch) × (plan.now.batch ≤ 4096) }
         requires workers { (1 ≤ plan.now.workers) × (plan.now.workers ≤ 64) }
         requires own { shower.old.dial ≡ plan.now.dial.now }
-        ensures made { IsMadeAlone W.moves plan.now.batch count self.old self.new result shower.old.shown shower.new.shown }
+        ensures made { IsMadeAlone W.moves plan.now.batch count self.old self.new result
+            shower.old.shown shower.new.shown }
         ensures dial { shower.new.dial ≡ shower.old.dial }
     {
         finish_beside(rt, &self.given, &mut self.pipeline, plan, count, shower)

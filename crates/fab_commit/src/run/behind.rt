@@ -1,5 +1,5 @@
-//! The state of those who follow the owner: a placement with its wire cost, some turns behind the live one. It makes the swaps that the owner
-//! posts, and judges moves.
+//! The state of those who follow the owner: a placement with its wire cost, some turns behind the live one. It makes the swaps that the
+//! owner posts, and judges moves.
 
 ghost use Rattle.std.specs.Prelude.{◌≡◌, false};
 ghost use Rattle.std.specs.Arc.{arc_value};
@@ -78,7 +78,7 @@ pub trait Pursue: Follow<Post, Foreseen> {
     ghost answers: { (s : Self) (k : ℕ) (v : Sight) → Self.answer s k v → IsForeseen (run s) (standing s) k v };
 }
 
-/// Makes what a post tells on a state.
+/// Applies a post to a state.
 fn follow_post<W: Words>(given: &Given<'_, W>, state: &mut State, post: &Post)
     requires sound { IsSound (run_for W.moves given.now) state.old }
     requires may { MayBeFollowed (run_for W.moves given.now) (standing_of state.old) post.now }
@@ -128,8 +128,8 @@ impl<'a, 'g, W: Words + Drop, G: Gate> Follow<Post, Foreseen> for Behind<'a, 'g,
         follow_post(given, &mut self.state, post);
     }
 
-    // The loop stands here, since a gate that all threads share cannot be lent to a function of this thread. The words of a unit are asked
-    // for behind the call for its first move: where the gate does something, a unit has no other.
+    // The loop stands here, since a gate that all threads share cannot be lent to a function of this thread. A unit's words are drawn after
+    // `before_judge` of its first move. If the gate does something, a unit is one move.
     fn judge(&mut self, first: u64, count: u64, places: &mut [Foreseen]) -> bool {
         if self.state.ended || count == 0 {
             return false;

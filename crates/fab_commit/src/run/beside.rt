@@ -27,7 +27,7 @@ use std::marker::Brand;
 use std::sync::{Arc, Wait};
 use std::thread::Threads;
 
-/// How moves of a stage are made beside a crew.
+/// How moves of a stage are made, beside a crew or alone. Without a crew, `workers` is not used.
 #[derive(Drop)]
 pub struct StagePlan<'g, G: Gate> {
     /// How many moves a turn has at most, from 1 to 4,096.
@@ -41,7 +41,7 @@ pub struct StagePlan<'g, G: Gate> {
 }
 
 /// What a crew is made of: a claim board with the seats of its workers, and a state for the owner and one for each worker.
-pub(crate) struct Founded<S> {
+pub(crate) struct CrewParts<S> {
     pub(crate) board: Board,
     pub(crate) claims: Vec<ClaimSeat>,
     pub(crate) first: S,
@@ -49,8 +49,8 @@ pub(crate) struct Founded<S> {
     pub(crate) units: Plan,
 }
 
-/// Makes the plan's moves of the running stage where there is no memory for a crew. With a gate that does nothing the owner makes them alone.
-/// Another gate may wait in one call for another, for ever if one thread makes all calls, so with it this makes no move.
+/// Makes the plan's moves of the running stage where there is no memory for a crew. With a gate that does nothing the owner makes them
+/// alone. Another gate may wait in one call for another, for ever if one thread makes all calls, so with it this makes no move.
 fn without_crew<W: Words, G: Gate, S: Pursue, J: Naming + Boarding + Origin<S>, R: Wait>(
     rt: &R,
     given: &Given<'_, W>,
@@ -59,11 +59,16 @@ fn without_crew<W: Words, G: Gate, S: Pursue, J: Naming + Boarding + Origin<S>, 
     shower: &mut Shower,
 ) -> Result<(), AllocError>
     requires behind { HasTurn (run_for W.moves given.now) state.old }
-    requires some { (plan.now.count ≤ moves_left (run_for W.moves given.now) (standing_of state.old.owner.state)) × (0 < moves_left (run_for W.moves given.now) (standing_of state.old.owner.state)) }
+    requires some { (plan.now.count ≤
+        moves_left (run_for W.moves given.now) (standing_of state.old.owner.state)) ×
+        (0 < moves_left (run_for W.moves given.now) (standing_of state.old.owner.state)) }
     requires batch { (1 ≤ plan.now.batch) × (plan.now.batch ≤ 4096) }
     requires own { shower.old.dial ≡ plan.now.dial.now }
     ensures left { HasTurn (run_for W.moves given.now) state.new }
-    ensures made { (due : IsAhead) × IsUnjudged state.new due × AreMadeAlone (run_for W.moves given.now) plan.now.batch plan.now.count state.old.owner (record { base = state.old.base; moves = length state.old.ahead.items }) state.new.owner due result shower.old.shown shower.new.shown }
+    ensures made { (due : IsAhead) × IsUnjudged state.new due ×
+        AreMadeAlone (run_for W.moves given.now) plan.now.batch plan.now.count state.old.owner
+        (record { base = state.old.base; moves = length state.old.ahead.items }) state.new.owner
+        due result shower.old.shown shower.new.shown }
     ensures dial { shower.new.dial ≡ shower.old.dial }
 {
     if plan.gate.does_nothing() {
@@ -83,35 +88,40 @@ fn made_beside<
 >(
     rt: &R,
     opened: Opened<Post>,
-    founded: Founded<S>,
+    parts: CrewParts<S>,
     given: &Given<'_, W>,
     state: &mut Pipeline,
     plan: &MovesPlan<'_, G>,
     shower: &mut Shower,
 ) -> Result<(), AllocError>
     requires book { opened ≡ J.book }
-    requires board { founded.board.name ≡ J.board }
-    requires claims { All (λ s. s.board ≡ J.board) founded.claims.items }
-    requires start { J.start ≡ Some founded.first }
-    requires starts { All (λ s. J.start ≡ Some s) founded.others.items }
-    requires many { length founded.claims.items ≡ length founded.others.items }
-    requires run { S.run founded.first ≡ (run_for W.moves given.now) }
-    requires stands { S.standing founded.first ≡ standing_of state.old.owner.state }
+    requires board { parts.board.name ≡ J.board }
+    requires claims { All (λ s. s.board ≡ J.board) parts.claims.items }
+    requires start { J.start ≡ Some parts.first }
+    requires starts { All (λ s. J.start ≡ Some s) parts.others.items }
+    requires many { length parts.claims.items ≡ length parts.others.items }
+    requires run { S.run parts.first ≡ (run_for W.moves given.now) }
+    requires stands { S.standing parts.first ≡ standing_of state.old.owner.state }
     requires behind { HasTurn (run_for W.moves given.now) state.old }
-    requires some { (plan.now.count ≤ moves_left (run_for W.moves given.now) (standing_of state.old.owner.state)) × (0 < moves_left (run_for W.moves given.now) (standing_of state.old.owner.state)) }
+    requires some { (plan.now.count ≤
+        moves_left (run_for W.moves given.now) (standing_of state.old.owner.state)) ×
+        (0 < moves_left (run_for W.moves given.now) (standing_of state.old.owner.state)) }
     requires batch { (1 ≤ plan.now.batch) × (plan.now.batch ≤ 4096) }
     requires own { shower.old.dial ≡ plan.now.dial.now }
     ensures left { HasTurn (run_for W.moves given.now) state.new }
-    ensures made { (due : IsAhead) × IsUnjudged state.new due × AreMadeAlone (run_for W.moves given.now) plan.now.batch plan.now.count state.old.owner (record { base = state.old.base; moves = length state.old.ahead.items }) state.new.owner due result shower.old.shown shower.new.shown }
+    ensures made { (due : IsAhead) × IsUnjudged state.new due ×
+        AreMadeAlone (run_for W.moves given.now) plan.now.batch plan.now.count state.old.owner
+        (record { base = state.old.base; moves = length state.old.ahead.items }) state.new.owner
+        due result shower.old.shown shower.new.shown }
     ensures dial { shower.new.dial ≡ shower.old.dial }
 {
-    let Founded {
+    let CrewParts {
         board,
         claims,
         first,
         others,
         units,
-    } = founded;
+    } = parts;
     let alloc = given.alloc;
     let Ok((crew, lead)) = new_crew::<S, Post, Foreseen, J>(
         alloc, opened, board, claims, first, others, units,
@@ -131,9 +141,25 @@ fn made_beside<
         &crew,
         &mut followers,
         &mut |f: &mut Option<Followers<S, J>>| -> Result<(), AllocError>
-            requires { IsSync R.row × HasTurn (run_for W.moves given.now) state.now × IfSome f.old (λ p. IsTied S.run S.standing S.after J.start p.0 (run_for W.moves given.now) (standing_of state.now.owner.state)) × ((plan.now.count ≤ moves_left (run_for W.moves given.now) (standing_of state.now.owner.state)) × (0 < moves_left (run_for W.moves given.now) (standing_of state.now.owner.state))) × ((1 ≤ plan.now.batch) × (plan.now.batch ≤ 4096)) × (shower.now.dial ≡ plan.now.dial.now) }
+            requires { IsSync R.row × HasTurn (run_for W.moves given.now) state.now ×
+                IfSome f.old (λ p.
+                IsTied S.run S.standing S.after J.start p.0 (run_for W.moves given.now)
+                (standing_of state.now.owner.state)) ×
+                ((plan.now.count ≤
+                moves_left (run_for W.moves given.now) (standing_of state.now.owner.state)) ×
+                (0 < moves_left (run_for W.moves given.now)
+                (standing_of state.now.owner.state))) ×
+                ((1 ≤ plan.now.batch) × (plan.now.batch ≤ 4096)) ×
+                (shower.now.dial ≡ plan.now.dial.now) }
             ensures left { HasTurn (run_for W.moves given.entry.now) state.exit.now }
-            ensures made { (due : IsAhead) × IsUnjudged state.exit.now due × AreMadeAlone (run_for W.moves given.entry.now) plan.entry.now.batch plan.entry.now.count state.entry.now.owner (record { base = state.entry.now.base; moves = length state.entry.now.ahead.items }) state.exit.now.owner due result shower.entry.now.shown shower.exit.now.shown }
+            ensures made { (due : IsAhead) × IsUnjudged state.exit.now due ×
+                AreMadeAlone (run_for W.moves given.entry.now) plan.entry.now.batch
+                plan.entry.now.count state.entry.now.owner
+                (record {
+                  base = state.entry.now.base;
+                  moves = length state.entry.now.ahead.items;
+                }) state.exit.now.owner due
+                result shower.entry.now.shown shower.exit.now.shown }
             ensures dial { shower.exit.now.dial ≡ shower.entry.now.dial }
         { finish(rt, given, state, f, plan, shower) },
     );
@@ -149,7 +175,8 @@ fn behind<'a, 'g, W: Words + Drop, G: Gate>(
     gate: &'g G,
 ) -> Result<Behind<'a, 'g, W, G>, AllocError>
     requires sound { IsSound (run_for W.moves (arc_value given.now)) state.now }
-    ensures { IfOk result (λ b. b ≡ record { given = arc_value given.now; standing = standing_of state.now }) }
+    ensures { IfOk result (λ b.
+        b ≡ record { given = arc_value given.now; standing = standing_of state.now }) }
 {
     let copy = copy_of(state)?;
     Ok(Behind::new(Arc::try_clone(given)?, copy, gate))
@@ -165,21 +192,26 @@ fn units_of<G: Gate>(batch: u64, workers: u64, gate: &G) -> Plan {
     }
 }
 
-/// What a crew of so many workers is made of, whose states stand where this one does, for turns of at most `batch` moves. An error means that
-/// memory ran out.
-pub(crate) fn found<'a, 'g, W: Words + Drop, G: Gate>(
+/// What a crew of so many workers is made of, whose states stand where this one does, for turns of at most `batch` moves. An error means
+/// that memory ran out.
+pub(crate) fn crew_parts<'a, 'g, W: Words + Drop, G: Gate>(
     given: &Arc<Given<'a, W>>,
     state: &State,
     batch: u64,
     workers: u64,
     gate: &'g G,
-) -> Result<Founded<Behind<'a, 'g, W, G>>, AllocError>
+) -> Result<CrewParts<Behind<'a, 'g, W, G>>, AllocError>
     requires sound { IsSound (run_for W.moves (arc_value given.now)) state.now }
     requires workers { (1 ≤ workers) × (workers ≤ 64) }
     ensures claims { IfOk result (λ f. All (λ s. s.board ≡ f.board.name) f.claims.items) }
-    ensures first { IfOk result (λ f. f.first ≡ record { given = arc_value given.now; standing = standing_of state.now }) }
-    ensures others { IfOk result (λ f. All (λ s. s ≡ record { given = arc_value given.now; standing = standing_of state.now }) f.others.items) }
-    ensures many { IfOk result (λ f. (length f.claims.items ≡ workers) × (length f.others.items ≡ workers)) }
+    ensures first { IfOk result (λ f.
+        f.first ≡ record { given = arc_value given.now; standing = standing_of state.now }) }
+    ensures others { IfOk result (λ f.
+        All (λ s.
+        s ≡ record { given = arc_value given.now; standing = standing_of state.now })
+        f.others.items) }
+    ensures many { IfOk result (λ f.
+        (length f.claims.items ≡ workers) × (length f.others.items ≡ workers)) }
 {
     let alloc = given.alloc;
     let first = behind(given, state, gate)?;
@@ -188,7 +220,7 @@ pub(crate) fn found<'a, 'g, W: Words + Drop, G: Gate>(
         others.push(behind(given, state, gate)?)?;
     }
     let (board, claims) = Board::new(alloc, 1 << 62, workers)?;
-    Ok(Founded {
+    Ok(CrewParts {
         board,
         claims,
         first,
@@ -213,12 +245,18 @@ pub(crate) fn finish_beside<
     shower: &mut Shower,
 ) -> Result<(), AllocError>
     requires behind { HasTurn (run_for W.moves (arc_value given.now)) state.old }
-    requires some { (count ≤ moves_left (run_for W.moves (arc_value given.now)) (standing_of state.old.owner.state)) × (0 < moves_left (run_for W.moves (arc_value given.now)) (standing_of state.old.owner.state)) }
+    requires some { (count ≤
+        moves_left (run_for W.moves (arc_value given.now)) (standing_of state.old.owner.state)) ×
+        (0 < moves_left (run_for W.moves (arc_value given.now))
+        (standing_of state.old.owner.state)) }
     requires batch { (1 ≤ plan.now.batch) × (plan.now.batch ≤ 4096) }
     requires workers { (1 ≤ plan.now.workers) × (plan.now.workers ≤ 64) }
     requires own { shower.old.dial ≡ plan.now.dial.now }
     ensures left { HasTurn (run_for W.moves (arc_value given.now)) state.new }
-    ensures made { (due : IsAhead) × IsUnjudged state.new due × AreMadeAlone (run_for W.moves (arc_value given.now)) plan.now.batch count state.old.owner (record { base = state.old.base; moves = length state.old.ahead.items }) state.new.owner due result shower.old.shown shower.new.shown }
+    ensures made { (due : IsAhead) × IsUnjudged state.new due ×
+        AreMadeAlone (run_for W.moves (arc_value given.now)) plan.now.batch count state.old.owner
+        (record { base = state.old.base; moves = length state.old.ahead.items }) state.new.owner
+        due result shower.old.shown shower.new.shown }
     ensures dial { shower.new.dial ≡ shower.old.dial }
 {
     let lent: &Given<'a, W> = given;
@@ -228,7 +266,7 @@ pub(crate) fn finish_beside<
         gate: plan.gate,
         dial: plan.dial,
     };
-    let Ok(founded) = found(
+    let Ok(parts) = crew_parts(
         given,
         &state.owner.state,
         plan.batch,
@@ -242,7 +280,7 @@ pub(crate) fn finish_beside<
     made_beside::<W, G, Behind<'a, 'g, W, G>, Brand, R>(
         rt,
         Opened::new(),
-        founded,
+        parts,
         lent,
         state,
         &moves,

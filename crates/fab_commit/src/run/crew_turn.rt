@@ -1,5 +1,5 @@
-//! One turn beside a crew that is founded for it: the owner commits a batch on the live placement, while the crew judges the next one on the
-//! placement at the turn's start.
+//! One turn beside a crew that is founded for it: the owner commits a batch on the live placement, while the crew judges the next one on
+//! the placement at the turn's start. For callers that make single turns; a run of the program makes none.
 
 ghost use Rattle.std.specs.Prelude.{All, ◌≡◌, ◌+◌, ◌-◌, ◌^◌, ◌<◌, ◌≤◌, [], true, false, length, min, Some, IfOk, IfSome, OnOk, OnErr};
 ghost use Rattle.std.specs.Arc.{arc_value};
@@ -13,14 +13,14 @@ ghost use Rattle.fab_commit.specs.Run.Owners.{AreAnswers, AreDue, HasCounted, Ha
 ghost use Rattle.fab_commit.specs.Run.Pipelines.{IsBehind, TurnsOn};
 ghost use Rattle.fab_commit.specs.Model.TurnEvents.{LastTurn};
 
-use crate::run::alone::AT_ONCE;
+use crate::run::alone::{AT_ONCE, Ahead};
 use crate::run::behind::{Behind, Pursue};
-use crate::run::beside::{Founded, found};
+use crate::run::beside::{CrewParts, crew_parts};
 use crate::run::followed::{Followers, commit_followed, post_of};
 use crate::run::foreseen::Foreseen;
 use crate::run::owner::commit_each;
 use crate::run::pipeline::{Pipeline, idle_turn, refused_turn, reserve};
-use crate::run::post::{Post, Share};
+use crate::run::post::{MoveRange, Post};
 use crate::run::state::{Given, State, moves_left};
 use crate::run::verdicts::verdicts_by;
 use fab_board::follow_crew::{beside, close_board};
@@ -33,38 +33,49 @@ use std::marker::Brand;
 use std::sync::{Arc, Wait};
 use std::thread::Threads;
 
-/// Asks the crew for moves, to be judged on a state where it stands too. False if there were too many posts.
+/// Posts a request for moves, to be judged on the present state. False if the post is refused, since there were too many.
 fn ask<W: Words, S: Pursue, J: Naming + Boarding + Origin<S>, R: Wait>(
     rt: &R,
     _given: &Given<'_, W>,
     state: &State,
     followers: &mut Followers<S, J>,
-    share: Share,
+    range: MoveRange,
 ) -> bool
     requires sound { IsSound (run_for W.moves _given.now) state.now }
-    requires tied { IsTied S.run S.standing S.after J.start followers.old.0 (run_for W.moves _given.now) (standing_of state.now) }
-    ensures base { result ≡ true → IsTied S.run S.standing S.after J.start followers.new.1 (run_for W.moves _given.now) (standing_of state.now) }
-    ensures tied { result ≡ true → IsTied S.run S.standing S.after J.start followers.new.0 (run_for W.moves _given.now) (standing_of state.now) }
+    requires tied { IsTied S.run S.standing S.after J.start followers.old.0
+        (run_for W.moves _given.now) (standing_of state.now) }
+    ensures base { result ≡ true →
+        IsTied S.run S.standing S.after J.start followers.new.1 (run_for W.moves _given.now)
+        (standing_of state.now) }
+    ensures tied { result ≡ true →
+        IsTied S.run S.standing S.after J.start followers.new.0 (run_for W.moves _given.now)
+        (standing_of state.now) }
 {
     let none = followers.fresh();
-    followers.post(rt, post_of(state, none, share))
+    followers.post(rt, post_of(state, none, range))
 }
 
-/// Asks the crew for some moves and then for others. Returns a post that asks for none, which makes the others due once it is posted; `None`
-/// if there were too many posts.
+/// Requests the moves of `first`, then those of `second`. Returns an empty request, which makes those of `second` due once it is posted;
+/// `None` if a post is refused.
 fn ask_both<W: Words, S: Pursue, J: Naming + Boarding + Origin<S>, R: Wait>(
     rt: &R,
     given: &Given<'_, W>,
     state: &State,
     followers: &mut Followers<S, J>,
-    first: Share,
-    second: Share,
+    first: MoveRange,
+    second: MoveRange,
 ) -> Option<Post>
     requires sound { IsSound (run_for W.moves given.now) state.now }
-    requires tied { IsTied S.run S.standing S.after J.start followers.old.0 (run_for W.moves given.now) (standing_of state.now) }
-    ensures base { IfSome result (λ p. IsTied S.run S.standing S.after J.start followers.new.1 (run_for W.moves given.now) (standing_of state.now)) }
-    ensures tied { IfSome result (λ p. IsTied S.run S.standing S.after J.start followers.new.0 (run_for W.moves given.now) (standing_of state.now)) }
-    ensures may { IfSome result (MayBeFollowed (run_for W.moves given.now) (standing_of state.now)) }
+    requires tied { IsTied S.run S.standing S.after J.start followers.old.0
+        (run_for W.moves given.now) (standing_of state.now) }
+    ensures base { IfSome result (λ p.
+        IsTied S.run S.standing S.after J.start followers.new.1 (run_for W.moves given.now)
+        (standing_of state.now)) }
+    ensures tied { IfSome result (λ p.
+        IsTied S.run S.standing S.after J.start followers.new.0 (run_for W.moves given.now)
+        (standing_of state.now)) }
+    ensures may { IfSome result
+        (MayBeFollowed (run_for W.moves given.now) (standing_of state.now)) }
 {
     if !ask(rt, given, state, followers, first) {
         return None;
@@ -73,7 +84,7 @@ fn ask_both<W: Words, S: Pursue, J: Naming + Boarding + Origin<S>, R: Wait>(
         return None;
     }
     let none = followers.fresh();
-    let nothing = Share {
+    let nothing = MoveRange {
         first: second.first,
         moves: 0,
     };
@@ -87,17 +98,22 @@ fn judged_ahead<W: Words, S: Pursue, J: Naming + Boarding + Origin<S>, R: Wait>(
     given: &Given<'_, W>,
     followers: &mut Followers<S, J>,
     last: Post,
-    share: Share,
+    range: MoveRange,
 ) -> Result<Vec<Verdict>, AllocError>
-    requires may { (x : Standing) × IsTied S.run S.standing S.after J.start followers.old.0 (run_for W.moves given.now) x × MayBeFollowed (run_for W.moves given.now) x last }
-    requires limits { (share.first ≤ 2 ^ 62) × (share.moves ≤ 4096) }
-    ensures many { IfOk result (λ v. length v.items ≡ share.moves) }
-    ensures answers { IfOk result (λ v. (x : Standing) → IsTied S.run S.standing S.after J.start followers.old.0 (run_for W.moves given.now) x → AreAnswers (run_for W.moves given.now) x share.first v.items) }
+    requires may { (x : Standing) ×
+        IsTied S.run S.standing S.after J.start followers.old.0 (run_for W.moves given.now) x ×
+        MayBeFollowed (run_for W.moves given.now) x last }
+    requires limits { (range.first ≤ 2 ^ 62) × (range.moves ≤ 4096) }
+    ensures many { IfOk result (λ v. length v.items ≡ range.moves) }
+    ensures answers { IfOk result (λ v.
+        (x : Standing) →
+        IsTied S.run S.standing S.after J.start followers.old.0 (run_for W.moves given.now) x →
+        AreAnswers (run_for W.moves given.now) x range.first v.items) }
 {
     if !followers.post(rt, last) {
         return Err(AllocError);
     }
-    verdicts_by(rt, given, followers, share)
+    verdicts_by(rt, given, followers, range)
 }
 
 /// How many moves a turn makes, and how many after them are judged ahead meanwhile.
@@ -107,8 +123,8 @@ struct Size {
     next: u64,
 }
 
-/// Makes the next moves of the running stage beside a crew, which stands where the owner does. It judges those that were not judged ahead, and
-/// the moves after them. Returns the verdicts on these.
+/// Makes the next moves of the running stage beside a crew, which stands where the owner does. It judges those that were not judged ahead,
+/// and the moves after them. Returns the verdicts on these.
 fn make_moves<W: Words, G: Gate, S: Pursue, J: Naming + Boarding + Origin<S>, R: Wait>(
     rt: &R,
     given: &Given<'_, W>,
@@ -119,17 +135,26 @@ fn make_moves<W: Words, G: Gate, S: Pursue, J: Naming + Boarding + Origin<S>, R:
 ) -> Result<Vec<Verdict>, AllocError>
     requires plan { IsLawful given.now.schedule }
     requires owned { IsOwned (run_for W.moves given.now) state.old.owner }
-    requires due { AreDue (run_for W.moves given.now) state.old.owner state.old.base state.old.ahead.items }
+    requires due { AreDue (run_for W.moves given.now) state.old.owner state.old.base
+        state.old.ahead.items }
     requires fits { length state.old.ahead.items ≤ size.moves }
-    requires left { size.moves + size.next ≤ moves_left (run_for W.moves given.now) (standing_of state.old.owner.state) }
+    requires left { size.moves + size.next ≤
+        moves_left (run_for W.moves given.now) (standing_of state.old.owner.state) }
     requires limits { (size.moves ≤ 4096) × (size.next ≤ 4096) }
-    requires tied { IsTied S.run S.standing S.after J.start followers.old.0 (run_for W.moves given.now) (standing_of state.old.owner.state) }
-    ensures made { HasMade (run_for W.moves given.now) state.old.owner (state.new.owner.state.done - state.old.owner.state.done) state.new.owner }
-    ensures ok { OnOk result (state.new.owner.state.done ≡ state.old.owner.state.done + size.moves) }
-    ensures within { (state.old.owner.state.done ≤ state.new.owner.state.done) × (state.new.owner.state.done ≤ state.old.owner.state.done + size.moves) }
-    ensures redone { HasCounted (run_for W.moves given.now) state.old.owner state.old.base state.old.ahead.items state.new.owner }
+    requires tied { IsTied S.run S.standing S.after J.start followers.old.0
+        (run_for W.moves given.now) (standing_of state.old.owner.state) }
+    ensures made { HasMade (run_for W.moves given.now) state.old.owner
+        (state.new.owner.state.done - state.old.owner.state.done) state.new.owner }
+    ensures ok { OnOk result
+        (state.new.owner.state.done ≡ state.old.owner.state.done + size.moves) }
+    ensures within { (state.old.owner.state.done ≤ state.new.owner.state.done) ×
+        (state.new.owner.state.done ≤ state.old.owner.state.done + size.moves) }
+    ensures redone { HasCounted (run_for W.moves given.now) state.old.owner state.old.base
+        state.old.ahead.items state.new.owner }
     ensures many { IfOk result (λ v. length v.items ≡ size.next) }
-    ensures answers { IfOk result (λ v. AreAnswers (run_for W.moves given.now) (standing_of state.old.owner.state) (state.old.owner.state.done + size.moves) v.items) }
+    ensures answers { IfOk result (λ v.
+        AreAnswers (run_for W.moves given.now) (standing_of state.old.owner.state)
+        (state.old.owner.state.done + size.moves) v.items) }
     ensures some { OnErr result (0 < size.moves + size.next) }
 {
     // If no move is left, no memory is needed.
@@ -139,11 +164,11 @@ fn make_moves<W: Words, G: Gate, S: Pursue, J: Naming + Boarding + Origin<S>, R:
     reserve(&mut state.owner, size.moves)?;
     let start = state.owner.state.done;
     let kept = state.ahead.len() as u64;
-    let due = Share {
+    let due = MoveRange {
         first: start + kept,
         moves: size.moves - kept,
     };
-    let next = Share {
+    let next = MoveRange {
         first: start + size.moves,
         moves: size.next,
     };
@@ -151,8 +176,8 @@ fn make_moves<W: Words, G: Gate, S: Pursue, J: Naming + Boarding + Origin<S>, R:
         return Err(AllocError);
     };
     commit_each(given, &mut state.owner, &state.ahead, state.base, gate);
-    let here = Share {
-        first: start,
+    let here = Ahead {
+        base: start,
         moves: due.moves,
     };
     let mut words = [[0u32; 4]; AT_ONCE];
@@ -168,8 +193,8 @@ fn make_moves<W: Words, G: Gate, S: Pursue, J: Naming + Boarding + Origin<S>, R:
     judged_ahead(rt, given, followers, last, next)
 }
 
-/// Makes a turn beside a crew, which stands where the owner does. If memory runs out, the moves that it committed stay, and nothing is judged
-/// ahead.
+/// Makes a turn beside a crew, which stands where the owner does. If memory runs out, the moves that it committed stay, and nothing is
+/// judged ahead.
 fn make_turn<W: Words, G: Gate, S: Pursue, J: Naming + Boarding + Origin<S>, R: Wait>(
     rt: &R,
     given: &Given<'_, W>,
@@ -180,7 +205,8 @@ fn make_turn<W: Words, G: Gate, S: Pursue, J: Naming + Boarding + Origin<S>, R: 
 ) -> Result<(), AllocError>
     requires behind { (t : LastTurn) × IsBehind (run_for W.moves given.now) t state.old }
     requires limits { batch ≤ 4096 }
-    requires tied { IsTied S.run S.standing S.after J.start followers.old.0 (run_for W.moves given.now) (standing_of state.old.owner.state) }
+    requires tied { IsTied S.run S.standing S.after J.start followers.old.0
+        (run_for W.moves given.now) (standing_of state.old.owner.state) }
     ensures turned { TurnsOn (run_for W.moves given.now) batch state.old state.new result }
 {
     let start = state.owner.state.done;
@@ -204,8 +230,8 @@ fn make_turn<W: Words, G: Gate, S: Pursue, J: Naming + Boarding + Origin<S>, R: 
     }
 }
 
-/// Makes a turn beside a crew of this name. If there is no memory for the crew, this makes no move: alone, the owner would make all calls of
-/// the gate, and one that waits in a call for another would wait for ever.
+/// Makes a turn beside a crew of this name. If there is no memory for the crew, this makes no move: alone, the owner would make all calls
+/// of the gate, and one that waits in a call for another would wait for ever.
 fn turned_by<
     W: Words + Sync,
     G: Gate,
@@ -215,32 +241,32 @@ fn turned_by<
 >(
     rt: &R,
     opened: Opened<Post>,
-    founded: Founded<S>,
+    parts: CrewParts<S>,
     given: &Given<'_, W>,
     state: &mut Pipeline,
     batch: u64,
     gate: &G,
 ) -> Result<(), AllocError>
     requires book { opened ≡ J.book }
-    requires board { founded.board.name ≡ J.board }
-    requires claims { All (λ s. s.board ≡ J.board) founded.claims.items }
-    requires start { J.start ≡ Some founded.first }
-    requires starts { All (λ s. J.start ≡ Some s) founded.others.items }
-    requires many { length founded.claims.items ≡ length founded.others.items }
-    requires run { S.run founded.first ≡ (run_for W.moves given.now) }
-    requires stands { S.standing founded.first ≡ standing_of state.old.owner.state }
+    requires board { parts.board.name ≡ J.board }
+    requires claims { All (λ s. s.board ≡ J.board) parts.claims.items }
+    requires start { J.start ≡ Some parts.first }
+    requires starts { All (λ s. J.start ≡ Some s) parts.others.items }
+    requires many { length parts.claims.items ≡ length parts.others.items }
+    requires run { S.run parts.first ≡ (run_for W.moves given.now) }
+    requires stands { S.standing parts.first ≡ standing_of state.old.owner.state }
     requires behind { (t : LastTurn) × IsBehind (run_for W.moves given.now) t state.old }
     requires going { state.old.owner.state.ended ≡ false }
     requires limits { batch ≤ 4096 }
     ensures turned { TurnsOn (run_for W.moves given.now) batch state.old state.new result }
 {
-    let Founded {
+    let CrewParts {
         board,
         claims,
         first,
         others,
         units,
-    } = founded;
+    } = parts;
     let alloc = given.alloc;
     let Ok((crew, lead)) = new_crew::<S, Post, Foreseen, J>(
         alloc, opened, board, claims, first, others, units,
@@ -255,8 +281,12 @@ fn turned_by<
         &crew,
         &mut followers,
         &mut |f: &mut Followers<S, J>| -> Result<(), AllocError>
-            requires { IsSync R.row × (batch ≤ 4096) × ((t : LastTurn) × IsBehind (run_for W.moves given.now) t state.now) × IsTied S.run S.standing S.after J.start f.old.0 (run_for W.moves given.now) (standing_of state.now.owner.state) }
-            ensures turned { TurnsOn (run_for W.moves given.entry.now) batch state.entry.now state.exit.now result }
+            requires { IsSync R.row × (batch ≤ 4096) ×
+                ((t : LastTurn) × IsBehind (run_for W.moves given.now) t state.now) ×
+                IsTied S.run S.standing S.after J.start f.old.0 (run_for W.moves given.now)
+                (standing_of state.now.owner.state) }
+            ensures turned { TurnsOn (run_for W.moves given.entry.now) batch state.entry.now
+                state.exit.now result }
         { make_turn(rt, given, state, batch, f, gate) },
     );
     drop(followers);
@@ -273,23 +303,25 @@ pub(crate) fn turn_beside<'a, 'g, W: Words + Send + Sync + Drop, G: Gate, R: Thr
     workers: u64,
     gate: &'g G,
 ) -> Result<(), AllocError>
-    requires behind { (t : LastTurn) × IsBehind (run_for W.moves (arc_value given.now)) t state.old }
+    requires behind { (t : LastTurn) ×
+        IsBehind (run_for W.moves (arc_value given.now)) t state.old }
     requires limits { batch ≤ 4096 }
     requires workers { (1 ≤ workers) × (workers ≤ 64) }
-    ensures turned { TurnsOn (run_for W.moves (arc_value given.now)) batch state.old state.new result }
+    ensures turned { TurnsOn (run_for W.moves (arc_value given.now)) batch state.old state.new
+        result }
 {
     let lent: &Given<'a, W> = given;
     // If the run is over, nobody is needed.
     if state.owner.state.ended {
         return idle_turn(lent, state, batch);
     }
-    let Ok(founded) = found(given, &state.owner.state, batch, workers, gate) else {
+    let Ok(parts) = crew_parts(given, &state.owner.state, batch, workers, gate) else {
         return refused_turn(lent, state, batch);
     };
     turned_by::<W, G, Behind<'a, 'g, W, G>, Brand, R>(
         rt,
         Opened::new(),
-        founded,
+        parts,
         lent,
         state,
         batch,

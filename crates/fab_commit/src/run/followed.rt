@@ -15,17 +15,17 @@ ghost use Rattle.fab_commit.specs.Run.Alone.{AreOpen, HasGone, IsAlone, is_touch
 ghost use Rattle.fab_commit.specs.Run.Behind.{MayBeFollowed, after_post};
 ghost use Rattle.fab_commit.specs.Run.Commits.{IsSound, run_for, standing_of};
 ghost use Rattle.fab_commit.specs.Run.Owners.{HasMade, HasRoom, IsOwned, Leads};
-ghost use Rattle.fab_commit.specs.Run.Foreseen.{IsForeseen, IsStill};
+ghost use Rattle.fab_commit.specs.Run.Foreseen.{AreForeseen, IsForeseen, IsStill};
 ghost use Rattle.fab_commit.specs.Run.Followed.{IsTied};
 ghost use Rattle.fab_commit.specs.Model.History.{is_redone};
 ghost use Rattle.fab_commit.specs.Model.TurnEvents.{LastTurn, next_turn};
 
-use crate::run::alone::{AT_ONCE, Ahead, commit_alone, decided_alone};
+use crate::run::alone::{AT_ONCE, Ahead, commit_alone};
 use crate::run::behind::Pursue;
 use crate::run::foreseen::Foreseen;
 use crate::run::owner::{Owner, make_one};
 use crate::run::pipeline::reserve;
-use crate::run::post::{Post, Share};
+use crate::run::post::{MoveRange, Post};
 use crate::run::state::{Given, State, decide_by, moves_left};
 use crate::run::swaps::Accepted;
 use fab_board::follow_lead::Lead;
@@ -38,8 +38,8 @@ use std::marker::Model;
 use std::mem;
 use std::sync::Wait;
 
-/// The owner's end of a crew that follows it, and the sheet that it reads. Contracts see what was posted, and the posts on which this turn's
-/// answers are judged.
+/// The owner's end of a crew that follows it, and the sheet that it reads. Contracts see what was posted, and the posts on which this
+/// turn's answers are judged.
 #[derive(Drop)]
 pub(crate) struct Followers<S: Pursue, J: Naming + Boarding + Origin<S>> {
     lead: Lead<S, Post, Foreseen, J>,
@@ -87,8 +87,8 @@ impl<S: Pursue, J: Naming + Boarding + Origin<S>> Followers<S, J> {
         self.lead.seek(rt, number, &mut self.sheet)
     }
 
-    /// Has ready what is foreseen of a move, on the placement of this turn's base, if a worker has judged it. Returns 0 then, and else how many
-    /// moves from this one on are left to the owner.
+    /// Has ready what is foreseen of a move, on the placement of this turn's base, if a worker has taken it. Returns how many moves from
+    /// this one on are left to the owner; 0 if the answer is ready, or if there is none.
     pub(crate) fn look<R: Wait>(&mut self, rt: &R, number: u64) -> u64
         ensures { self.new ≡ self.old }
     {
@@ -97,9 +97,21 @@ impl<S: Pursue, J: Naming + Boarding + Origin<S>> Followers<S, J> {
 
     /// What is foreseen of a move, if it is ready.
     pub(crate) fn foreseen(&self, number: u64) -> Option<&Foreseen>
-        ensures { IfSome result (λ v. (r : Run) (x : Standing) → IsTied S.run S.standing S.after J.start self.now.1 r x → IsForeseen r x number v.now) }
+        ensures { IfSome result (λ v.
+            (r : Run) (x : Standing) → IsTied S.run S.standing S.after J.start self.now.1 r x →
+            IsForeseen r x number v.now) }
     {
         self.lead.answer(number, &self.sheet)
+    }
+
+    /// What is foreseen of moves in a row from this one on, at most so many, as far as it is ready.
+    pub(crate) fn foreseen_from(&self, number: u64, most: u64) -> &[Foreseen]
+        ensures most { length result.now ≤ most }
+        ensures each { (r : Run) (x : Standing) →
+            IsTied S.run S.standing S.after J.start self.now.1 r x →
+            AreForeseen r x number result.now }
+    {
+        self.lead.answers(number, most, &self.sheet)
     }
 
     /// An empty list for the swaps of the next turn.
@@ -115,9 +127,12 @@ impl<S: Pursue, J: Naming + Boarding + Origin<S>> Followers<S, J> {
 
     /// Posts what the owner made. False if the crew was not given it, since there were too many posts.
     pub(crate) fn post<R: Wait>(&mut self, rt: &R, post: Post) -> bool
-        requires may { (r : Run) × (x : Standing) × IsTied S.run S.standing S.after J.start self.old.0 r x × MayBeFollowed r x post }
+        requires may { (r : Run) × (x : Standing) ×
+            IsTied S.run S.standing S.after J.start self.old.0 r x × MayBeFollowed r x post }
         ensures base { result ≡ true → self.new.1 ≡ self.old.0 }
-        ensures tied { (r : Run) (x : Standing) → IsTied S.run S.standing S.after J.start self.old.0 r x → result ≡ true → IsTied S.run S.standing S.after J.start self.new.0 r (after_post x post) }
+        ensures tied { (r : Run) (x : Standing) →
+            IsTied S.run S.standing S.after J.start self.old.0 r x → result ≡ true →
+            IsTied S.run S.standing S.after J.start self.new.0 r (after_post x post) }
     {
         match self.lead.post(rt, post) {
             Ok(Some(older)) => {
@@ -130,30 +145,8 @@ impl<S: Pursue, J: Naming + Boarding + Origin<S>> Followers<S, J> {
     }
 }
 
-/// Decides the next move, which was not foreseen since memory ran out. Returns the decision, and whether a judgement on the placement after
-/// `base` moves was spoilt.
-fn decided_here<W: Words, G: Gate>(
-    given: &Given<'_, W>,
-    owner: &Owner,
-    base: u64,
-    gate: &G,
-) -> (Decision, bool)
-    requires owned { IsOwned (run_for W.moves given.now) owner.now }
-    requires going { owner.now.state.ended ≡ false }
-    ensures again { result.1 ≡ is_touched_here (run_for W.moves given.now) owner.now base }
-    ensures lawful { (s : Swap) → result.0.swap ≡ Some s → IsSwapOf given.now.grid.now owner.now.state.placement.sites s }
-    ensures decides { IsDecision result.0 (judged_here (run_for W.moves given.now) (standing_of owner.now.state) owner.now.state.done) }
-{
-    let number = owner.state.done;
-    gate.before_judge(number);
-    let words = given.words.move_words(number);
-    let decided = decided_alone(given, owner, base, words);
-    gate.after_judge(number);
-    decided
-}
-
-/// Decides the next move where it still proposes the swap that was foreseen, and the change of cost of nets with few terminals is still `few`.
-/// So only nets with many terminals are looked at. `word` decides whether the swap is accepted.
+/// Decides the next move, which still proposes the swap that was foreseen, and whose nets with few terminals still change by `few`. Only
+/// the change of nets with many terminals is computed. `word` decides whether the swap is accepted.
 fn decided_by_large<W: Words>(
     given: &Given<'_, W>,
     state: &State,
@@ -164,9 +157,12 @@ fn decided_by_large<W: Words>(
     requires sound { IsSound (run_for W.moves given.now) state.now }
     requires going { state.now.ended ≡ false }
     requires word { word ≡ slice_index (W.moves given.now.words state.now.done) 3 }
-    requires still { IsStill (run_for W.moves given.now) (standing_of state.now) state.now.done few swap }
-    ensures lawful { (s : Swap) → result.swap ≡ Some s → IsSwapOf given.now.grid.now state.now.placement.sites s }
-    ensures decides { IsDecision result (judged_here (run_for W.moves given.now) (standing_of state.now) state.now.done) }
+    requires still { IsStill (run_for W.moves given.now) (standing_of state.now) state.now.done few
+        swap }
+    ensures lawful { (s : Swap) → result.swap ≡ Some s →
+        IsSwapOf given.now.grid.now state.now.placement.sites s }
+    ensures decides { IsDecision result
+        (judged_here (run_for W.moves given.now) (standing_of state.now) state.now.done) }
 {
     let large = state
         .cost
@@ -179,9 +175,8 @@ fn decided_by_large<W: Words>(
     }
 }
 
-/// Decides the next move on the live placement, of which is known what it was on the placement after `base` moves, where a move accepted since
-/// has touched what that rests on. If only nets with many terminals were touched, only these are looked at. The move's words count as asked
-/// for once more.
+/// Judges a move again on the live placement, since an accepted move has touched what it rests on. If only nets with many terminals were
+/// touched, only their change is computed. The move's words count as asked for once more.
 fn decided_again<W: Words>(
     given: &Given<'_, W>,
     owner: &Owner,
@@ -190,46 +185,47 @@ fn decided_again<W: Words>(
 ) -> Decision
     requires owned { IsOwned (run_for W.moves given.now) owner.now }
     requires going { owner.now.state.ended ≡ false }
-    requires due { (due : AreOpen (run_for W.moves given.now) owner.now base 1) × IsForeseen (run_for W.moves given.now) due.start owner.now.state.done foreseen.now }
-    ensures lawful { (s : Swap) → result.swap ≡ Some s → IsSwapOf given.now.grid.now owner.now.state.placement.sites s }
-    ensures decides { IsDecision result (judged_here (run_for W.moves given.now) (standing_of owner.now.state) owner.now.state.done) }
+    requires due { (due : AreOpen (run_for W.moves given.now) owner.now base 1) ×
+        IsForeseen (run_for W.moves given.now) due.start owner.now.state.done foreseen.now }
+    ensures lawful { (s : Swap) → result.swap ≡ Some s →
+        IsSwapOf given.now.grid.now owner.now.state.placement.sites s }
+    ensures decides { IsDecision result
+        (judged_here (run_for W.moves given.now) (standing_of owner.now.state)
+        owner.now.state.done) }
 {
     let state = &owner.state;
     let words = given.words.words_again(state.done, foreseen.words);
     if let Proposal::Move(swap) = foreseen.proposal {
         let stamps = &owner.stamps;
-        if !stamps.is_swap_touched_in_few(given.design, given.grid, base, swap, &foreseen.nets) {
+        if !stamps.is_swap_touched_in_few(given.design, given.grid, base, swap) {
             return decided_by_large(given, state, foreseen.few, swap, words[3]);
         }
     }
     decide_by(given, state, state.done, words)
 }
 
-/// Decides the next move: as it was foreseen on the placement after `base` moves, unless a move accepted since has touched what that rests on,
-/// or there is nothing. Returns the decision, and whether a judgement on that placement was spoilt. The gate has the call before the commit
-/// behind the first judgement, and before the move is judged again. Allocates nothing.
+/// Decides the next move: as it was foreseen on the placement after `base` moves, or again if an accepted move has touched what that rests
+/// on. Returns the decision, and whether it was decided again. The gate's call before the commit comes first. Allocates nothing.
 fn decided_followed<W: Words, G: Gate>(
     given: &Given<'_, W>,
     owner: &Owner,
     base: u64,
-    foreseen: Option<&Foreseen>,
+    foreseen: &Foreseen,
     gate: &G,
 ) -> (Decision, bool)
     requires plan { IsLawful given.now.schedule }
     requires owned { IsOwned (run_for W.moves given.now) owner.now }
     requires going { owner.now.state.ended ≡ false }
-    requires due { (due : AreOpen (run_for W.moves given.now) owner.now base 1) × IfSome foreseen (λ v. IsForeseen (run_for W.moves given.now) due.start owner.now.state.done v.now) }
+    requires due { (due : AreOpen (run_for W.moves given.now) owner.now base 1) ×
+        IsForeseen (run_for W.moves given.now) due.start owner.now.state.done foreseen.now }
     ensures again { result.1 ≡ is_touched_here (run_for W.moves given.now) owner.now base }
-    ensures lawful { (s : Swap) → result.0.swap ≡ Some s → IsSwapOf given.now.grid.now owner.now.state.placement.sites s }
-    ensures decides { IsDecision result.0 (judged_here (run_for W.moves given.now) (standing_of owner.now.state) owner.now.state.done) }
+    ensures lawful { (s : Swap) → result.0.swap ≡ Some s →
+        IsSwapOf given.now.grid.now owner.now.state.placement.sites s }
+    ensures decides { IsDecision result.0
+        (judged_here (run_for W.moves given.now) (standing_of owner.now.state)
+        owner.now.state.done) }
 {
-    let number = owner.state.done;
-    let Some(foreseen) = foreseen else {
-        let decided = decided_here(given, owner, base, gate);
-        gate.before_commit(number);
-        return decided;
-    };
-    gate.before_commit(number);
+    gate.before_commit(owner.state.done);
     let stamps = &owner.stamps;
     let proposal = foreseen.proposal;
     let again = stamps.is_touched(given.design, given.grid, base, proposal, &foreseen.nets);
@@ -240,44 +236,82 @@ fn decided_followed<W: Words, G: Gate>(
     }
 }
 
-/// Makes the next move of the running stage as the crew has judged it, or, where the next moves are left to the owner, some of these. Returns
-/// how many it made. The share says on the placement after how many moves they count as judged, and how many moves are due. Allocates
-/// nothing of its own.
+/// Makes the next moves of the running stage, given what was foreseen of each on the placement after `base` moves. Allocates nothing.
+#[inline(always)]
+fn commit_foreseen<W: Words, G: Gate>(
+    given: &Given<'_, W>,
+    owner: &mut Owner,
+    foreseen: &[Foreseen],
+    base: u64,
+    gate: &G,
+)
+    requires plan { IsLawful given.now.schedule }
+    requires owned { IsOwned (run_for W.moves given.now) owner.old }
+    requires room { HasRoom owner.old (length foreseen.now) }
+    requires due { (due : AreOpen (run_for W.moves given.now) owner.old base
+        (length foreseen.now)) ×
+        AreForeseen (run_for W.moves given.now) due.start owner.old.state.done foreseen.now }
+    ensures made { HasMade (run_for W.moves given.now) owner.old (length foreseen.now) owner.new }
+    ensures redone { (due : AreOpen (run_for W.moves given.now) owner.old base
+        (length foreseen.now)) →
+        owner.new.redone ≡
+        owner.old.redone +
+        count_by (is_redone (run_for W.moves given.now) due.start base)
+        (range_with_len owner.old.state.done (length foreseen.now)) }
+    ensures room { (n : ℕ) → HasRoom owner.old (length foreseen.now + n) → HasRoom owner.new n }
+{
+    for sight in foreseen {
+        let (decision, again) = decided_followed(given, owner, base, sight, gate);
+        make_one(given, owner, &decision, again);
+    }
+}
+
+/// Makes some of the next moves of the running stage, of which `ahead.moves` are due: those that a worker has judged together, or those
+/// that are left to the owner, or one, if its answer is missing. Returns how many it made. Allocates nothing of its own.
 #[inline(always)]
 fn commit_next<W: Words, G: Gate, S: Pursue, J: Naming + Boarding + Origin<S>, R: Wait>(
     rt: &R,
     given: &Given<'_, W>,
     owner: &mut Owner,
     followers: &mut Followers<S, J>,
-    share: Share,
+    ahead: Ahead,
     gate: &G,
     words: &mut [[u32; 4]; AT_ONCE],
 ) -> u64
     requires plan { IsLawful given.now.schedule }
     requires owned { IsOwned (run_for W.moves given.now) owner.old }
-    requires some { 0 < share.moves }
-    requires room { HasRoom owner.old share.moves }
-    requires due { (due : AreOpen (run_for W.moves given.now) owner.old share.first share.moves) × IsTied S.run S.standing S.after J.start followers.old.1 (run_for W.moves given.now) due.start }
-    ensures some { (0 < result) × (result ≤ share.moves) }
+    requires some { 0 < ahead.moves }
+    requires room { HasRoom owner.old ahead.moves }
+    requires due { (due : AreOpen (run_for W.moves given.now) owner.old ahead.base ahead.moves) ×
+        IsTied S.run S.standing S.after J.start followers.old.1 (run_for W.moves given.now)
+        due.start }
+    ensures some { (0 < result) × (result ≤ ahead.moves) }
     ensures same { followers.new ≡ followers.old }
     ensures made { HasMade (run_for W.moves given.now) owner.old result owner.new }
-    ensures redone { (due : AreOpen (run_for W.moves given.now) owner.old share.first share.moves) → owner.new.redone ≡ owner.old.redone + count_by (is_redone (run_for W.moves given.now) due.start share.first) (range_with_len owner.old.state.done result) }
+    ensures redone { (due : AreOpen (run_for W.moves given.now) owner.old ahead.base ahead.moves) →
+        owner.new.redone ≡
+        owner.old.redone +
+        count_by (is_redone (run_for W.moves given.now) due.start ahead.base)
+        (range_with_len owner.old.state.done result) }
     ensures room { (n : ℕ) → HasRoom owner.old (result + n) → HasRoom owner.new n }
 {
     let number = owner.state.done;
-    let left = followers.look(rt, number).min(share.moves);
-    if left > 0 {
-        commit_alone(given, owner, left, share.first, gate, words);
-        return left;
+    let left = followers.look(rt, number).min(ahead.moves);
+    if left == 0 {
+        let foreseen = followers.foreseen_from(number, ahead.moves);
+        let count = foreseen.len() as u64;
+        if count > 0 {
+            commit_foreseen(given, owner, foreseen, ahead.base, gate);
+            return count;
+        }
     }
-    let foreseen = followers.foreseen(number);
-    let (decision, again) = decided_followed(given, owner, share.first, foreseen, gate);
-    make_one(given, owner, &decision, again);
-    1
+    let moves = left.max(1);
+    commit_alone(given, owner, moves, ahead.base, true, gate, words);
+    moves
 }
 
-/// Makes the next moves of the running stage, which the crew judges on the placement after as many moves as the share's first. What is left to
-/// the owner it decides on the live placement. `words` is room for the words of some moves. Allocates nothing of its own.
+/// Makes the next moves of the running stage, which the crew judges on the placement after `ahead.base` moves. What is left to the owner it
+/// decides on the live placement. `words` is room for the words of some moves. Allocates nothing of its own.
 pub(crate) fn commit_followed<
     W: Words,
     G: Gate,
@@ -289,52 +323,64 @@ pub(crate) fn commit_followed<
     given: &Given<'_, W>,
     owner: &mut Owner,
     followers: &mut Followers<S, J>,
-    share: Share,
+    ahead: Ahead,
     gate: &G,
     words: &mut [[u32; 4]; AT_ONCE],
 )
     requires plan { IsLawful given.now.schedule }
     requires owned { IsOwned (run_for W.moves given.now) owner.old }
-    requires room { HasRoom owner.old share.moves }
-    requires due { (due : AreOpen (run_for W.moves given.now) owner.old share.first share.moves) × IsTied S.run S.standing S.after J.start followers.old.1 (run_for W.moves given.now) due.start }
+    requires room { HasRoom owner.old ahead.moves }
+    requires due { (due : AreOpen (run_for W.moves given.now) owner.old ahead.base ahead.moves) ×
+        IsTied S.run S.standing S.after J.start followers.old.1 (run_for W.moves given.now)
+        due.start }
     ensures same { followers.new ≡ followers.old }
-    ensures made { HasMade (run_for W.moves given.now) owner.old share.moves owner.new }
-    ensures redone { (due : AreOpen (run_for W.moves given.now) owner.old share.first share.moves) → owner.new.redone ≡ owner.old.redone + count_by (is_redone (run_for W.moves given.now) due.start share.first) (range_with_len owner.old.state.done share.moves) }
-    ensures room { (n : ℕ) → HasRoom owner.old (share.moves + n) → HasRoom owner.new n }
+    ensures made { HasMade (run_for W.moves given.now) owner.old ahead.moves owner.new }
+    ensures redone { (due : AreOpen (run_for W.moves given.now) owner.old ahead.base ahead.moves) →
+        owner.new.redone ≡
+        owner.old.redone +
+        count_by (is_redone (run_for W.moves given.now) due.start ahead.base)
+        (range_with_len owner.old.state.done ahead.moves) }
+    ensures room { (n : ℕ) → HasRoom owner.old (ahead.moves + n) → HasRoom owner.new n }
 {
     let mut made = 0;
-    while made < share.moves {
-        let rest = Share {
-            first: share.first,
-            moves: share.moves - made,
+    while made < ahead.moves {
+        let rest = Ahead {
+            base: ahead.base,
+            moves: ahead.moves - made,
         };
         made += commit_next(rt, given, owner, followers, rest, gate, words);
     }
 }
 
-/// Makes the next moves of the running stage, beside the crew if there is one. The share's first tells on the placement after how many moves
-/// they count as judged. `words` is room for the words of some moves.
+/// Makes the next moves of the running stage, beside the crew if there is one. They count as judged on the placement after `ahead.base`
+/// moves. `words` is room for the words of some moves.
 fn commit_by<W: Words, G: Gate, S: Pursue, J: Naming + Boarding + Origin<S>, R: Wait>(
     rt: &R,
     given: &Given<'_, W>,
     owner: &mut Owner,
     followers: &mut Option<Followers<S, J>>,
-    share: Share,
+    ahead: Ahead,
     gate: &G,
     words: &mut [[u32; 4]; AT_ONCE],
 )
     requires plan { IsLawful given.now.schedule }
     requires owned { IsOwned (run_for W.moves given.now) owner.old }
-    requires room { HasRoom owner.old share.moves }
-    requires due { (due : AreOpen (run_for W.moves given.now) owner.old share.first share.moves) × IfSome followers.old (λ f. IsTied S.run S.standing S.after J.start f.1 (run_for W.moves given.now) due.start) }
+    requires room { HasRoom owner.old ahead.moves }
+    requires due { (due : AreOpen (run_for W.moves given.now) owner.old ahead.base ahead.moves) ×
+        IfSome followers.old (λ f.
+        IsTied S.run S.standing S.after J.start f.1 (run_for W.moves given.now) due.start) }
     ensures same { followers.new ≡ followers.old }
-    ensures made { HasMade (run_for W.moves given.now) owner.old share.moves owner.new }
-    ensures redone { (due : AreOpen (run_for W.moves given.now) owner.old share.first share.moves) → owner.new.redone ≡ owner.old.redone + count_by (is_redone (run_for W.moves given.now) due.start share.first) (range_with_len owner.old.state.done share.moves) }
-    ensures room { (n : ℕ) → HasRoom owner.old (share.moves + n) → HasRoom owner.new n }
+    ensures made { HasMade (run_for W.moves given.now) owner.old ahead.moves owner.new }
+    ensures redone { (due : AreOpen (run_for W.moves given.now) owner.old ahead.base ahead.moves) →
+        owner.new.redone ≡
+        owner.old.redone +
+        count_by (is_redone (run_for W.moves given.now) due.start ahead.base)
+        (range_with_len owner.old.state.done ahead.moves) }
+    ensures room { (n : ℕ) → HasRoom owner.old (ahead.moves + n) → HasRoom owner.new n }
 {
     match followers {
-        Some(crew) => commit_followed(rt, given, owner, crew, share, gate, words),
-        None => commit_alone(given, owner, share.moves, share.first, gate, words),
+        Some(crew) => commit_followed(rt, given, owner, crew, ahead, gate, words),
+        None => commit_alone(given, owner, ahead.moves, ahead.base, false, gate, words),
     }
 }
 
@@ -348,11 +394,13 @@ pub(crate) struct TurnPlan<'g, G: Gate> {
 }
 
 /// What the owner made since its last post, and which moves it asks for.
-pub(crate) fn post_of(state: &State, swaps: Vec<Accepted>, share: Share) -> Post
+pub(crate) fn post_of(state: &State, swaps: Vec<Accepted>, range: MoveRange) -> Post
     ensures swaps { result.swaps.items ≡ swaps.items }
     ensures stage { result.stage ≡ state.now.stage }
-    ensures rest { (result.ended ≡ state.now.ended) × (result.done ≡ state.now.done) × (result.total ≡ state.now.total) }
-    ensures cost { (d : Netlist) (g : GridShape) (sites : List Site) → CountedStandsFor state.now.cost d g sites → result.cost ≡ cost_of d g sites }
+    ensures rest { (result.ended ≡ state.now.ended) × (result.done ≡ state.now.done) ×
+        (result.total ≡ state.now.total) }
+    ensures cost { (d : Netlist) (g : GridShape) (sites : List Site) →
+        CountedStandsFor state.now.cost d g sites → result.cost ≡ cost_of d g sites }
 {
     Post {
         swaps,
@@ -361,8 +409,8 @@ pub(crate) fn post_of(state: &State, swaps: Vec<Accepted>, share: Share) -> Post
         ended: state.ended,
         done: state.done,
         total: state.total,
-        first: share.first,
-        count: share.moves,
+        first: range.first,
+        count: range.moves,
     }
 }
 
@@ -380,21 +428,28 @@ fn fresh_list<S: Pursue, J: Naming + Boarding + Origin<S>>(
     }
 }
 
-/// Posts for the crew, if there is one. A crew that was not given the post, since there were too many, is let go.
-fn tell<S: Pursue, J: Naming + Boarding + Origin<S>, R: Wait>(
+/// Posts for the crew, if there is one. If the post is refused, since there were too many, the crew is let go.
+fn post_or_let_go<S: Pursue, J: Naming + Boarding + Origin<S>, R: Wait>(
     rt: &R,
     followers: &mut Option<Followers<S, J>>,
     post: Post,
 )
-    requires may { IfSome followers.old (λ f. (r : Run) × (x : Standing) × IsTied S.run S.standing S.after J.start f.0 r x × MayBeFollowed r x post) }
-    ensures base { (r : Run) (x : Standing) → IfSome followers.old (λ f. IsTied S.run S.standing S.after J.start f.0 r x) → IfSome followers.new (λ f. IsTied S.run S.standing S.after J.start f.1 r x) }
-    ensures tied { (r : Run) (x : Standing) → IfSome followers.old (λ f. IsTied S.run S.standing S.after J.start f.0 r x) → IfSome followers.new (λ f. IsTied S.run S.standing S.after J.start f.0 r (after_post x post)) }
+    requires may { IfSome followers.old (λ f.
+        (r : Run) × (x : Standing) × IsTied S.run S.standing S.after J.start f.0 r x ×
+        MayBeFollowed r x post) }
+    ensures base { (r : Run) (x : Standing) →
+        IfSome followers.old (λ f. IsTied S.run S.standing S.after J.start f.0 r x) →
+        IfSome followers.new (λ f. IsTied S.run S.standing S.after J.start f.1 r x) }
+    ensures tied { (r : Run) (x : Standing) →
+        IfSome followers.old (λ f. IsTied S.run S.standing S.after J.start f.0 r x) →
+        IfSome followers.new (λ f.
+        IsTied S.run S.standing S.after J.start f.0 r (after_post x post)) }
 {
-    let told = match followers {
+    let is_posted = match followers {
         Some(crew) => crew.post(rt, post),
         None => true,
     };
-    if !told {
+    if !is_posted {
         *followers = None;
     }
 }
@@ -417,28 +472,52 @@ pub(crate) fn turn_followed<
     plan: &TurnPlan<'_, G>,
     words: &mut [[u32; 4]; AT_ONCE],
 ) -> Result<Ahead, AllocError>
-    requires alone { (t : LastTurn) × IsAlone (run_for W.moves given.now) t owner.old ahead × IfSome followers.old (λ f. IsTied S.run S.standing S.after J.start f.0 (run_for W.moves given.now) t.start) × Leads given.now.grid.now t.start.sites owner.old.swaps.items owner.old.state.placement.sites }
+    requires alone { (t : LastTurn) × IsAlone (run_for W.moves given.now) t owner.old ahead ×
+        IfSome followers.old (λ f.
+        IsTied S.run S.standing S.after J.start f.0 (run_for W.moves given.now) t.start) ×
+        Leads given.now.grid.now t.start.sites owner.old.swaps.items
+        owner.old.state.placement.sites }
     requires batch { (1 ≤ plan.now.batch) × (plan.now.batch ≤ 4096) }
-    ensures ok { MatchResult result (λ due. (t : LastTurn) → IsAlone (run_for W.moves given.now) t owner.old ahead → HasGone (run_for W.moves given.now) t owner.old (next_turn (run_for W.moves given.now) plan.now.batch t).made (next_turn (run_for W.moves given.now) plan.now.batch t).ahead owner.new due) (λ _. (t : LastTurn) → IsAlone (run_for W.moves given.now) t owner.old ahead → HasGone (run_for W.moves given.now) t owner.old 0 0 owner.new (record { base = owner.old.state.done; moves = 0 })) }
-    ensures leads { OnOk result (Leads given.now.grid.now owner.old.state.placement.sites owner.new.swaps.items owner.new.state.placement.sites) }
-    ensures tied { OnOk result (IfSome followers.new (λ f. IsTied S.run S.standing S.after J.start f.0 (run_for W.moves given.now) (standing_of owner.old.state))) }
+    ensures ok { MatchResult result (λ due.
+        (t : LastTurn) → IsAlone (run_for W.moves given.now) t owner.old ahead →
+        HasGone (run_for W.moves given.now) t owner.old
+        (next_turn (run_for W.moves given.now) plan.now.batch t).made
+        (next_turn (run_for W.moves given.now) plan.now.batch t).ahead owner.new due)
+        (λ _.
+        (t : LastTurn) → IsAlone (run_for W.moves given.now) t owner.old ahead →
+        HasGone (run_for W.moves given.now) t owner.old 0 0 owner.new
+        (record { base = owner.old.state.done; moves = 0 })) }
+    ensures leads { OnOk result
+        (Leads given.now.grid.now owner.old.state.placement.sites owner.new.swaps.items
+        owner.new.state.placement.sites) }
+    ensures tied { OnOk result (IfSome followers.new (λ f.
+        IsTied S.run S.standing S.after J.start f.0 (run_for W.moves given.now)
+        (standing_of owner.old.state))) }
 {
     let start = owner.state.done;
     let left = moves_left(&given.schedule, &owner.state);
     let moves = plan.batch.min(left);
     let swaps = mem::replace(&mut owner.swaps, fresh_list(given.alloc, followers));
     reserve(owner, moves)?;
-    let next = Share {
+    let next = MoveRange {
         first: start + moves,
         moves: plan.batch.min(left - moves),
     };
-    tell(rt, followers, post_of(&owner.state, swaps, next));
-    let kept = Share {
-        first: ahead.base,
+    post_or_let_go(rt, followers, post_of(&owner.state, swaps, next));
+    let kept = Ahead {
+        base: ahead.base,
         moves: ahead.moves.min(moves),
     };
     commit_by(rt, given, owner, followers, kept, plan.gate, words);
-    commit_alone(given, owner, moves - kept.moves, start, plan.gate, words);
+    commit_alone(
+        given,
+        owner,
+        moves - kept.moves,
+        start,
+        true,
+        plan.gate,
+        words,
+    );
     Ok(Ahead {
         base: start,
         moves: next.moves,
@@ -462,11 +541,26 @@ pub(crate) fn begin_followed<
     plan: &TurnPlan<'_, G>,
     words: &mut [[u32; 4]; AT_ONCE],
 ) -> Result<Ahead, AllocError>
-    requires alone { (t : LastTurn) × IsAlone (run_for W.moves given.now) t owner.old ahead × IfSome followers.old (λ f. IsTied S.run S.standing S.after J.start f.0 (run_for W.moves given.now) (standing_of owner.old.state)) }
+    requires alone { (t : LastTurn) × IsAlone (run_for W.moves given.now) t owner.old ahead ×
+        IfSome followers.old (λ f.
+        IsTied S.run S.standing S.after J.start f.0 (run_for W.moves given.now)
+        (standing_of owner.old.state)) }
     requires batch { (1 ≤ plan.now.batch) × (plan.now.batch ≤ 4096) }
-    ensures ok { MatchResult result (λ due. (t : LastTurn) → IsAlone (run_for W.moves given.now) t owner.old ahead → HasGone (run_for W.moves given.now) t owner.old (next_turn (run_for W.moves given.now) plan.now.batch t).made (next_turn (run_for W.moves given.now) plan.now.batch t).ahead owner.new due) (λ _. (t : LastTurn) → IsAlone (run_for W.moves given.now) t owner.old ahead → HasGone (run_for W.moves given.now) t owner.old 0 0 owner.new (record { base = owner.old.state.done; moves = 0 })) }
-    ensures leads { OnOk result (Leads given.now.grid.now owner.old.state.placement.sites owner.new.swaps.items owner.new.state.placement.sites) }
-    ensures tied { OnOk result (IfSome followers.new (λ f. IsTied S.run S.standing S.after J.start f.0 (run_for W.moves given.now) (standing_of owner.old.state))) }
+    ensures ok { MatchResult result (λ due.
+        (t : LastTurn) → IsAlone (run_for W.moves given.now) t owner.old ahead →
+        HasGone (run_for W.moves given.now) t owner.old
+        (next_turn (run_for W.moves given.now) plan.now.batch t).made
+        (next_turn (run_for W.moves given.now) plan.now.batch t).ahead owner.new due)
+        (λ _.
+        (t : LastTurn) → IsAlone (run_for W.moves given.now) t owner.old ahead →
+        HasGone (run_for W.moves given.now) t owner.old 0 0 owner.new
+        (record { base = owner.old.state.done; moves = 0 })) }
+    ensures leads { OnOk result
+        (Leads given.now.grid.now owner.old.state.placement.sites owner.new.swaps.items
+        owner.new.state.placement.sites) }
+    ensures tied { OnOk result (IfSome followers.new (λ f.
+        IsTied S.run S.standing S.after J.start f.0 (run_for W.moves given.now)
+        (standing_of owner.old.state))) }
 {
     let start = owner.state.done;
     let left = moves_left(&given.schedule, &owner.state);
@@ -474,21 +568,21 @@ pub(crate) fn begin_followed<
     owner.swaps.clear();
     reserve(owner, moves)?;
     let kept = ahead.moves.min(moves);
-    let now = Share {
+    let now = MoveRange {
         first: start + kept,
         moves: moves - kept,
     };
-    let next = Share {
+    let next = MoveRange {
         first: start + moves,
         moves: plan.batch.min(left - moves),
     };
     let none = fresh_list(given.alloc, followers);
-    tell(rt, followers, post_of(&owner.state, none, now));
+    post_or_let_go(rt, followers, post_of(&owner.state, none, now));
     let none = fresh_list(given.alloc, followers);
-    tell(rt, followers, post_of(&owner.state, none, next));
-    commit_alone(given, owner, kept, ahead.base, plan.gate, words);
-    let rest = Share {
-        first: start,
+    post_or_let_go(rt, followers, post_of(&owner.state, none, next));
+    commit_alone(given, owner, kept, ahead.base, true, plan.gate, words);
+    let rest = Ahead {
+        base: start,
         moves: now.moves,
     };
     commit_by(rt, given, owner, followers, rest, plan.gate, words);

@@ -4,29 +4,29 @@ ghost use Rattle.std.specs.Prelude.{◌≡◌, pos, false};
 ghost use Rattle.fab_commit.specs.Run.Commits.{IsSound, run_for, standing_of};
 ghost use Rattle.fab_commit.specs.Run.Foreseen.{IsForeseen, decision_in};
 
+use crate::run::kept_nets::LargeNets;
 use crate::run::state::{Given, State, view_of};
-use crate::run::swap_nets::SwapNets;
 use fab_move::{Decision, Proposal, accepts, propose};
 use fab_site::Words;
 
-/// What a move would be on the placement of somebody who follows. What its decision rests on is what its proposal names. In this order its
-/// parts take 128 bytes.
+/// The judgement of a move on the placement of somebody who follows the owner. It rests on what its proposal names. What the owner reads of
+/// a move that is rejected stands first, in less than a cache line.
 #[derive(Clone, Copy)]
 pub struct Foreseen {
     pub(crate) proposal: Proposal,
+    /// The nets of its swap that have many terminals, if it has one and they are not too many.
+    pub(crate) nets: LargeNets,
+    pub(crate) accepted: bool,
     /// The move's words.
     pub(crate) words: [u32; 4],
-    pub(crate) accepted: bool,
     /// The change of cost of the nets with few terminals, in ten-thousandths; 0 without a swap.
     pub(crate) few: i64,
     /// The change of cost in ten-thousandths; 0 without a swap.
     pub(crate) delta: i64,
-    /// The nets of its swap, if it has one and they are not too many.
-    pub(crate) nets: SwapNets,
 }
 
 impl Foreseen {
-    /// What a place holds that nothing was written to.
+    /// The value of a place that was never written.
     pub(crate) fn nothing() -> Foreseen {
         without_swap(Proposal::Nothing, [0; 4])
     }
@@ -50,7 +50,8 @@ impl Foreseen {
 
 /// What is foreseen of a move that proposes no swap.
 fn without_swap(proposal: Proposal, words: [u32; 4]) -> Foreseen
-    ensures { (result.proposal ≡ proposal) × (result.few ≡ pos 0) × (result.delta ≡ pos 0) × (result.words ≡ words) × (result.accepted ≡ false) }
+    ensures { (result.proposal ≡ proposal) × (result.few ≡ pos 0) × (result.delta ≡ pos 0) ×
+        (result.words ≡ words) × (result.accepted ≡ false) }
 {
     Foreseen {
         proposal,
@@ -58,12 +59,12 @@ fn without_swap(proposal: Proposal, words: [u32; 4]) -> Foreseen
         delta: 0,
         words,
         accepted: false,
-        nets: SwapNets::none(),
+        nets: LargeNets::none(),
     }
 }
 
-#[inline(always)]
 /// Foresees a move of the running stage, by its words. Allocates nothing.
+#[inline(always)]
 pub(crate) fn foresee<W: Words>(
     given: &Given<'_, W>,
     state: &State,
@@ -99,7 +100,7 @@ pub(crate) fn foresee<W: Words>(
                 delta,
                 words,
                 accepted: accepts(delta, view.t, words[3]),
-                nets: SwapNets::of(view.design, swap),
+                nets: LargeNets::of(view.design, swap),
             }
         }
     }

@@ -40,8 +40,8 @@ impl Keeping for KeepsNumbers {
     }
 }
 
-/// How many moves were accepted is kept, and no number, so memory does not grow with the moves. Moves that the calling thread makes alone are
-/// not looked at for what turns would judge again, which takes time.
+/// How many moves were accepted is kept, and no number, so memory does not grow with the moves. Moves that the calling thread makes alone
+/// are not looked at for what turns would judge again, which takes time.
 pub struct KeepsCount;
 
 impl Keeping for KeepsCount {

@@ -1,9 +1,10 @@
 //! The owner of the live placement, which commits moves in order of number.
 
-ghost use Rattle.std.specs.Prelude.{◌≡◌, ℕ, ◌+◌, ◌-◌, ◌^◌, ◌<◌, ◌≤◌, List, ◌++◌, false, length, Some};
+ghost use Rattle.std.specs.Prelude.{◌≡◌, ℕ, ◌+◌, ◌-◌, ◌^◌, ◌<◌, ◌≤◌, List, ◌++◌, false, length, Some, IfSome};
 ghost use Rattle.std.specs.List.{count_by, range_with_len};
 ghost use Rattle.fab_sched.specs.Annealing.{IsLawful};
 ghost use Rattle.fab_site.specs.Placement.{IsSwapOf};
+ghost use Rattle.fab_cost.specs.Swapping.{IsMadeFor};
 ghost use Rattle.fab_move.specs.Judge.{IsDecision, Judged, says};
 ghost use Rattle.fab_commit.specs.Serial.{judged_here, moves_left, one_if};
 ghost use Rattle.fab_commit.specs.Run.Commits.{run_for, standing_of};
@@ -17,6 +18,7 @@ use crate::run::stamps::Stamps;
 use crate::run::state::{Given, State, commit, decide_on, decision_of};
 use crate::run::swaps::{Accepted, enter};
 use fab_board::Gate;
+use fab_cost::EdgeBoxes;
 use fab_move::{Decision, Verdict};
 use fab_site::{Swap, Words};
 
@@ -57,28 +59,35 @@ impl Owner {
     }
 }
 
-/// Stamps what a move touches, if it is accepted.
+/// Stamps what a move touches, if it is accepted. Where a crew works, the cost is given.
 pub(crate) fn stamp<W: Words>(
     given: &Given<'_, W>,
     stamps: &mut Stamps,
     number: u64,
     decision: &Decision,
+    near: Option<&EdgeBoxes>,
 )
     requires table { IsTable given.now.design.now given.now.grid.now stamps.old }
-    requires within { (s : Swap) → decision.now.swap ≡ Some s → IsWithin given.now.design.now given.now.grid.now s }
+    requires near { IfSome near (λ b. IsMadeFor b.now given.now.design.now) }
+    requires within { (s : Swap) → decision.now.swap ≡ Some s →
+        IsWithin given.now.design.now given.now.grid.now s }
     requires number { number < 2 ^ 61 }
     ensures table { IsTable given.now.design.now given.now.grid.now stamps.new }
-    ensures stamped { (j : Judged) → IsDecision decision.now j → (log : List Accepted) → AreBefore number log → AreStamps given.now.design.now given.now.grid.now stamps.old log → AreStamps given.now.design.now given.now.grid.now stamps.new (log ++ accepted_now number j) }
+    ensures stamped { (j : Judged) → IsDecision decision.now j → (log : List Accepted) →
+        AreBefore number log → AreStamps given.now.design.now given.now.grid.now stamps.old log →
+        AreStamps given.now.design.now given.now.grid.now stamps.new
+        (log ++ accepted_now number j) }
 {
     if !decision.accepted {
         return;
     }
     if let Some(swap) = decision.swap {
-        stamps.touch(given.design, given.grid, &swap, number + 1);
+        stamps.touch(given.design, given.grid, &swap, number + 1, near);
     }
 }
 
-/// Makes a move that is decided: notes its swap, stamps what it touches, commits it, and counts it if it is judged again. Allocates nothing.
+/// Makes a move that is decided, beside a crew: notes its swap, stamps what it touches, commits it, and counts it if it is judged again.
+/// Allocates nothing.
 pub(crate) fn make_one<W: Words>(
     given: &Given<'_, W>,
     owner: &mut Owner,
@@ -89,22 +98,26 @@ pub(crate) fn make_one<W: Words>(
     requires owned { IsOwned (run_for W.moves given.now) owner.old }
     requires going { owner.old.state.ended ≡ false }
     requires room { HasRoom owner.old 1 }
-    requires lawful { (s : Swap) → decision.now.swap ≡ Some s → IsSwapOf given.now.grid.now owner.old.state.placement.sites s }
-    requires decides { IsDecision decision.now (judged_here (run_for W.moves given.now) (standing_of owner.old.state) owner.old.state.done) }
+    requires lawful { (s : Swap) → decision.now.swap ≡ Some s →
+        IsSwapOf given.now.grid.now owner.old.state.placement.sites s }
+    requires decides { IsDecision decision.now
+        (judged_here (run_for W.moves given.now) (standing_of owner.old.state)
+        owner.old.state.done) }
     ensures made { HasMade (run_for W.moves given.now) owner.old 1 owner.new }
     ensures redone { owner.new.redone ≡ owner.old.redone + one_if again }
     ensures room { (n : ℕ) → HasRoom owner.old (n + 1) → HasRoom owner.new n }
 {
     let number = owner.state.done;
     enter(&mut owner.swaps, number, decision);
-    stamp(given, &mut owner.stamps, number, decision);
+    let near = Some(&owner.state.cost);
+    stamp(given, &mut owner.stamps, number, decision, near);
     commit(given, &mut owner.state, decision);
     owner.redone += u64::from(again);
 }
 
 /// Decides the next move, whose verdict was judged on the placement after `base` moves. Returns the decision, and whether the move was
 /// judged again: it is, on the live placement, if a move accepted since has touched what the verdict rests on. Otherwise the verdict is
-/// taken. Allocates nothing.
+/// taken. For single turns; in a stage with a crew `decided_followed` decides. Allocates nothing.
 fn decided<W: Words>(
     given: &Given<'_, W>,
     owner: &Owner,
@@ -114,10 +127,16 @@ fn decided<W: Words>(
     requires owned { IsOwned (run_for W.moves given.now) owner.now }
     requires going { owner.now.state.ended ≡ false }
     requires kinds { KeepsKind given.now.grid.now verdict.now }
-    requires fresh { is_touched (run_for W.moves given.now) owner.now base verdict.now ≡ false → says verdict.now ≡ judged_here (run_for W.moves given.now) (standing_of owner.now.state) owner.now.state.done }
+    requires fresh { is_touched (run_for W.moves given.now) owner.now base verdict.now ≡ false →
+        says verdict.now ≡
+        judged_here (run_for W.moves given.now) (standing_of owner.now.state)
+        owner.now.state.done }
     ensures again { result.1 ≡ is_touched (run_for W.moves given.now) owner.now base verdict.now }
-    ensures lawful { (s : Swap) → result.0.swap ≡ Some s → IsSwapOf given.now.grid.now owner.now.state.placement.sites s }
-    ensures decides { IsDecision result.0 (judged_here (run_for W.moves given.now) (standing_of owner.now.state) owner.now.state.done) }
+    ensures lawful { (s : Swap) → result.0.swap ≡ Some s →
+        IsSwapOf given.now.grid.now owner.now.state.placement.sites s }
+    ensures decides { IsDecision result.0
+        (judged_here (run_for W.moves given.now) (standing_of owner.now.state)
+        owner.now.state.done) }
 {
     if owner.stamps.any_above(given.grid, base, &verdict.footprint) {
         (decide_on(given, &owner.state, owner.state.done), true)
@@ -126,7 +145,7 @@ fn decided<W: Words>(
     }
 }
 
-/// Commits moves in order of number. They were judged on the placement after `base` moves. Allocates nothing.
+/// Commits the moves of a single turn in order of number. They were judged on the placement after `base` moves. Allocates nothing.
 pub(crate) fn commit_each<W: Words, G: Gate>(
     given: &Given<'_, W>,
     owner: &mut Owner,
@@ -138,9 +157,14 @@ pub(crate) fn commit_each<W: Words, G: Gate>(
     requires owned { IsOwned (run_for W.moves given.now) owner.old }
     requires room { HasRoom owner.old (length verdicts.now) }
     requires due { AreDue (run_for W.moves given.now) owner.old base verdicts.now }
-    ensures made { HasMade (run_for W.moves given.now) owner.old (owner.new.state.done - owner.old.state.done) owner.new }
+    ensures made { HasMade (run_for W.moves given.now) owner.old
+        (owner.new.state.done - owner.old.state.done) owner.new }
     ensures done { owner.new.state.done ≡ owner.old.state.done + length verdicts.now }
-    ensures redone { (due : AreDue (run_for W.moves given.now) owner.old base verdicts.now) → owner.new.redone ≡ owner.old.redone + count_by (is_redone (run_for W.moves given.now) due.start base) (range_with_len owner.old.state.done (owner.new.state.done - owner.old.state.done)) }
+    ensures redone { (due : AreDue (run_for W.moves given.now) owner.old base verdicts.now) →
+        owner.new.redone ≡
+        owner.old.redone +
+        count_by (is_redone (run_for W.moves given.now) due.start base)
+        (range_with_len owner.old.state.done (owner.new.state.done - owner.old.state.done)) }
     ensures room { (n : ℕ) → HasRoom owner.old (length verdicts.now + n) → HasRoom owner.new n }
 {
     for verdict in verdicts {
@@ -148,7 +172,7 @@ pub(crate) fn commit_each<W: Words, G: Gate>(
         gate.before_commit(number);
         let (decision, again) = decided(given, owner, verdict, base);
         enter(&mut owner.swaps, number, &decision);
-        stamp(given, &mut owner.stamps, number, &decision);
+        stamp(given, &mut owner.stamps, number, &decision, None);
         commit(given, &mut owner.state, &decision);
         owner.redone += u64::from(again);
     }

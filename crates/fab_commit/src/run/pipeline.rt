@@ -57,8 +57,11 @@ pub(crate) fn first_pipeline<W: Words>(
 ) -> Result<Pipeline, AllocError>
     requires plan { IsLawful given.now.schedule }
     requires sound { IsSound (run_for W.moves given.now) live }
-    ensures behind { IfOk result (λ s. IsBehind (run_for W.moves given.now) (no_turn (standing_of live)) s) }
-    ensures told { IfOk result (λ s. (s.ahead.items ≡ []) × (s.owner.swaps.items ≡ []) × (s.owner.state ≡ live) × (s.owner.redone ≡ 0)) }
+    ensures behind { IfOk result (λ s.
+        IsBehind (run_for W.moves given.now) (no_turn (standing_of live)) s) }
+    ensures told { IfOk result (λ s.
+        (s.ahead.items ≡ []) × (s.owner.swaps.items ≡ []) × (s.owner.state ≡ live) ×
+        (s.owner.redone ≡ 0)) }
 {
     let alloc = given.alloc;
     let base = live.done;
@@ -93,7 +96,8 @@ pub(crate) fn reserve(owner: &mut Owner, moves: u64) -> Result<(), AllocError>
 
 /// Ends a turn for which memory ran out before its first move. Nothing is judged ahead then.
 pub(crate) fn cut_turn<W: Words>(_given: &Given<'_, W>, pipeline: &mut Pipeline)
-    ensures cut { (t : LastTurn) → IsBehind (run_for W.moves _given.now) t pipeline.old → HasTurned (run_for W.moves _given.now) t pipeline.old 0 0 pipeline.new }
+    ensures cut { (t : LastTurn) → IsBehind (run_for W.moves _given.now) t pipeline.old →
+        HasTurned (run_for W.moves _given.now) t pipeline.old 0 0 pipeline.new }
     ensures done { pipeline.new.owner.state ≡ pipeline.old.owner.state }
 {
     pipeline.base = pipeline.owner.state.done;

@@ -31,7 +31,9 @@ pub struct Point {
 /// Fixes a block in `copy` at the site where it is fixed in `fixed`, if it is.
 fn fix_too(fixed: &Fixed, copy: &mut Fixed, block: BlockId) -> Result<(), AllocError>
     requires { fixed_at copy.old block.0 ≡ None }
-    ensures { OnOk result ((b : ℕ) → fixed_at copy.new b ≡ (if b == block.0 then fixed_at fixed.now b else fixed_at copy.old b)) }
+    ensures { OnOk result ((b : ℕ) →
+        fixed_at copy.new b ≡
+        (if b == block.0 then fixed_at fixed.now b else fixed_at copy.old b)) }
 {
     match fixed.site_of(block) {
         Some(site) => copy.fix(block, site),

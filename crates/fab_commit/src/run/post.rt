@@ -3,9 +3,9 @@
 use crate::run::swaps::Accepted;
 use fab_sched::Stage;
 
-/// Moves of the running stage that are judged together.
+/// Moves in a row of the running stage, to be judged.
 #[derive(Clone, Copy)]
-pub(crate) struct Share {
+pub(crate) struct MoveRange {
     /// The number of the first of them.
     pub(crate) first: u64,
     /// How many there are.

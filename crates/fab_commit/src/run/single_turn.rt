@@ -1,4 +1,5 @@
-//! Turns with a crew of their own, for a caller that makes single turns. A run of the program makes none of these: its crews live for a stage.
+//! Turns with a crew of their own, for a caller that makes single turns. A run of the program makes none of these: its crews live for a
+//! stage.
 
 ghost use Rattle.std.specs.Prelude.{◌≡◌, ◌≤◌};
 ghost use Rattle.fab_commit.specs.Run.Readings.{IsShown};

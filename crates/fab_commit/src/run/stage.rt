@@ -36,7 +36,7 @@ pub(crate) struct MovesPlan<'g, G: Gate> {
     pub(crate) dial: &'g Dial,
 }
 
-/// What goes from turn to turn.
+/// What a turn hands to the next.
 #[derive(Drop)]
 struct Course {
     /// The moves that count as judged ahead.
@@ -47,8 +47,8 @@ struct Course {
     words: [[u32; 4]; AT_ONCE],
 }
 
-/// Makes a turn of at most a batch of moves, beside the crew if there is one. Returns the moves after it that count as judged ahead. An error
-/// means that memory ran out; then no move was made.
+/// Makes a turn of at most a batch of moves, beside the crew if there is one. Returns the moves after it that count as judged ahead. An
+/// error means that memory ran out; then no move was made.
 fn turn_of<W: Words, G: Gate, S: Pursue, J: Naming + Boarding + Origin<S>, R: Wait>(
     rt: &R,
     given: &Given<'_, W>,
@@ -57,11 +57,26 @@ fn turn_of<W: Words, G: Gate, S: Pursue, J: Naming + Boarding + Origin<S>, R: Wa
     plan: &TurnPlan<'_, G>,
     course: &mut Course,
 ) -> Result<Ahead, AllocError>
-    requires alone { (t : LastTurn) × IsAlone (run_for W.moves given.now) t owner.old course.old.ahead × IsBeside S.run S.standing S.after J.start (run_for W.moves given.now) t owner.old course.old.begun followers.old }
+    requires alone { (t : LastTurn) ×
+        IsAlone (run_for W.moves given.now) t owner.old course.old.ahead ×
+        IsBeside S.run S.standing S.after J.start (run_for W.moves given.now) t owner.old
+        course.old.begun followers.old }
     requires batch { (1 ≤ plan.now.batch) × (plan.now.batch ≤ 4096) }
-    ensures ok { MatchResult result (λ due. (t : LastTurn) → IsAlone (run_for W.moves given.now) t owner.old course.old.ahead → HasGone (run_for W.moves given.now) t owner.old (next_turn (run_for W.moves given.now) plan.now.batch t).made (next_turn (run_for W.moves given.now) plan.now.batch t).ahead owner.new due) (λ _. (t : LastTurn) → IsAlone (run_for W.moves given.now) t owner.old course.old.ahead → HasGone (run_for W.moves given.now) t owner.old 0 0 owner.new (record { base = owner.old.state.done; moves = 0 })) }
-    ensures leads { OnOk result (Leads given.now.grid.now owner.old.state.placement.sites owner.new.swaps.items owner.new.state.placement.sites) }
-    ensures tied { OnOk result (IfSome followers.new (λ f. IsTied S.run S.standing S.after J.start f.0 (run_for W.moves given.now) (standing_of owner.old.state))) }
+    ensures ok { MatchResult result (λ due.
+        (t : LastTurn) → IsAlone (run_for W.moves given.now) t owner.old course.old.ahead →
+        HasGone (run_for W.moves given.now) t owner.old
+        (next_turn (run_for W.moves given.now) plan.now.batch t).made
+        (next_turn (run_for W.moves given.now) plan.now.batch t).ahead owner.new due)
+        (λ _.
+        (t : LastTurn) → IsAlone (run_for W.moves given.now) t owner.old course.old.ahead →
+        HasGone (run_for W.moves given.now) t owner.old 0 0 owner.new
+        (record { base = owner.old.state.done; moves = 0 })) }
+    ensures leads { OnOk result
+        (Leads given.now.grid.now owner.old.state.placement.sites owner.new.swaps.items
+        owner.new.state.placement.sites) }
+    ensures tied { OnOk result (IfSome followers.new (λ f.
+        IsTied S.run S.standing S.after J.start f.0 (run_for W.moves given.now)
+        (standing_of owner.old.state))) }
 {
     let ahead = course.ahead;
     let words = &mut course.words;
@@ -85,14 +100,33 @@ fn one_turn<W: Words, G: Gate, S: Pursue, J: Naming + Boarding + Origin<S>, R: W
     course: &mut Course,
     shower: &mut Shower,
 ) -> Result<(), AllocError>
-    requires alone { (t : LastTurn) × IsAlone (run_for W.moves given.now) t state.old.owner course.old.ahead × IsBeside S.run S.standing S.after J.start (run_for W.moves given.now) t state.old.owner course.old.begun followers.old }
+    requires alone { (t : LastTurn) ×
+        IsAlone (run_for W.moves given.now) t state.old.owner course.old.ahead ×
+        IsBeside S.run S.standing S.after J.start (run_for W.moves given.now) t state.old.owner
+        course.old.begun followers.old }
     requires batch { (1 ≤ batch) × (batch ≤ 4096) }
     requires own { shower.old.dial ≡ plan.now.dial.now }
-    ensures ok { MatchResult result (λ _. (t : LastTurn) → IsAlone (run_for W.moves given.now) t state.old.owner course.old.ahead → HasGone (run_for W.moves given.now) t state.old.owner (next_turn (run_for W.moves given.now) batch t).made (next_turn (run_for W.moves given.now) batch t).ahead state.new.owner course.new.ahead) (λ _. (t : LastTurn) → IsAlone (run_for W.moves given.now) t state.old.owner course.old.ahead → HasGone (run_for W.moves given.now) t state.old.owner 0 0 state.new.owner course.new.ahead) }
-    ensures beside { OnOk result ((t : LastTurn) → IsAlone (run_for W.moves given.now) t state.old.owner course.old.ahead → IsBeside S.run S.standing S.after J.start (run_for W.moves given.now) (next_turn (run_for W.moves given.now) batch t) state.new.owner course.new.begun followers.new) }
+    ensures ok { MatchResult result (λ _.
+        (t : LastTurn) → IsAlone (run_for W.moves given.now) t state.old.owner course.old.ahead →
+        HasGone (run_for W.moves given.now) t state.old.owner
+        (next_turn (run_for W.moves given.now) batch t).made
+        (next_turn (run_for W.moves given.now) batch t).ahead state.new.owner course.new.ahead)
+        (λ _.
+        (t : LastTurn) →
+        IsAlone (run_for W.moves given.now) t state.old.owner course.old.ahead →
+        HasGone (run_for W.moves given.now) t state.old.owner 0 0 state.new.owner
+        course.new.ahead) }
+    ensures beside { OnOk result ((t : LastTurn) →
+        IsAlone (run_for W.moves given.now) t state.old.owner course.old.ahead →
+        IsBeside S.run S.standing S.after J.start (run_for W.moves given.now)
+        (next_turn (run_for W.moves given.now) batch t) state.new.owner course.new.begun
+        followers.new) }
     ensures none { OnErr result (course.new.ahead.moves ≡ 0) }
     ensures dial { shower.new.dial ≡ shower.old.dial }
-    ensures shown { OnOk result (shower.new.shown ≡ shower.old.shown ++ reading_at (run_for W.moves given.now) (standing_of state.new.owner.state) ∷ []) }
+    ensures shown { OnOk result
+        (shower.new.shown ≡
+        shower.old.shown ++
+        reading_at (run_for W.moves given.now) (standing_of state.new.owner.state) ∷ []) }
     ensures kept { OnErr result (shower.new.shown ≡ shower.old.shown) }
 {
     let before = state.owner.state.done;
@@ -115,8 +149,8 @@ fn one_turn<W: Words, G: Gate, S: Pursue, J: Naming + Boarding + Origin<S>, R: W
     Ok(())
 }
 
-/// Whether a turn of a whole batch comes next, where `rest` of `count` moves are to be made of a stage that had `left` moves: at its end
-/// fewer are a whole batch too.
+/// Whether another whole turn follows: `rest` of `count` moves are still to be made, in a stage that had `left` moves. It does if a batch
+/// is left, or if any move is left and `count` reaches the end of the stage, whose last turn may be shorter.
 fn goes_on(rest: u64, batch: u64, count: u64, left: u64) -> bool
     requires { 1 ≤ batch }
     ensures yes { result ≡ true → (0 < rest) × (rest < batch → count ≡ left) }
@@ -125,8 +159,8 @@ fn goes_on(rest: u64, batch: u64, count: u64, left: u64) -> bool
     rest >= batch || (rest > 0 && count == left)
 }
 
-/// Makes moves of the running stage by turns of whole batches. Returns how many of the plan's moves are left, fewer than a batch; none if the
-/// stage ends with them. If memory runs out, the turns that were made stay.
+/// Makes moves of the running stage by turns of whole batches. Returns how many of the plan's moves are left, fewer than a batch; none if
+/// the stage ends with them. If memory runs out, the turns that were made stay.
 fn whole_turns<W: Words, G: Gate, S: Pursue, J: Naming + Boarding + Origin<S>, R: Wait>(
     rt: &R,
     given: &Given<'_, W>,
@@ -136,20 +170,47 @@ fn whole_turns<W: Words, G: Gate, S: Pursue, J: Naming + Boarding + Origin<S>, R
     course: &mut Course,
     shower: &mut Shower,
 ) -> Result<u64, AllocError>
-    requires alone { (t : LastTurn) × IsAlone (run_for W.moves given.now) t state.old.owner course.old.ahead × IsBeside S.run S.standing S.after J.start (run_for W.moves given.now) t state.old.owner course.old.begun followers.old }
-    requires some { (plan.now.count ≤ moves_left (run_for W.moves given.now) (standing_of state.old.owner.state)) × (0 < moves_left (run_for W.moves given.now) (standing_of state.old.owner.state)) }
+    requires alone { (t : LastTurn) ×
+        IsAlone (run_for W.moves given.now) t state.old.owner course.old.ahead ×
+        IsBeside S.run S.standing S.after J.start (run_for W.moves given.now) t state.old.owner
+        course.old.begun followers.old }
+    requires some { (plan.now.count ≤
+        moves_left (run_for W.moves given.now) (standing_of state.old.owner.state)) ×
+        (0 < moves_left (run_for W.moves given.now) (standing_of state.old.owner.state)) }
     requires batch { (1 ≤ plan.now.batch) × (plan.now.batch ≤ 4096) }
     requires own { shower.old.dial ≡ plan.now.dial.now }
-    ensures left { (t : LastTurn) × IsAlone (run_for W.moves given.now) t state.new.owner course.new.ahead }
-    ensures beside { OnOk result ((t : LastTurn) × IsAlone (run_for W.moves given.now) t state.new.owner course.new.ahead × IsBeside S.run S.standing S.after J.start (run_for W.moves given.now) t state.new.owner course.new.begun followers.new) }
+    ensures left { (t : LastTurn) ×
+        IsAlone (run_for W.moves given.now) t state.new.owner course.new.ahead }
+    ensures beside { OnOk result ((t : LastTurn) ×
+        IsAlone (run_for W.moves given.now) t state.new.owner course.new.ahead ×
+        IsBeside S.run S.standing S.after J.start (run_for W.moves given.now) t state.new.owner
+        course.new.begun followers.new) }
     ensures none { OnErr result (course.new.ahead.moves ≡ 0) }
-    ensures rest { IfOk result (λ k. (k < plan.now.batch) × (k ≤ plan.now.count) × (plan.now.count ≡ moves_left (run_for W.moves given.now) (standing_of state.old.owner.state) → (k ≡ 0) × (course.new.ahead.moves ≡ 0))) }
-    ensures stands { IfOk result (λ k. standing_of state.new.owner.state ≡ from (run_for W.moves given.now) (standing_of state.old.owner.state) (plan.now.count - k)) }
-    ensures done { IfOk result (λ k. state.new.owner.state.done ≡ state.old.owner.state.done + (plan.now.count - k)) }
-    ensures gone { IfOk result (λ k. (t : LastTurn) → IsAlone (run_for W.moves given.now) t state.old.owner course.old.ahead → (n : ℕ) × HaveGone (run_for W.moves given.now) plan.now.batch t state.old.owner n (plan.now.count - k) state.new.owner course.new.ahead) }
-    ensures stopped { OnErr result ((t : LastTurn) → IsAlone (run_for W.moves given.now) t state.old.owner course.old.ahead → (n : ℕ) × (made : ℕ) × (made ≤ plan.now.count) × HaveStopped (run_for W.moves given.now) plan.now.batch t state.old.owner n made state.new.owner course.new.ahead) }
+    ensures rest { IfOk result (λ k.
+        (k < plan.now.batch) × (k ≤ plan.now.count) ×
+        (plan.now.count ≡
+        moves_left (run_for W.moves given.now) (standing_of state.old.owner.state) →
+        (k ≡ 0) × (course.new.ahead.moves ≡ 0))) }
+    ensures stands { IfOk result (λ k.
+        standing_of state.new.owner.state ≡
+        from (run_for W.moves given.now) (standing_of state.old.owner.state)
+        (plan.now.count - k)) }
+    ensures done { IfOk result (λ k.
+        state.new.owner.state.done ≡ state.old.owner.state.done + (plan.now.count - k)) }
+    ensures gone { IfOk result (λ k.
+        (t : LastTurn) → IsAlone (run_for W.moves given.now) t state.old.owner course.old.ahead →
+        (n : ℕ) ×
+        HaveGone (run_for W.moves given.now) plan.now.batch t state.old.owner n (plan.now.count - k)
+        state.new.owner course.new.ahead) }
+    ensures stopped { OnErr result ((t : LastTurn) →
+        IsAlone (run_for W.moves given.now) t state.old.owner course.old.ahead → (n : ℕ) ×
+        (made : ℕ) × (made ≤ plan.now.count) ×
+        HaveStopped (run_for W.moves given.now) plan.now.batch t state.old.owner n made
+        state.new.owner course.new.ahead) }
     ensures dial { shower.new.dial ≡ shower.old.dial }
-    ensures shown { LeadsTo (run_for W.moves given.now) plan.now.batch (standing_of state.old.owner.state) (standing_of state.new.owner.state) shower.old.shown shower.new.shown }
+    ensures shown { LeadsTo (run_for W.moves given.now) plan.now.batch
+        (standing_of state.old.owner.state) (standing_of state.new.owner.state) shower.old.shown
+        shower.new.shown }
 {
     let left = moves_left(&given.schedule, &state.owner.state);
     let mut rest = plan.count;
@@ -163,8 +224,8 @@ fn whole_turns<W: Words, G: Gate, S: Pursue, J: Naming + Boarding + Origin<S>, R
     Ok(rest)
 }
 
-/// Makes the plan's moves of the running stage by turns of one batch, of which the last may be shorter. Then nothing counts as judged ahead.
-/// If memory runs out, the turns that were made stay.
+/// Makes the plan's moves of the running stage by turns of one batch, of which the last may be shorter. Then nothing counts as judged
+/// ahead. If memory runs out, the turns that were made stay.
 fn make_count<W: Words, G: Gate, S: Pursue, J: Naming + Boarding + Origin<S>, R: Wait>(
     rt: &R,
     given: &Given<'_, W>,
@@ -174,11 +235,18 @@ fn make_count<W: Words, G: Gate, S: Pursue, J: Naming + Boarding + Origin<S>, R:
     course: &mut Course,
     shower: &mut Shower,
 ) -> Result<(), AllocError>
-    requires alone { (t : LastTurn) × IsAlone (run_for W.moves given.now) t state.old.owner course.old.ahead × IsBeside S.run S.standing S.after J.start (run_for W.moves given.now) t state.old.owner course.old.begun followers.old }
-    requires some { (plan.now.count ≤ moves_left (run_for W.moves given.now) (standing_of state.old.owner.state)) × (0 < moves_left (run_for W.moves given.now) (standing_of state.old.owner.state)) }
+    requires alone { (t : LastTurn) ×
+        IsAlone (run_for W.moves given.now) t state.old.owner course.old.ahead ×
+        IsBeside S.run S.standing S.after J.start (run_for W.moves given.now) t state.old.owner
+        course.old.begun followers.old }
+    requires some { (plan.now.count ≤
+        moves_left (run_for W.moves given.now) (standing_of state.old.owner.state)) ×
+        (0 < moves_left (run_for W.moves given.now) (standing_of state.old.owner.state)) }
     requires batch { (1 ≤ plan.now.batch) × (plan.now.batch ≤ 4096) }
     requires own { shower.old.dial ≡ plan.now.dial.now }
-    ensures made { AreMadeAlone (run_for W.moves given.now) plan.now.batch plan.now.count state.old.owner course.old.ahead state.new.owner course.new.ahead result shower.old.shown shower.new.shown }
+    ensures made { AreMadeAlone (run_for W.moves given.now) plan.now.batch plan.now.count
+        state.old.owner course.old.ahead state.new.owner course.new.ahead result shower.old.shown
+        shower.new.shown }
     ensures dial { shower.new.dial ≡ shower.old.dial }
 {
     let rest = whole_turns(rt, given, state, followers, plan, course, shower)?;
@@ -191,8 +259,8 @@ fn make_count<W: Words, G: Gate, S: Pursue, J: Naming + Boarding + Origin<S>, R:
     Ok(())
 }
 
-/// Makes the plan's moves of the running stage by turns, beside a crew that stands where the owner does, if there is one. If memory runs out,
-/// the turns that were made stay. In either case nothing is judged ahead then.
+/// Makes the plan's moves of the running stage by turns, beside a crew that stands where the owner does, if there is one. If memory runs
+/// out, the turns that were made stay. In either case nothing is judged ahead then.
 pub(crate) fn finish<W: Words, G: Gate, S: Pursue, J: Naming + Boarding + Origin<S>, R: Wait>(
     rt: &R,
     given: &Given<'_, W>,
@@ -202,12 +270,19 @@ pub(crate) fn finish<W: Words, G: Gate, S: Pursue, J: Naming + Boarding + Origin
     shower: &mut Shower,
 ) -> Result<(), AllocError>
     requires behind { HasTurn (run_for W.moves given.now) state.old }
-    requires beside { IfSome followers.old (λ f. IsTied S.run S.standing S.after J.start f.0 (run_for W.moves given.now) (standing_of state.old.owner.state)) }
-    requires some { (plan.now.count ≤ moves_left (run_for W.moves given.now) (standing_of state.old.owner.state)) × (0 < moves_left (run_for W.moves given.now) (standing_of state.old.owner.state)) }
+    requires beside { IfSome followers.old (λ f.
+        IsTied S.run S.standing S.after J.start f.0 (run_for W.moves given.now)
+        (standing_of state.old.owner.state)) }
+    requires some { (plan.now.count ≤
+        moves_left (run_for W.moves given.now) (standing_of state.old.owner.state)) ×
+        (0 < moves_left (run_for W.moves given.now) (standing_of state.old.owner.state)) }
     requires batch { (1 ≤ plan.now.batch) × (plan.now.batch ≤ 4096) }
     requires own { shower.old.dial ≡ plan.now.dial.now }
     ensures left { HasTurn (run_for W.moves given.now) state.new }
-    ensures made { (due : IsAhead) × IsUnjudged state.new due × AreMadeAlone (run_for W.moves given.now) plan.now.batch plan.now.count state.old.owner (record { base = state.old.base; moves = length state.old.ahead.items }) state.new.owner due result shower.old.shown shower.new.shown }
+    ensures made { (due : IsAhead) × IsUnjudged state.new due ×
+        AreMadeAlone (run_for W.moves given.now) plan.now.batch plan.now.count state.old.owner
+        (record { base = state.old.base; moves = length state.old.ahead.items }) state.new.owner
+        due result shower.old.shown shower.new.shown }
     ensures dial { shower.new.dial ≡ shower.old.dial }
 {
     let mut course = Course {
@@ -233,7 +308,10 @@ pub(crate) fn refuse<W: Words, G: Gate>(
 ) -> Result<(), AllocError>
     requires behind { HasTurn (run_for W.moves given.now) state.old }
     ensures left { HasTurn (run_for W.moves given.now) state.new }
-    ensures made { (due : IsAhead) × IsUnjudged state.new due × AreMadeAlone (run_for W.moves given.now) plan.now.batch plan.now.count state.old.owner (record { base = state.old.base; moves = length state.old.ahead.items }) state.new.owner due result _shower.now.shown _shower.now.shown }
+    ensures made { (due : IsAhead) × IsUnjudged state.new due ×
+        AreMadeAlone (run_for W.moves given.now) plan.now.batch plan.now.count state.old.owner
+        (record { base = state.old.base; moves = length state.old.ahead.items }) state.new.owner
+        due result _shower.now.shown _shower.now.shown }
 {
     let ahead = Ahead {
         base: state.base,
@@ -245,8 +323,8 @@ pub(crate) fn refuse<W: Words, G: Gate>(
     Err(AllocError)
 }
 
-/// Makes the plan's moves of the running stage, each judged by the owner, by turns. `S` and `J` are of the crew that there is not. If memory
-/// runs out, the turns that were made stay. In either case nothing is judged ahead then.
+/// Makes the plan's moves of the running stage, each judged by the owner, by turns. `S` and `J` are the types of a crew; none is made. If
+/// memory runs out, the turns that were made stay. In either case nothing is judged ahead then.
 pub(crate) fn finish_alone<W: Words, G: Gate, S: Pursue, J: Naming + Boarding + Origin<S>, R: Wait>(
     rt: &R,
     given: &Given<'_, W>,
@@ -255,11 +333,16 @@ pub(crate) fn finish_alone<W: Words, G: Gate, S: Pursue, J: Naming + Boarding + 
     shower: &mut Shower,
 ) -> Result<(), AllocError>
     requires behind { HasTurn (run_for W.moves given.now) state.old }
-    requires some { (plan.now.count ≤ moves_left (run_for W.moves given.now) (standing_of state.old.owner.state)) × (0 < moves_left (run_for W.moves given.now) (standing_of state.old.owner.state)) }
+    requires some { (plan.now.count ≤
+        moves_left (run_for W.moves given.now) (standing_of state.old.owner.state)) ×
+        (0 < moves_left (run_for W.moves given.now) (standing_of state.old.owner.state)) }
     requires batch { (1 ≤ plan.now.batch) × (plan.now.batch ≤ 4096) }
     requires own { shower.old.dial ≡ plan.now.dial.now }
     ensures left { HasTurn (run_for W.moves given.now) state.new }
-    ensures made { (due : IsAhead) × IsUnjudged state.new due × AreMadeAlone (run_for W.moves given.now) plan.now.batch plan.now.count state.old.owner (record { base = state.old.base; moves = length state.old.ahead.items }) state.new.owner due result shower.old.shown shower.new.shown }
+    ensures made { (due : IsAhead) × IsUnjudged state.new due ×
+        AreMadeAlone (run_for W.moves given.now) plan.now.batch plan.now.count state.old.owner
+        (record { base = state.old.base; moves = length state.old.ahead.items }) state.new.owner
+        due result shower.old.shown shower.new.shown }
     ensures dial { shower.new.dial ≡ shower.old.dial }
 {
     let mut nobody: Option<Followers<S, J>> = None;

@@ -1,22 +1,23 @@
 //! When each block, site and net was last touched.
 
-ghost use Rattle.std.specs.Prelude.{◌≡◌, ℕ, ◌<◌, ◌==◌, ◌∷◌, [], if◌then◌else◌, nat_lt, ◌&&◌, not, length, is_some, IfOk, Some, slice_index, true};
+ghost use Rattle.std.specs.Prelude.{◌≡◌, ℕ, ◌<◌, ◌≤◌, ◌==◌, ◌∷◌, [], if◌then◌else◌, nat_lt, ◌&&◌, not, length, is_some, IfOk, IfSome, Some, slice_index, true};
 ghost use Rattle.std.specs.List.{All, list_any};
-ghost use Rattle.fab_net.specs.declared.pieces.NetId.{NetId};
+ghost use Rattle.fab_net.specs.declared.netlist_types.NetId.{NetId};
 ghost use Rattle.fab_cost.specs.Runs.{few_of, is_large};
+ghost use Rattle.fab_cost.specs.Swapping.{IsMadeFor};
 ghost use Rattle.fab_site.specs.Index.{index_of};
 ghost use Rattle.fab_arch.specs.Grid.{GridShape};
 ghost use Rattle.fab_move.specs.declared.marks.Mark.{Mark as IsMark};
 ghost use Rattle.fab_move.specs.declared.proposals.Proposal.TheVariants.{Move as proposes};
 ghost use Rattle.fab_move.specs.declared.marks.Mark.TheVariants.{Place as place_mark};
 ghost use Rattle.fab_move.specs.Judge.{block_marks, footprint, has_mark, other_marks, touched};
-ghost use Rattle.fab_commit.specs.Run.Foreseen.{AreKept, nets_on};
-ghost use Rattle.fab_commit.specs.Run.StampTables.{IsTable, IsWithin, kept_stamp};
+ghost use Rattle.fab_commit.specs.Run.Foreseen.{AreKept};
+ghost use Rattle.fab_commit.specs.Run.StampTables.{IsQuiet, IsTable, IsWithin, kept_stamp, near_of};
 ghost use Rattle.fab_commit.specs.Model.Worlds.{IsBlock};
 
-use crate::run::swap_nets::SwapNets;
+use crate::run::kept_nets::LargeNets;
 use fab_arch::{Grid, Site};
-use fab_cost::has_many_terminals;
+use fab_cost::{EdgeBoxes, has_many_terminals, lift_one};
 use fab_move::{Mark, Proposal};
 use fab_net::{BlockId, Design, NetId};
 use fab_site::Swap;
@@ -28,6 +29,10 @@ pub(crate) struct Stamps {
     blocks: Vec<u64>,
     places: Vec<u64>,
     nets: Vec<u64>,
+    /// By block: the greater of this and the floor is at least each stamp of the block and of its nets of up to 16 terminals. So if neither
+    /// is above a base, none of these was touched since.
+    near: Vec<u64>,
+    floor: u64,
 }
 
 impl Drop for Stamps {
@@ -37,32 +42,49 @@ impl Drop for Stamps {
             blocks: _,
             places: _,
             nets: _,
+            near: _,
+            floor: _,
         } = self;
     }
 }
 
 impl Stamps {
     /// The stamps while nothing is touched yet.
+    #[tactic(auto, using(crate::proofs::RunLemmas::Near::near_at_first))]
     pub(crate) fn new(alloc: Global, design: &Design, grid: &Grid) -> Result<Stamps, AllocError>
         ensures table { IfOk result (λ s. IsTable design.now grid.now s) }
         ensures none { IfOk result (λ s. (m : IsMark) → kept_stamp grid.now s m ≡ 0) }
     {
         Ok(Stamps {
-            blocks: vec![in alloc; 0u64; design.blocks()]?,
-            places: vec![in alloc; 0u64; site_count(grid)]?,
-            nets: vec![in alloc; 0u64; design.nets()]?,
+            blocks: zeros(alloc, design.blocks())?,
+            places: zeros(alloc, site_count(grid))?,
+            nets: zeros(alloc, design.nets())?,
+            near: zeros(alloc, design.blocks())?,
+            floor: 0,
         })
     }
 
-    /// Stamps what an accepted swap touches.
-    pub(crate) fn touch(&mut self, design: &Design, grid: &Grid, swap: &Swap, stamp: u64)
+    /// Stamps what an accepted swap touches. `near` is the wire cost if a crew works: then the `near` numbers of the blocks round the swap
+    /// are raised. Without a crew the floor is.
+    pub(crate) fn touch(
+        &mut self,
+        design: &Design,
+        grid: &Grid,
+        swap: &Swap,
+        stamp: u64,
+        near: Option<&EdgeBoxes>,
+    )
         requires table { IsTable design.now grid.now self.old }
         requires within { IsWithin design.now grid.now swap.now }
+        requires near { IfSome near (λ b. IsMadeFor b.now design.now) }
         ensures table { IsTable design.now grid.now self.new }
-        ensures touched { (m : IsMark) → kept_stamp grid.now self.new m ≡ (if has_mark m (touched design.now swap.now) then stamp else kept_stamp grid.now self.old m) }
+        ensures touched { (m : IsMark) →
+            kept_stamp grid.now self.new m ≡
+            (if has_mark m (touched design.now swap.now) then stamp
+            else kept_stamp grid.now self.old m) }
     {
-        self.touch_other(design, grid, swap.other, stamp);
-        self.touch_block(design, grid, swap.block, stamp);
+        self.touch_other(design, grid, swap.other, stamp, near);
+        self.touch_block(design, grid, swap.block, stamp, near);
         self.touch_site(design, grid, swap.to, stamp);
         self.touch_site(design, grid, swap.from, stamp);
     }
@@ -72,7 +94,10 @@ impl Stamps {
         requires table { IsTable design.now grid.now self.old }
         requires there { is_some (index_of grid.now site) ≡ true }
         ensures table { IsTable design.now grid.now self.new }
-        ensures touched { (m : IsMark) → kept_stamp grid.now self.new m ≡ (if has_mark m (place_mark site ∷ []) then stamp else kept_stamp grid.now self.old m) }
+        ensures touched { (m : IsMark) →
+            kept_stamp grid.now self.new m ≡
+            (if has_mark m (place_mark site ∷ []) then stamp
+            else kept_stamp grid.now self.old m) }
     {
         if let Some(place) = index_of(grid, site) {
             self.places[place] = stamp;
@@ -80,26 +105,55 @@ impl Stamps {
     }
 
     /// Stamps the block that a swap displaces, if any, and its nets.
-    fn touch_other(&mut self, design: &Design, grid: &Grid, other: Option<BlockId>, stamp: u64)
+    fn touch_other(
+        &mut self,
+        design: &Design,
+        grid: &Grid,
+        other: Option<BlockId>,
+        stamp: u64,
+        near: Option<&EdgeBoxes>,
+    )
         requires table { IsTable design.now grid.now self.old }
         requires block { IsBlock design.now other }
+        requires near { IfSome near (λ b. IsMadeFor b.now design.now) }
         ensures table { IsTable design.now grid.now self.new }
-        ensures touched { (m : IsMark) → kept_stamp grid.now self.new m ≡ (if has_mark m (other_marks design.now other) then stamp else kept_stamp grid.now self.old m) }
+        ensures touched { (m : IsMark) →
+            kept_stamp grid.now self.new m ≡
+            (if has_mark m (other_marks design.now other) then stamp
+            else kept_stamp grid.now self.old m) }
     {
         if let Some(block) = other {
-            self.touch_block(design, grid, block, stamp);
+            self.touch_block(design, grid, block, stamp, near);
         }
     }
 
     /// Stamps a block and its nets.
-    fn touch_block(&mut self, design: &Design, grid: &Grid, block: BlockId, stamp: u64)
+    fn touch_block(
+        &mut self,
+        design: &Design,
+        grid: &Grid,
+        block: BlockId,
+        stamp: u64,
+        near: Option<&EdgeBoxes>,
+    )
         requires table { IsTable design.now grid.now self.old }
         requires block { block.0 < length design.now.kinds }
+        requires near { IfSome near (λ b. IsMadeFor b.now design.now) }
         ensures table { IsTable design.now grid.now self.new }
-        ensures touched { (m : IsMark) → kept_stamp grid.now self.new m ≡ (if has_mark m (block_marks design.now block) then stamp else kept_stamp grid.now self.old m) }
+        ensures touched { (m : IsMark) →
+            kept_stamp grid.now self.new m ≡
+            (if has_mark m (block_marks design.now block) then stamp
+            else kept_stamp grid.now self.old m) }
     {
+        let nets = design.nets_of(block);
         self.blocks[block.0 as usize] = stamp;
-        stamp_nets(&mut self.nets, design.nets_of(block), stamp);
+        stamp_nets(&mut self.nets, nets, stamp);
+        if let Some(cost) = near {
+            lift_one(&mut self.near, block.0 as usize, stamp);
+            cost.lift_near(design, &mut self.near, block, stamp);
+        } else if self.floor < stamp {
+            self.floor = stamp;
+        }
     }
 
     /// Whether one of the marks was touched by move `base` or a later one.
@@ -109,20 +163,24 @@ impl Stamps {
         marks.iter().any(|mark| base < self.of(grid, *mark))
     }
 
+    /// Whether what a proposal rests on was touched by move `base` or a later one. The nets of a proposed swap that have many terminals may
+    /// be kept beside it.
     #[inline(always)]
-    /// Whether what a proposal rests on was touched by move `base` or a later one. The nets of a proposed swap may be kept beside it.
     pub(crate) fn is_touched(
         &self,
         design: &Design,
         grid: &Grid,
         base: u64,
         proposal: Proposal,
-        nets: &SwapNets,
+        nets: &LargeNets,
     ) -> bool
+        requires table { IsTable design.now grid.now self.now }
         requires block { (s : Swap) → proposal ≡ proposes s → s.block.0 < length design.now.kinds }
-        requires other { (s : Swap) (b : BlockId) → proposal ≡ proposes s → s.other ≡ Some b → b.0 < length design.now.kinds }
+        requires other { (s : Swap) (b : BlockId) → proposal ≡ proposes s → s.other ≡ Some b →
+            b.0 < length design.now.kinds }
         requires nets { (s : Swap) → proposal ≡ proposes s → AreKept design.now s nets.now }
-        ensures { result ≡ list_any (λ m. nat_lt base (kept_stamp grid.now self.now m)) (footprint design.now proposal) }
+        ensures { result ≡ list_any (λ m.
+            nat_lt base (kept_stamp grid.now self.now m)) (footprint design.now proposal) }
     {
         match proposal {
             Proposal::Nothing => false,
@@ -130,97 +188,112 @@ impl Stamps {
                 base < self.of_site(grid, target) || base < stamp_at(&self.blocks, block.0 as usize)
             }
             Proposal::Move(swap) => {
-                base < self.of_site(grid, swap.to)
-                    || (self.is_block_touched(design, base, swap.block, nets.own(design, swap))
-                        || self.is_other_touched(
-                            design,
-                            base,
-                            swap.other,
-                            nets.other(design, swap),
-                        ))
+                if nets.is_kept && self.is_quiet(grid, base, swap) {
+                    is_net_touched(&self.nets, base, nets.list())
+                } else {
+                    self.is_swap_touched(design, grid, base, swap)
+                }
             }
         }
     }
 
-    /// Whether what a proposed swap rests on was touched by move `base` or a later one, where nets of many terminals do not count: its target,
-    /// its blocks, and their nets with few terminals.
+    /// Whether what a proposed swap rests on was touched by move `base` or a later one.
+    #[inline(always)]
+    fn is_swap_touched(&self, design: &Design, grid: &Grid, base: u64, swap: Swap) -> bool
+        requires block { swap.block.0 < length design.now.kinds }
+        requires other { (b : BlockId) → swap.other ≡ Some b → b.0 < length design.now.kinds }
+        ensures { result ≡ list_any (λ m.
+            nat_lt base (kept_stamp grid.now self.now m)) (footprint design.now (proposes swap)) }
+    {
+        base < self.of_site(grid, swap.to)
+            || (self.is_block_touched(design, base, swap.block)
+                || self.is_other_touched(design, base, swap.other))
+    }
+
+    /// Whether it is plain that the target of a proposed swap, its blocks, and their nets with few terminals were not touched by move
+    /// `base` or a later one.
+    #[inline(always)]
+    fn is_quiet(&self, grid: &Grid, base: u64, swap: Swap) -> bool
+        ensures { result ≡ true → IsQuiet grid.now self.now base swap }
+    {
+        self.floor <= base
+            && self.of_site(grid, swap.to) <= base
+            && near_at(&self.near, swap.block) <= base
+            && near_other(&self.near, swap.other) <= base
+    }
+
+    /// Whether what a proposed swap rests on was touched by move `base` or a later one, where nets of many terminals do not count: its
+    /// target, its blocks, and their nets with few terminals.
     pub(crate) fn is_swap_touched_in_few(
         &self,
         design: &Design,
         grid: &Grid,
         base: u64,
         swap: Swap,
-        nets: &SwapNets,
     ) -> bool
+        requires table { IsTable design.now grid.now self.now }
         requires block { swap.block.0 < length design.now.kinds }
         requires other { (b : BlockId) → swap.other ≡ Some b → b.0 < length design.now.kinds }
-        requires nets { AreKept design.now swap nets.now }
-        ensures { result ≡ list_any (λ m. nat_lt base (kept_stamp grid.now self.now m)) (footprint (few_of design.now) (proposes swap)) }
+        ensures { result ≡ list_any (λ m.
+            nat_lt base (kept_stamp grid.now self.now m))
+            (footprint (few_of design.now) (proposes swap)) }
     {
+        if self.is_quiet(grid, base, swap) {
+            return false;
+        }
         let place = self.of_site(grid, swap.to);
         base < place
-            || (self.is_block_touched_in_few(design, base, swap.block, nets.own(design, swap))
-                || self.is_other_touched_in_few(design, base, swap.other, nets.other(design, swap)))
+            || (self.is_block_touched_in_few(design, base, swap.block)
+                || self.is_other_touched_in_few(design, base, swap.other))
     }
 
     /// Whether a block or one of its nets with few terminals was touched by move `base` or a later one.
-    fn is_block_touched_in_few(
-        &self,
-        design: &Design,
-        base: u64,
-        block: BlockId,
-        nets: &[NetId],
-    ) -> bool
+    fn is_block_touched_in_few(&self, design: &Design, base: u64, block: BlockId) -> bool
         requires block { block.0 < length design.now.kinds }
-        requires nets { nets.now ≡ nets_on design.now (Some block) }
-        ensures { (g : GridShape) → result ≡ list_any (λ m. nat_lt base (kept_stamp g self.now m)) (block_marks (few_of design.now) block) }
+        ensures { (g : GridShape) →
+            result ≡ list_any (λ m.
+            nat_lt base (kept_stamp g self.now m)) (block_marks (few_of design.now) block) }
     {
         let own = stamp_at(&self.blocks, block.0 as usize);
-        base < own || is_net_of_few_touched(&self.nets, design, base, nets)
+        base < own || is_net_of_few_touched(&self.nets, design, base, design.nets_of(block))
     }
 
     /// The same of the block that a swap displaces, if any.
-    fn is_other_touched_in_few(
-        &self,
-        design: &Design,
-        base: u64,
-        other: Option<BlockId>,
-        nets: &[NetId],
-    ) -> bool
+    fn is_other_touched_in_few(&self, design: &Design, base: u64, other: Option<BlockId>) -> bool
         requires other { (b : BlockId) → other ≡ Some b → b.0 < length design.now.kinds }
-        requires nets { nets.now ≡ nets_on design.now other }
-        ensures { (g : GridShape) → result ≡ list_any (λ m. nat_lt base (kept_stamp g self.now m)) (other_marks (few_of design.now) other) }
+        ensures { (g : GridShape) →
+            result ≡ list_any (λ m.
+            nat_lt base (kept_stamp g self.now m)) (other_marks (few_of design.now) other) }
     {
         match other {
             None => false,
-            Some(block) => self.is_block_touched_in_few(design, base, block, nets),
+            Some(block) => self.is_block_touched_in_few(design, base, block),
         }
     }
 
+    /// Whether a block or one of its nets was touched by move `base` or a later one.
     #[inline(always)]
-    /// Whether a block or one of its nets, which are given, was touched by move `base` or a later one.
-    fn is_block_touched(&self, _design: &Design, base: u64, block: BlockId, nets: &[NetId]) -> bool
-        requires { nets.now ≡ nets_on _design.now (Some block) }
-        ensures { (g : GridShape) → result ≡ list_any (λ m. nat_lt base (kept_stamp g self.now m)) (block_marks _design.now block) }
+    fn is_block_touched(&self, design: &Design, base: u64, block: BlockId) -> bool
+        requires { block.0 < length design.now.kinds }
+        ensures { (g : GridShape) →
+            result ≡ list_any (λ m.
+            nat_lt base (kept_stamp g self.now m)) (block_marks design.now block) }
     {
-        base < stamp_at(&self.blocks, block.0 as usize) || is_net_touched(&self.nets, base, nets)
+        base < stamp_at(&self.blocks, block.0 as usize)
+            || is_net_touched(&self.nets, base, design.nets_of(block))
     }
 
-    #[inline(always)]
     /// The same of the block that a swap displaces, if any.
-    fn is_other_touched(
-        &self,
-        design: &Design,
-        base: u64,
-        other: Option<BlockId>,
-        nets: &[NetId],
-    ) -> bool
-        requires { nets.now ≡ nets_on design.now other }
-        ensures { (g : GridShape) → result ≡ list_any (λ m. nat_lt base (kept_stamp g self.now m)) (other_marks design.now other) }
+    #[inline(always)]
+    fn is_other_touched(&self, design: &Design, base: u64, other: Option<BlockId>) -> bool
+        requires { (b : BlockId) → other ≡ Some b → b.0 < length design.now.kinds }
+        ensures { (g : GridShape) →
+            result ≡ list_any (λ m.
+            nat_lt base (kept_stamp g self.now m)) (other_marks design.now other) }
     {
         match other {
             None => false,
-            Some(block) => self.is_block_touched(design, base, block, nets),
+            Some(block) => self.is_block_touched(design, base, block),
         }
     }
 
@@ -240,13 +313,18 @@ impl Stamps {
     {
         match mark {
             Mark::Block(block) => stamp_at(&self.blocks, block.0 as usize),
-            Mark::Place(site) => match index_of(grid, site) {
-                Some(place) => stamp_at(&self.places, place),
-                None => 0,
-            },
+            Mark::Place(site) => self.of_site(grid, site),
             Mark::Net(net) => stamp_at(&self.nets, net.0 as usize),
         }
     }
+}
+
+/// So many numbers, all 0. An error means that memory ran out.
+fn zeros(alloc: Global, count: usize) -> Result<Vec<u64>, AllocError>
+    ensures long { IfOk result (λ v. length v.items ≡ count) }
+    ensures each { IfOk result (λ v. (k : ℕ) → slice_index v.items k ≡ 0) }
+{
+    vec![in alloc; 0u64; count]
 }
 
 /// The stamp at an index; 0 beyond the end.
@@ -270,7 +348,8 @@ fn is_net_touched(stamps: &[u64], base: u64, nets: &[NetId]) -> bool
 /// Whether one of the nets with few terminals was touched by move `base` or a later one.
 fn is_net_of_few_touched(stamps: &[u64], design: &Design, base: u64, nets: &[NetId]) -> bool
     requires { All (λ (n : NetId). n.0 < length design.now.terminals) nets.now }
-    ensures { result ≡ list_any (λ (n : NetId). nat_lt base (slice_index stamps.now n.0) && not (is_large design.now n.0)) nets.now }
+    ensures { result ≡ list_any (λ (n : NetId).
+        nat_lt base (slice_index stamps.now n.0) && not (is_large design.now n.0)) nets.now }
 {
     'nets: for i in 0..nets.len() {
         let net = nets[i];
@@ -285,9 +364,29 @@ fn is_net_of_few_touched(stamps: &[u64], design: &Design, base: u64, nets: &[Net
 fn stamp_nets(stamps: &mut Vec<u64>, nets: &[NetId], stamp: u64)
     requires { All (λ (n : NetId). n.0 < length stamps.old.items) nets.now }
     ensures length { length stamps.new.items ≡ length stamps.old.items }
-    ensures each { (k : ℕ) → slice_index stamps.new.items k ≡ (if list_any (λ (n : NetId). k == n.0) nets.now then stamp else slice_index stamps.old.items k) }
+    ensures each { (k : ℕ) →
+        slice_index stamps.new.items k ≡
+        (if list_any (λ (n : NetId). k == n.0) nets.now then stamp
+        else slice_index stamps.old.items k) }
 {
     for net in nets {
         stamps[net.0 as usize] = stamp;
+    }
+}
+
+/// The number of a block; 0 beyond the end.
+fn near_at(near: &[u64], block: BlockId) -> u64
+    ensures { result ≡ slice_index near.now block.0 }
+{
+    stamp_at(near, block.0 as usize)
+}
+
+/// The same of the block that a swap displaces; 0 if it displaces none.
+fn near_other(near: &[u64], other: Option<BlockId>) -> u64
+    ensures { result ≡ near_of near.now other }
+{
+    match other {
+        None => 0,
+        Some(block) => stamp_at(near, block.0 as usize),
     }
 }

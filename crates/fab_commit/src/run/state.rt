@@ -116,17 +116,25 @@ fn advance(schedule: &Schedule, side: u16, stage: &mut Stage, accepted: bool) ->
             false
         }
         None => {
-            *stage = behind_the_last(schedule, side, &made);
+            *stage = stage_after_frozen(schedule, side, &made);
             true
         }
     }
 }
 
 /// The empty stage after the frozen one.
-fn behind_the_last(schedule: &Schedule, side: u16, frozen: &Stage) -> Stage
+fn stage_after_frozen(schedule: &Schedule, side: u16, frozen: &Stage) -> Stage
     requires side { (1 ≤ side) × (side ≤ 1000) }
     requires stage { IsStage schedule.now side frozen.now }
-    ensures { result ≡ record { index = frozen.now.index + 1; t = 0; range = next_range schedule.now side frozen.now.range frozen.now.accepted; done = 0; accepted = 0; frozen = true } }
+    ensures { result ≡
+        record {
+          index = frozen.now.index + 1;
+          t = 0;
+          range = next_range schedule.now side frozen.now.range frozen.now.accepted;
+          done = 0;
+          accepted = 0;
+          frozen = true;
+        } }
 {
     let _moves = schedule.moves();
     Stage {
@@ -143,7 +151,8 @@ fn behind_the_last(schedule: &Schedule, side: u16, frozen: &Stage) -> Stage
 fn count(accepted: &mut Option<Vec<u64>>, total: &mut u64, number: u64, took: bool)
     requires room { HasRoomFor accepted.old 1 }
     requires few { total.old < 2 ^ 61 }
-    ensures accepted { noted accepted.new ≡ noted_more (noted accepted.old) (numbers_if number took) }
+    ensures accepted { noted accepted.new ≡
+        noted_more (noted accepted.old) (numbers_if number took) }
     ensures total { total.new ≡ total.old + one_if took }
     ensures room { (n : ℕ) → HasRoomFor accepted.old (n + 1) → HasRoomFor accepted.new n }
 {
@@ -158,11 +167,20 @@ pub(crate) fn commit<W: Words>(given: &Given<'_, W>, state: &mut State, decision
     requires sound { IsSound (run_for W.moves given.now) state.old }
     requires going { state.old.ended ≡ false }
     requires room { HasRoomFor state.old.accepted 1 }
-    requires lawful { (s : Swap) → decision.now.swap ≡ Some s → IsSwapOf given.now.grid.now state.old.placement.sites s }
-    requires decides { IsDecision decision.now (judged_here (run_for W.moves given.now) (standing_of state.old) state.old.done) }
-    ensures stands { standing_of state.new ≡ after_move (run_for W.moves given.now) (standing_of state.old) (judged_here (run_for W.moves given.now) (standing_of state.old) state.old.done) }
-    ensures accepted { noted state.new.accepted ≡ noted_more (noted state.old.accepted) (numbers_if state.old.done (judged_here (run_for W.moves given.now) (standing_of state.old) state.old.done).accepted) }
-    ensures room { (n : ℕ) → HasRoomFor state.old.accepted (n + 1) → HasRoomFor state.new.accepted n }
+    requires lawful { (s : Swap) → decision.now.swap ≡ Some s →
+        IsSwapOf given.now.grid.now state.old.placement.sites s }
+    requires decides { IsDecision decision.now
+        (judged_here (run_for W.moves given.now) (standing_of state.old) state.old.done) }
+    ensures stands { standing_of state.new ≡
+        after_move (run_for W.moves given.now) (standing_of state.old)
+        (judged_here (run_for W.moves given.now) (standing_of state.old) state.old.done) }
+    ensures accepted { noted state.new.accepted ≡
+        noted_more (noted state.old.accepted)
+        (numbers_if state.old.done
+        (judged_here (run_for W.moves given.now) (standing_of state.old)
+        state.old.done).accepted) }
+    ensures room { (n : ℕ) → HasRoomFor state.old.accepted (n + 1) →
+        HasRoomFor state.new.accepted n }
     ensures sound { IsSound (run_for W.moves given.now) state.new }
 {
     let side = side_of(given.grid);
@@ -236,8 +254,10 @@ pub(crate) fn judge_on<W: Words>(
     requires sound { IsSound (run_for W.moves given.now) state.now }
     requires going { state.now.ended ≡ false }
     ensures number { IfOk result (λ v. v.k ≡ number) }
-    ensures lawful { IfOk result (λ v. (s : Swap) → v.swap ≡ Some s → IsSwapOf given.now.grid.now state.now.placement.sites s) }
-    ensures says { IfOk result (λ v. says v ≡ judged_here (run_for W.moves given.now) (standing_of state.now) number) }
+    ensures lawful { IfOk result (λ v.
+        (s : Swap) → v.swap ≡ Some s → IsSwapOf given.now.grid.now state.now.placement.sites s) }
+    ensures says { IfOk result (λ v.
+        says v ≡ judged_here (run_for W.moves given.now) (standing_of state.now) number) }
 {
     judge(given.alloc, &view_of(given, state), number)
 }
@@ -246,14 +266,16 @@ pub(crate) fn judge_on<W: Words>(
 pub(crate) fn decide_on<W: Words>(given: &Given<'_, W>, state: &State, number: u64) -> Decision
     requires sound { IsSound (run_for W.moves given.now) state.now }
     requires going { state.now.ended ≡ false }
-    ensures lawful { (s : Swap) → result.swap ≡ Some s → IsSwapOf given.now.grid.now state.now.placement.sites s }
-    ensures decides { IsDecision result (judged_here (run_for W.moves given.now) (standing_of state.now) number) }
+    ensures lawful { (s : Swap) → result.swap ≡ Some s →
+        IsSwapOf given.now.grid.now state.now.placement.sites s }
+    ensures decides { IsDecision result
+        (judged_here (run_for W.moves given.now) (standing_of state.now) number) }
 {
     decide(&view_of(given, state), number)
 }
 
-#[inline(always)]
 /// The same, by the move's words.
+#[inline(always)]
 pub(crate) fn decide_by<W: Words>(
     given: &Given<'_, W>,
     state: &State,
@@ -263,8 +285,10 @@ pub(crate) fn decide_by<W: Words>(
     requires sound { IsSound (run_for W.moves given.now) state.now }
     requires going { state.now.ended ≡ false }
     requires words { words ≡ W.moves given.now.words number }
-    ensures lawful { (s : Swap) → result.swap ≡ Some s → IsSwapOf given.now.grid.now state.now.placement.sites s }
-    ensures decides { IsDecision result (judged_here (run_for W.moves given.now) (standing_of state.now) number) }
+    ensures lawful { (s : Swap) → result.swap ≡ Some s →
+        IsSwapOf given.now.grid.now state.now.placement.sites s }
+    ensures decides { IsDecision result
+        (judged_here (run_for W.moves given.now) (standing_of state.now) number) }
 {
     let _number = number;
     let view = view_of(given, state);
@@ -291,8 +315,10 @@ pub(crate) fn running<W: Words>(given: &Given<'_, W>, state: &State) -> Option<S
 /// How many moves the running stage still has.
 pub(crate) fn moves_left(schedule: &Schedule, state: &State) -> u64
     requires inside { state.now.ended ≡ false → state.now.stage.done < schedule.now.moves }
-    requires place { state.now.done ≡ state.now.stage.index * schedule.now.moves + state.now.stage.done }
-    ensures { result ≡ left_at schedule.now.moves state.now.done (heat_of state.now.ended state.now.stage.t) }
+    requires place { state.now.done ≡
+        state.now.stage.index * schedule.now.moves + state.now.stage.done }
+    ensures { result ≡
+        left_at schedule.now.moves state.now.done (heat_of state.now.ended state.now.stage.t) }
 {
     if state.ended {
         0
@@ -308,12 +334,16 @@ pub(crate) fn state_at<W: Words>(
     stage: Stage,
     total: u64,
 ) -> Result<State, AllocError>
-    requires legal { IsLegal given.now.design.now given.now.grid.now given.now.fixed placement.sites }
-    requires stage { IsStage given.now.schedule (max given.now.grid.now.nx given.now.grid.now.ny) stage }
+    requires legal { IsLegal given.now.design.now given.now.grid.now given.now.fixed
+        placement.sites }
+    requires stage { IsStage given.now.schedule (max given.now.grid.now.nx given.now.grid.now.ny)
+        stage }
     requires left { stage.done < given.now.schedule.moves }
-    requires counted { (stage.accepted ≤ total) × (total ≤ stage.index * given.now.schedule.moves + stage.done) }
+    requires counted { (stage.accepted ≤ total) ×
+        (total ≤ stage.index * given.now.schedule.moves + stage.done) }
     ensures sound { IfOk result (IsSound (run_for W.moves given.now)) }
-    ensures stands { IfOk result (λ s. standing_of s ≡ standing_in given.now.schedule stage placement.sites total) }
+    ensures stands { IfOk result (λ s.
+        standing_of s ≡ standing_in given.now.schedule stage placement.sites total) }
     ensures accepted { IfOk result (λ s. noted s.accepted ≡ Some []) }
 {
     let moves = given.schedule.moves();
@@ -335,9 +365,11 @@ pub(crate) fn first_state<W: Words>(
     given: &Given<'_, W>,
     placement: Placement,
 ) -> Result<State, AllocError>
-    requires legal { IsLegal given.now.design.now given.now.grid.now given.now.fixed placement.sites }
+    requires legal { IsLegal given.now.design.now given.now.grid.now given.now.fixed
+        placement.sites }
     ensures sound { IfOk result (IsSound (run_for W.moves given.now)) }
-    ensures stands { IfOk result (λ s. standing_of s ≡ at_start (run_for W.moves given.now) placement.sites) }
+    ensures stands { IfOk result (λ s.
+        standing_of s ≡ at_start (run_for W.moves given.now) placement.sites) }
     ensures accepted { IfOk result (λ s. noted s.accepted ≡ Some []) }
 {
     let _moves = given.schedule.moves();

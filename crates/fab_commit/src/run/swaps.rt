@@ -17,8 +17,10 @@ pub(crate) struct Accepted {
 /// Enters the swap of the next move, if it is accepted.
 pub(crate) fn enter(accepted: &mut Vec<Accepted>, number: u64, decision: &Decision)
     requires room { vec_len accepted.old < vec_capacity accepted.old }
-    ensures items { (j : Judged) → IsDecision decision.now j → accepted.new.items ≡ accepted.old.items ++ accepted_now number j }
-    ensures room { (vec_len accepted.new ≤ vec_len accepted.old + 1) × (vec_capacity accepted.new ≡ vec_capacity accepted.old) }
+    ensures items { (j : Judged) → IsDecision decision.now j →
+        accepted.new.items ≡ accepted.old.items ++ accepted_now number j }
+    ensures room { (vec_len accepted.new ≤ vec_len accepted.old + 1) ×
+        (vec_capacity accepted.new ≡ vec_capacity accepted.old) }
 {
     if decision.accepted {
         if let Some(swap) = decision.swap {

@@ -1,4 +1,4 @@
-//! What a turn returns.
+//! What a single turn returns. A run of the program makes no single turns.
 
 /// Whether moves are left.
 #[derive(Clone, Copy, Debug, PartialEq, Eq)]

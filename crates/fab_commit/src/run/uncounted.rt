@@ -1,5 +1,4 @@
-//! Moves that the owner makes alone where nobody asks how many of them turns of the batch would judge again. So nothing is stamped, and what
-//! a move rests on is not looked at.
+//! Moves that the owner makes alone when moves judged again are not counted: no stamp is read or written.
 
 ghost use Rattle.std.specs.Prelude.{◌≡◌, ℕ, ◌+◌, ◌<◌, ◌≤◌, ◌++◌, [], ◌∷◌, length, OnOk, OnErr};
 ghost use Rattle.fab_sched.specs.Annealing.{IsLawful};
@@ -22,8 +21,8 @@ use fab_site::Words;
 use std::alloc::AllocError;
 use std::sync::Wait;
 
-/// Makes the moves that have these words. The gate has had the call before the first judgement; if it does nothing, that call stands for all.
-/// Allocates nothing.
+/// Makes the moves that have these words. The caller has called `before_judge` for the first. There are others only if the gate does
+/// nothing, and they get no call. Allocates nothing.
 fn commit_uncounted<W: Words, G: Gate>(
     given: &Given<'_, W>,
     state: &mut State,
@@ -34,9 +33,11 @@ fn commit_uncounted<W: Words, G: Gate>(
     requires sound { IsSound (run_for W.moves given.now) state.old }
     requires room { HasRoomFor state.old.accepted (length words.now) }
     requires words { AreWords (W.moves given.now.words) state.old.done words.now }
-    requires left { length words.now ≤ moves_left (run_for W.moves given.now) (standing_of state.old) }
+    requires left { length words.now ≤
+        moves_left (run_for W.moves given.now) (standing_of state.old) }
     ensures further { IsFurther (run_for W.moves given.now) state.old (length words.now) state.new }
-    ensures room { (n : ℕ) → HasRoomFor state.old.accepted (length words.now + n) → HasRoomFor state.new.accepted n }
+    ensures room { (n : ℕ) → HasRoomFor state.old.accepted (length words.now + n) →
+        HasRoomFor state.new.accepted n }
 {
     'moves: for i in 0..words.len() {
         let number = state.done;
@@ -90,7 +91,10 @@ fn turn_uncounted<W: Words, G: Gate, R: Wait>(
     ensures made { OnOk result (IsFurther (run_for W.moves given.now) state.old moves state.new) }
     ensures same { OnErr result (IsFurther (run_for W.moves given.now) state.old 0 state.new) }
     ensures dial { shower.new.dial ≡ shower.old.dial }
-    ensures shown { OnOk result (shower.new.shown ≡ shower.old.shown ++ reading_at (run_for W.moves given.now) (standing_of state.new) ∷ []) }
+    ensures shown { OnOk result
+        (shower.new.shown ≡
+        shower.old.shown ++ reading_at (run_for W.moves given.now) (standing_of state.new) ∷
+        []) }
     ensures kept { OnErr result (shower.new.shown ≡ shower.old.shown) }
 {
     reserve_numbers(&mut state.accepted, moves as usize)?;
@@ -99,7 +103,8 @@ fn turn_uncounted<W: Words, G: Gate, R: Wait>(
     Ok(())
 }
 
-/// Makes the plan's moves of the running stage by turns, of which the last may be shorter. If memory runs out, the turns that were made stay.
+/// Makes the plan's moves of the running stage by turns, of which the last may be shorter. If memory runs out, the turns that were made
+/// stay.
 fn turns_uncounted<W: Words, G: Gate, R: Wait>(
     rt: &R,
     given: &Given<'_, W>,
@@ -109,10 +114,13 @@ fn turns_uncounted<W: Words, G: Gate, R: Wait>(
 ) -> Result<(), AllocError>
     requires plan { IsLawful given.now.schedule }
     requires sound { IsSound (run_for W.moves given.now) state.old }
-    requires some { (plan.now.count ≤ moves_left (run_for W.moves given.now) (standing_of state.old)) × (0 < moves_left (run_for W.moves given.now) (standing_of state.old)) }
+    requires some { (plan.now.count ≤
+        moves_left (run_for W.moves given.now) (standing_of state.old)) ×
+        (0 < moves_left (run_for W.moves given.now) (standing_of state.old)) }
     requires batch { (1 ≤ plan.now.batch) × (plan.now.batch ≤ 4096) }
     requires own { shower.old.dial ≡ plan.now.dial.now }
-    ensures made { AreMadeUncounted (run_for W.moves given.now) plan.now.batch plan.now.count state.old state.new result shower.old.shown shower.new.shown }
+    ensures made { AreMadeUncounted (run_for W.moves given.now) plan.now.batch plan.now.count
+        state.old state.new result shower.old.shown shower.new.shown }
     ensures dial { shower.new.dial ≡ shower.old.dial }
 {
     let mut words = [[0u32; 4]; AT_ONCE];
@@ -125,8 +133,8 @@ fn turns_uncounted<W: Words, G: Gate, R: Wait>(
     Ok(())
 }
 
-/// Makes the plan's moves of the running stage, each judged by the owner, by turns, of which the last may be shorter. If memory runs out, the
-/// turns that were made stay. In either case nothing is judged ahead then, and the count of moves judged again stays the same.
+/// Makes the plan's moves of the running stage, each judged by the owner, by turns, of which the last may be shorter. If memory runs out,
+/// the turns that were made stay. In either case nothing is judged ahead then, and the count of moves judged again stays the same.
 pub(crate) fn finish_uncounted<W: Words, G: Gate, R: Wait>(
     rt: &R,
     given: &Given<'_, W>,
@@ -135,11 +143,14 @@ pub(crate) fn finish_uncounted<W: Words, G: Gate, R: Wait>(
     shower: &mut Shower,
 ) -> Result<(), AllocError>
     requires behind { HasTurn (run_for W.moves given.now) state.old }
-    requires some { (plan.now.count ≤ moves_left (run_for W.moves given.now) (standing_of state.old.owner.state)) × (0 < moves_left (run_for W.moves given.now) (standing_of state.old.owner.state)) }
+    requires some { (plan.now.count ≤
+        moves_left (run_for W.moves given.now) (standing_of state.old.owner.state)) ×
+        (0 < moves_left (run_for W.moves given.now) (standing_of state.old.owner.state)) }
     requires batch { (1 ≤ plan.now.batch) × (plan.now.batch ≤ 4096) }
     requires own { shower.old.dial ≡ plan.now.dial.now }
     ensures left { HasTurn (run_for W.moves given.now) state.new }
-    ensures made { AreMadeUncounted (run_for W.moves given.now) plan.now.batch plan.now.count state.old.owner.state state.new.owner.state result shower.old.shown shower.new.shown }
+    ensures made { AreMadeUncounted (run_for W.moves given.now) plan.now.batch plan.now.count
+        state.old.owner.state state.new.owner.state result shower.old.shown shower.new.shown }
     ensures idle { IsIdle state.old state.new }
     ensures dial { shower.new.dial ≡ shower.old.dial }
 {

@@ -9,8 +9,8 @@ use Rattle.fab_cost.proofs.Large.{change_large, kept_is, row_counts, row_net}
 use Rattle.fab_cost.proofs.Most.{most_on}
 use Rattle.fab_cost.proofs.large_nets.change_of_kept.Goals as goal
 
-pub change_of_many-requires-clause-old : goal.change_of_many-requires-clause-old
-change_of_many-requires-clause-old c =
+pub change_of_large_net-requires-clause-old : goal.change_of_large_net-requires-clause-old
+change_of_large_net-requires-clause-old c =
     let d = c.args.design.now in
     let g = c.args.grid.now in
     let sites = c.args.placement.now.sites in
@@ -38,5 +38,5 @@ returns-else-holds c =
     let g = c.args.grid.now in
     let sites = c.args.placement.now.sites in
     let b = c.args.block.0 in
-    change_large d g sites (swapped sites c.args.swap.now) c.args.but _ (get_or (nets_of (large_of d) b) c.args.k 0) c.change_of_many.result.gained c.change_of_many.result.lost (row_net d b c.args.row.now c.args.k _ 0 c.requires.large c.requires.within refl)
-    c.change_of_many.ensures
+    change_large d g sites (swapped sites c.args.swap.now) c.args.but _ (get_or (nets_of (large_of d) b) c.args.k 0) c.change_of_large_net.result.gained c.change_of_large_net.result.lost (row_net d b c.args.row.now c.args.k _ 0 c.requires.large c.requires.within refl)
+    c.change_of_large_net.ensures

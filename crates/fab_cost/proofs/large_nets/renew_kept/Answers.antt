@@ -7,7 +7,7 @@ use Rattle.fab_cost.specs.Swapping.{blocks_of, cost_unless, times_other}
 use Rattle.fab_cost.proofs.Large.{box_large, row_counts, row_long, row_net, row_within, unless_large}
 use Rattle.fab_cost.proofs.Nets.{unless_on, unless_off}
 use Rattle.fab_cost.proofs.Renewals.{old_here, next_on, next_off}
-use Rattle.fab_cost.proofs.Shares.{partner_below}
+use Rattle.fab_cost.proofs.PinCounts.{partner_below}
 use Rattle.fab_cost.proofs.large_nets.renew_kept.Goals as goal
 
 pub net_of-net-requires-clause-within : goal.net_of-net-requires-clause-within

@@ -1,5 +1,5 @@
 use Rattle.std.proofs.Common.{ℕ, ◌<◌, length, get_or, ap, arith, length-set, ◌∙◌}
-use Rattle.fab_net.specs.declared.pieces.NetId.{NetId}
+use Rattle.fab_net.specs.declared.netlist_types.NetId.{NetId}
 use Rattle.fab_cost.specs.Swapping.{counted_at}
 use Rattle.fab_cost.proofs.TakenOver.{taken_more}
 use Rattle.fab_cost.proofs.large_nets.take_nets.Goals as goal

@@ -1,6 +1,6 @@
 use Rattle.std.proofs.Common.{◌≡◌, ℕ, ◌==◌, cond, length, take}
 use Rattle.std.specs.List.{list_any}
-use Rattle.fab_net.specs.declared.pieces.NetId.{NetId}
+use Rattle.fab_net.specs.declared.netlist_types.NetId.{NetId}
 use Rattle.fab_cost.specs.Swapping.{counted_at}
 use Rattle.fab_cost.proofs.large_nets.take_nets.Given as goal
 

@@ -21,9 +21,9 @@ returns-clause-step c = λ sites whole seen.
     let f = seen_in c.args.lanes.now c.args.moved.now.block c.args.moved.now.place in
     let eb = c.lanes_of-base.ensures in
     let et = c.lanes_of-target.ensures in
-    let one = c.change_of_run-one.ensures in
-    let two = c.change_of_run-two.ensures in
-    let three = c.change_of_run-three.ensures in
+    let one = c.change_of_records-one.ensures in
+    let two = c.change_of_records-two.ensures in
+    let three = c.change_of_records-three.ensures in
     let a = c.plus.ensures in
     let b = c.plus-2.ensures in
     let k = one.gained_few in
@@ -37,13 +37,13 @@ returns-clause-step c = λ sites whole seen.
     let b0 = b.gained in
     let b1 = b.lost in
     few_step d g sites s.block.0 s.from s.to f
-    _ c.row.result.now _ c.row-2.result.now _ c.row-3.result.now
-    c.change_of_run-one.result.gained c.change_of_run-one.result.lost c.change_of_run-two.result.gained c.change_of_run-two.result.lost c.change_of_run-three.result.gained c.change_of_run-three.result.lost
+    _ c.small_row.result.now _ c.middle_row.result.now _ c.wide_row.result.now
+    c.change_of_records-one.result.gained c.change_of_records-one.result.lost c.change_of_records-two.result.gained c.change_of_records-two.result.lost c.change_of_records-three.result.gained c.change_of_records-three.result.lost
     c.plus-2.result.gained c.plus-2.result.lost
     c.blocks-blocks.ensures.lawful (omega arith, omega arith) (omega arith, omega arith) whole c.requires.block (λ i k. seen.each k i)
     (c.requires.records.small.each s.block.0 c.requires.block) (c.requires.records.middle.each s.block.0 c.requires.block) (c.requires.records.wide.each s.block.0 c.requires.block)
-    (c.row.ensures) (c.row-2.ensures) (c.row-3.ensures)
-    (placed 3 f c.row.result.now _ _ (lanes_at g s.from) (lanes_at g s.to) c.change_of_run-one.result.gained c.change_of_run-one.result.lost eb et one.balance)
-    (placed 7 f c.row-2.result.now _ _ (lanes_at g s.from) (lanes_at g s.to) c.change_of_run-two.result.gained c.change_of_run-two.result.lost eb et two.balance)
-    (placed 15 f c.row-3.result.now _ _ (lanes_at g s.from) (lanes_at g s.to) c.change_of_run-three.result.gained c.change_of_run-three.result.lost eb et three.balance)
+    (c.small_row.ensures) (c.middle_row.ensures) (c.wide_row.ensures)
+    (placed 3 f c.small_row.result.now _ _ (lanes_at g s.from) (lanes_at g s.to) c.change_of_records-one.result.gained c.change_of_records-one.result.lost eb et one.balance)
+    (placed 7 f c.middle_row.result.now _ _ (lanes_at g s.from) (lanes_at g s.to) c.change_of_records-two.result.gained c.change_of_records-two.result.lost eb et two.balance)
+    (placed 15 f c.wide_row.result.now _ _ (lanes_at g s.from) (lanes_at g s.to) c.change_of_records-three.result.gained c.change_of_records-three.result.lost eb et three.balance)
     (omega (arith, a0, b0)) (omega (arith, a1, b1)) (omega (arith, a0, b0, k, m2, m3)) (omega (arith, a1, b1, l, n2, n3))

@@ -1,7 +1,7 @@
 use Rattle.std.proofs.Common.{◌<◌, length, get_or, refl, ap, ◌∙◌}
 use Rattle.std.proofs.lemmas.List.{get_or_default}
 use Rattle.std.proofs.lemmas.List.Elements.{All-get_or}
-use Rattle.fab_net.specs.declared.pieces.Terminal.{Terminal}
+use Rattle.fab_net.specs.declared.netlist_types.Terminal.{Terminal}
 use Rattle.fab_net.proofs.Stamps.{started, passed, stamped}
 use Rattle.fab_net.proofs.blocks.push_net.Goals as goal
 use Rattle.fab_net.proofs.blocks.push_net.Goals.{then-stamps-block+in_ok-push, else-stamps-block}

@@ -39,5 +39,5 @@ returns-clause-found c =
     let version = rw c.new-left.ensures at c.in_ok-version.ensures.read in
     let h = c.in_ok-head.head in
     let head = has_head c.args.io_rat c.args.design.now (lines c.args.bytes.now) c.in_ok-version.version h.seed h.grid h.schedule c.read_version.new.left c.read_head.new.left version c.in_ok-head.ensures.read in
-    found c.args.io_rat c.args.design.now (lines c.args.bytes.now) c.in_ok-version.version h.seed h.grid c.read_head.new.left c.read_stage.new.left c.read_names.new.left c.read_seats.new.left c.in_ok-named.named.items _ head c.in_ok-stage.ensures.read c.in_ok-named.ensures.read
+    found c.args.io_rat c.args.design.now (lines c.args.bytes.now) c.in_ok-version.version h.seed h.grid c.read_head.new.left c.read_stage.new.left c.read_names.new.left c.read_sites.new.left c.in_ok-named.named.items _ head c.in_ok-stage.ensures.read c.in_ok-named.ensures.read
     c.in_ok-placement.ensures.read c.in_ok-read_end.ensures.read (rw c.deref.ensures.value at c.in_ok-fixed.ensures)

@@ -13,9 +13,9 @@ returns-in_err-block-clause-fault c =
     let d = c.args.design.now in
     let all = c.args.left.now in
     let l = shown c.in_ok-line.line in
-    let here : Naming v d c.args.count all (l ∷ c.due.new.left) c.names.named.items c.names.counter = rw c.in_ok-line.ensures.ok at c.names.invariant in
-    let first = naming_fails v d c.args.count all l c.due.new.left c.names.named.items c.names.counter _ here (rw c.deref.ensures.value at c.in_err-block.ensures.fault) in
-    rw (p.1, p.2) (list_refused (fixed_fault v d) c.args.count all _ (taking_fails (fixed_fault v d) c.args.count all here.before l c.due.new.left c.names.counter _ here.taking c.names-test.true first))
+    let here : Naming v d c.args.count all (l ∷ c.take_line.new.left) c.names.named.items c.names.counter = rw c.in_ok-line.ensures.ok at c.names.invariant in
+    let first = naming_fails v d c.args.count all l c.take_line.new.left c.names.named.items c.names.counter _ here (rw c.deref.ensures.value at c.in_err-block.ensures.fault) in
+    rw (p.1, p.2) (list_refused (fixed_fault v d) c.args.count all _ (taking_fails (fixed_fault v d) c.args.count all here.before l c.take_line.new.left c.names.counter _ here.taking c.names-test.true first))
 
 pub names-preserved : goal.names-preserved
 names-preserved c =
@@ -23,5 +23,5 @@ names-preserved c =
     let d = c.args.design.now in
     let all = c.args.left.now in
     let l = shown c.in_ok-line.line in
-    let here : Naming v d c.args.count all (l ∷ c.due.new.left) c.names.named.items c.names.counter = rw c.in_ok-line.ensures.ok at c.names.invariant in
-    naming_one v d c.args.count all l c.due.new.left c.names.named.items c.in_ok-block.block.0 c.names.counter here c.names-test.true c.in_ok-block.ensures.named (rw c.deref.ensures.value at c.in_ok-block.ensures.within) (rw c.deref.ensures.value at c.in_ok-block.ensures.ok)
+    let here : Naming v d c.args.count all (l ∷ c.take_line.new.left) c.names.named.items c.names.counter = rw c.in_ok-line.ensures.ok at c.names.invariant in
+    naming_one v d c.args.count all l c.take_line.new.left c.names.named.items c.in_ok-block.block.0 c.names.counter here c.names-test.true c.in_ok-block.ensures.named (rw c.deref.ensures.value at c.in_ok-block.ensures.within) (rw c.deref.ensures.value at c.in_ok-block.ensures.ok)

@@ -1,6 +1,6 @@
 use Rattle.std.proofs.Common.{◌==◌, sym, ap, ◌∙◌}
 use Rattle.std.specs.List.{list_any}
-use Rattle.fab_net.specs.declared.pieces.NetId.{NetId}
+use Rattle.fab_net.specs.declared.netlist_types.NetId.{NetId}
 use Rattle.fab_net.specs.Netlist.{nets_of}
 use Rattle.fab_move.specs.Judge.{block_marks, has_mark}
 use Rattle.fab_commit.proofs.ModelLemmas.Listing.{block_among, net_among, place_among}

@@ -1,4 +1,6 @@
-use Rattle.std.proofs.Common.{◌≡◌, ◌+◌, ◌≤◌, Bool, true, false, length, refl, ap, ◌∙◌, arith}
+use Rattle.std.proofs.Common.{◌≡◌, ◌+◌, ◌≤◌, Bool, true, false, length, refl, sym, ap, subst, ◌∙◌, arith}
+use Rattle.fab_cost.specs.Swapping.{IsMadeFor}
+use Rattle.fab_commit.proofs.RunLemmas.Followed.{if_some}
 use mir.Val.{bool_byte}
 use Rattle.fab_commit.specs.declared.run.owner.Owner.{Owner}
 use Rattle.fab_commit.specs.Serial.{Standing, judged_here, one_if}
@@ -28,6 +30,11 @@ pub stamp-requires-clause-within : goal.stamp-requires-clause-within
 stamp-requires-clause-within g c s e =
     let sound = c.moves.invariant.0.owned.sound in
     within_of c.args.given.now.design.now c.args.given.now.grid.now c.args.given.now.fixed c.moves.owner.state.placement.sites s sound.legal (c.decided_alone-again.ensures.lawful s e)
+
+pub stamp-requires-clause-near : goal.stamp-requires-clause-near
+stamp-requires-clause-near g c =
+    let d = c.args.given.now.design.now in
+    if_some _ (λ b. IsMadeFor b.now d) c.cost_if-cost.result c.cost_if-cost.ensures (λ b is. subst (λ v. IsMadeFor v d) (sym is) c.moves.invariant.0.owned.sound.cost.made)
 
 pub stamp-requires-clause-number : goal.stamp-requires-clause-number
 stamp-requires-clause-number g c =

@@ -8,7 +8,7 @@ use Rattle.fab_commit.specs.Serial.{or_zero}
 use Rattle.fab_commit.specs.Run.Commits.{heat_of}
 use Rattle.fab_commit.specs.Run.StampTables.{kept_stamp}
 use Rattle.fab_commit.proofs.ModelLemmas.Noninterference.{judged_as-footprint}
-use Rattle.fab_commit.proofs.RunLemmas.SwapNets.{none_kept}
+use Rattle.fab_commit.proofs.RunLemmas.LargeNets.{none_kept}
 use Rattle.fab_commit.proofs.RunLemmas.Owning.{within_of}
 use Rattle.fab_commit.proofs.run.alone.decided_alone.Goals as goal
 

@@ -46,8 +46,8 @@ overflow_add-next g c =
     let moves = c.min-moves.ensures in
     grind (arith, few, batch, moves)
 
-pub tell-requires : goal.tell-requires
-tell-requires g c =
+pub post_or_let_go-requires : goal.post_or_let_go-requires
+post_or_let_go-requires g c =
     let r = run_for g.W.Words.moves c.args.given.now in
     let s = c.args.owner.now in
     let alone = c.requires.alone.1 in
@@ -58,8 +58,8 @@ tell-requires g c =
     let is : IsPostOf o.state [] c.post_of.result = record { swaps_are = c.post_of.ensures.swaps ∙ c.fresh_list-none.ensures.empty; stage = c.post_of.ensures.stage; rest = c.post_of.ensures.rest; cost = c.post_of.ensures.cost } in
     record { may = if_some _ _ c.fresh_list-none.new.followers tied (λ f h. (r, standing_of o.state, h, may_follow r (standing_of o.state) o.state [] c.post_of.result made.owned.sound refl is)) }
 
-pub tell-requires-2 : goal.tell-requires-2
-tell-requires-2 g c =
+pub post_or_let_go-requires-2 : goal.post_or_let_go-requires-2
+post_or_let_go-requires-2 g c =
     let r = run_for g.W.Words.moves c.args.given.now in
     let s = c.args.owner.now in
     let alone = c.requires.alone.1 in
@@ -68,8 +68,8 @@ tell-requires-2 g c =
     let o = c.reserve.new.owner in
     let tied = subst (λ w. IfSome w (λ f. IsTied g.S.Pursue.run g.S.Pursue.standing g.S.Follow.after g.J.Origin.start f.0 r (standing_of o.state))) (sym c.fresh_list-none.ensures.same) (subst (λ x. IfSome c.args.followers.now (λ f. IsTied g.S.Pursue.run g.S.Pursue.standing g.S.Follow.after g.J.Origin.start f.0 r x)) (sym made.stands) c.requires.alone.2) in
     let is : IsPostOf o.state [] c.post_of.result = record { swaps_are = c.post_of.ensures.swaps ∙ c.fresh_list-none.ensures.empty; stage = c.post_of.ensures.stage; rest = c.post_of.ensures.rest; cost = c.post_of.ensures.cost } in
-    let on = c.tell.ensures.tied r (standing_of o.state) tied in
-    let first = subst (λ x. IfSome c.tell.new.followers (λ f. IsTied g.S.Pursue.run g.S.Pursue.standing g.S.Follow.after g.J.Origin.start f.0 r x)) (after_is r (standing_of o.state) o.state [] c.post_of.result refl is) on in
+    let on = c.post_or_let_go.ensures.tied r (standing_of o.state) tied in
+    let first = subst (λ x. IfSome c.post_or_let_go.new.followers (λ f. IsTied g.S.Pursue.run g.S.Pursue.standing g.S.Follow.after g.J.Origin.start f.0 r x)) (after_is r (standing_of o.state) o.state [] c.post_of.result refl is) on in
     let second = subst (λ w. IfSome w (λ f. IsTied g.S.Pursue.run g.S.Pursue.standing g.S.Follow.after g.J.Origin.start f.0 r (standing_of o.state))) (sym c.fresh_list-none-2.ensures.same) first in
     let again : IsPostOf o.state [] c.post_of-2.result = record { swaps_are = c.post_of-2.ensures.swaps ∙ c.fresh_list-none-2.ensures.empty; stage = c.post_of-2.ensures.stage; rest = c.post_of-2.ensures.rest; cost = c.post_of-2.ensures.cost } in
     record { may = if_some _ _ c.fresh_list-none-2.new.followers second (λ f h. (r, standing_of o.state, h, may_follow r (standing_of o.state) o.state [] c.post_of-2.result made.owned.sound refl again)) }
@@ -119,10 +119,10 @@ commit_by-requires-clause-due g c κs within =
     let next = open_here r c.requires.alone.0 s o c.commit_alone.new.owner c.args.ahead c.min-kept.result (c.min-moves.result - c.min-kept.result) alone ready c.commit_alone.ensures.made (omega (arith, kept, moves, left, same)) in
     let tied = subst (λ w. IfSome w (λ f. IsTied g.S.Pursue.run g.S.Pursue.standing g.S.Follow.after g.J.Origin.start f.0 r (standing_of o.state))) (sym c.fresh_list-none.ensures.same) (subst (λ x. IfSome c.args.followers.now (λ f. IsTied g.S.Pursue.run g.S.Pursue.standing g.S.Follow.after g.J.Origin.start f.0 r x)) (sym made.stands) c.requires.alone.2) in
     let is : IsPostOf o.state [] c.post_of.result = record { swaps_are = c.post_of.ensures.swaps ∙ c.fresh_list-none.ensures.empty; stage = c.post_of.ensures.stage; rest = c.post_of.ensures.rest; cost = c.post_of.ensures.cost } in
-    let on = c.tell.ensures.tied r (standing_of o.state) tied in
-    let first = subst (λ x. IfSome c.tell.new.followers (λ f. IsTied g.S.Pursue.run g.S.Pursue.standing g.S.Follow.after g.J.Origin.start f.0 r x)) (after_is r (standing_of o.state) o.state [] c.post_of.result refl is) on in
+    let on = c.post_or_let_go.ensures.tied r (standing_of o.state) tied in
+    let first = subst (λ x. IfSome c.post_or_let_go.new.followers (λ f. IsTied g.S.Pursue.run g.S.Pursue.standing g.S.Follow.after g.J.Origin.start f.0 r x)) (after_is r (standing_of o.state) o.state [] c.post_of.result refl is) on in
     let second = subst (λ w. IfSome w (λ f. IsTied g.S.Pursue.run g.S.Pursue.standing g.S.Follow.after g.J.Origin.start f.0 r (standing_of o.state))) (sym c.fresh_list-none-2.ensures.same) first in
-    (next.due, subst (λ x. IfSome c.tell-2.new.followers (λ f. IsTied g.S.Pursue.run g.S.Pursue.standing g.S.Follow.after g.J.Origin.start f.1 r x)) (sym next.is) (c.tell-2.ensures.base r (standing_of o.state) second))
+    (next.due, subst (λ x. IfSome c.post_or_let_go-2.new.followers (λ f. IsTied g.S.Pursue.run g.S.Pursue.standing g.S.Follow.after g.J.Origin.start f.1 r x)) (sym next.is) (c.post_or_let_go-2.ensures.base r (standing_of o.state) second))
 
 pub returns-clause-ok : goal.returns-clause-ok
 returns-clause-ok g c t alone =
@@ -174,10 +174,10 @@ returns-clause-tied g c =
     let o = c.reserve.new.owner in
     let tied = subst (λ w. IfSome w (λ f. IsTied g.S.Pursue.run g.S.Pursue.standing g.S.Follow.after g.J.Origin.start f.0 r (standing_of o.state))) (sym c.fresh_list-none.ensures.same) (subst (λ x. IfSome c.args.followers.now (λ f. IsTied g.S.Pursue.run g.S.Pursue.standing g.S.Follow.after g.J.Origin.start f.0 r x)) (sym made.stands) c.requires.alone.2) in
     let is : IsPostOf o.state [] c.post_of.result = record { swaps_are = c.post_of.ensures.swaps ∙ c.fresh_list-none.ensures.empty; stage = c.post_of.ensures.stage; rest = c.post_of.ensures.rest; cost = c.post_of.ensures.cost } in
-    let on = c.tell.ensures.tied r (standing_of o.state) tied in
-    let first = subst (λ x. IfSome c.tell.new.followers (λ f. IsTied g.S.Pursue.run g.S.Pursue.standing g.S.Follow.after g.J.Origin.start f.0 r x)) (after_is r (standing_of o.state) o.state [] c.post_of.result refl is) on in
+    let on = c.post_or_let_go.ensures.tied r (standing_of o.state) tied in
+    let first = subst (λ x. IfSome c.post_or_let_go.new.followers (λ f. IsTied g.S.Pursue.run g.S.Pursue.standing g.S.Follow.after g.J.Origin.start f.0 r x)) (after_is r (standing_of o.state) o.state [] c.post_of.result refl is) on in
     let second = subst (λ w. IfSome w (λ f. IsTied g.S.Pursue.run g.S.Pursue.standing g.S.Follow.after g.J.Origin.start f.0 r (standing_of o.state))) (sym c.fresh_list-none-2.ensures.same) first in
     let again : IsPostOf o.state [] c.post_of-2.result = record { swaps_are = c.post_of-2.ensures.swaps ∙ c.fresh_list-none-2.ensures.empty; stage = c.post_of-2.ensures.stage; rest = c.post_of-2.ensures.rest; cost = c.post_of-2.ensures.cost } in
-    let more = c.tell-2.ensures.tied r (standing_of o.state) second in
-    let both = subst (λ x. IfSome c.tell-2.new.followers (λ f. IsTied g.S.Pursue.run g.S.Pursue.standing g.S.Follow.after g.J.Origin.start f.0 r x)) (after_is r (standing_of o.state) o.state [] c.post_of-2.result refl again ∙ made.stands) more in
+    let more = c.post_or_let_go-2.ensures.tied r (standing_of o.state) second in
+    let both = subst (λ x. IfSome c.post_or_let_go-2.new.followers (λ f. IsTied g.S.Pursue.run g.S.Pursue.standing g.S.Follow.after g.J.Origin.start f.0 r x)) (after_is r (standing_of o.state) o.state [] c.post_of-2.result refl again ∙ made.stands) more in
     subst (λ w. IfSome w (λ f. IsTied g.S.Pursue.run g.S.Pursue.standing g.S.Follow.after g.J.Origin.start f.0 r (standing_of s.state))) (sym c.commit_by.ensures.same) both

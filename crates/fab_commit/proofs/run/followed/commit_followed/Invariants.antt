@@ -10,12 +10,12 @@ abbrev pub invariant-loop-made : goal.invariant-loop-made
 invariant-loop-made g l =
     let r = run_for g.W.Words.moves l.given in
     record {
-      low : l.made ≤ l.share.moves;
+      low : l.made ≤ l.ahead.moves;
       same : l.followers ≡ l.initial.followers;
       has : HasMade r l.initial.owner l.made l.owner;
-      redone : (due : AreOpen r l.initial.owner l.share.first l.share.moves) → l.owner.redone ≡ l.initial.owner.redone + count_by (is_redone r due.start l.share.first) (range_with_len l.initial.owner.state.done l.made);
+      redone : (due : AreOpen r l.initial.owner l.ahead.base l.ahead.moves) → l.owner.redone ≡ l.initial.owner.redone + count_by (is_redone r due.start l.ahead.base) (range_with_len l.initial.owner.state.done l.made);
       room : (n : ℕ) → HasRoom l.initial.owner (l.made + n) → HasRoom l.owner n;
     }
 
 abbrev pub decreases-loop-made : goal.decreases-loop-made
-decreases-loop-made g l = l.share.moves - l.made
+decreases-loop-made g l = l.ahead.moves - l.made

@@ -14,9 +14,6 @@ is_swap_touched_in_few-requires-clause-block g c = c.requires.due.1.block c.in-M
 pub is_swap_touched_in_few-requires-clause-other : goal.is_swap_touched_in_few-requires-clause-other
 is_swap_touched_in_few-requires-clause-other g c b e = c.requires.due.1.other c.in-Move.swap b c.in-Move.is e
 
-pub is_swap_touched_in_few-requires-clause-nets : goal.is_swap_touched_in_few-requires-clause-nets
-is_swap_touched_in_few-requires-clause-nets g c = c.requires.due.1.nets c.in-Move.swap c.in-Move.is
-
 pub decided_by_large-requires-clause-word : goal.decided_by_large-requires-clause-word
 decided_by_large-requires-clause-word g c = (λ i. slice_index (c.words_again-words.ensures i) 3)
 

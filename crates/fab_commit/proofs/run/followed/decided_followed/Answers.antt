@@ -1,11 +1,10 @@
 use Rattle.std.proofs.Common.{sym, ap, subst, ◌∙◌, arith}
-use Rattle.std.specs.Prelude.{IfSome, nat_lt}
+use Rattle.std.specs.Prelude.{nat_lt}
 use Rattle.std.specs.List.{list_any}
 use Rattle.fab_move.specs.declared.verdicts.Decision.{Decision}
 use Rattle.fab_move.specs.Judge.{IsDecision}
 use Rattle.fab_commit.specs.Serial.{judged_here}
 use Rattle.fab_commit.specs.Run.Commits.{run_for}
-use Rattle.fab_commit.specs.Run.Foreseen.{IsForeseen}
 use Rattle.fab_commit.specs.Run.StampTables.{kept_stamp}
 use Rattle.fab_commit.proofs.ModelLemmas.Happening.{taken_lawful}
 use Rattle.fab_commit.proofs.RunLemmas.Followed.{told}
@@ -17,7 +16,7 @@ returns-then-again-clause-again g c =
     let o = c.args.owner.now in
     let due = c.requires.due.0 in
     let moves = c.requires.plan.moves in
-    let is = subst (λ v. IfSome v (λ a. IsForeseen r due.start o.state.done a.now)) c.in-Some.is c.requires.due.1 in
+    let is = c.requires.due.1 in
     sym c.if-again.true ∙ c.is_touched-again.ensures ∙ ap (list_any (λ m. nat_lt c.args.base (kept_stamp r.problem.grid o.stamps m))) is.marks ∙ (told r o c.args.base (omega (arith, moves)) c.requires.owned due).touch
 
 pub returns-else-again-clause-again : goal.returns-else-again-clause-again
@@ -26,7 +25,7 @@ returns-else-again-clause-again g c =
     let o = c.args.owner.now in
     let due = c.requires.due.0 in
     let moves = c.requires.plan.moves in
-    let is = subst (λ v. IfSome v (λ a. IsForeseen r due.start o.state.done a.now)) c.in-Some.is c.requires.due.1 in
+    let is = c.requires.due.1 in
     sym c.if-again.false ∙ c.is_touched-again.ensures ∙ ap (list_any (λ m. nat_lt c.args.base (kept_stamp r.problem.grid o.stamps m))) is.marks ∙ (told r o c.args.base (omega (arith, moves)) c.requires.owned due).touch
 
 pub returns-else-again-clause-lawful : goal.returns-else-again-clause-lawful
@@ -35,7 +34,7 @@ returns-else-again-clause-lawful g c = λ s e.
     let o = c.args.owner.now in
     let due = c.requires.due.0 in
     let moves = c.requires.plan.moves in
-    let is = subst (λ v. IfSome v (λ a. IsForeseen r due.start o.state.done a.now)) c.in-Some.is c.requires.due.1 in
+    let is = c.requires.due.1 in
     let free = sym (ap (list_any (λ m. nat_lt c.args.base (kept_stamp r.problem.grid o.stamps m))) is.marks) ∙ sym c.is_touched-again.ensures ∙ c.if-again.false in
     let fresh = (told r o c.args.base (omega (arith, moves)) c.requires.owned due).fresh free in
     taken_lawful r o.state (judged_here r due.start o.state.done) o.state.done c.requires.owned.sound fresh (λ z h. is.kind z (is.decides.swap ∙ h)) s (sym is.decides.swap ∙ ap (λ (d : Decision). d.swap) (sym c.decision.ensures) ∙ e)
@@ -46,12 +45,7 @@ returns-else-again-clause-decides g c =
     let o = c.args.owner.now in
     let due = c.requires.due.0 in
     let moves = c.requires.plan.moves in
-    let is = subst (λ v. IfSome v (λ a. IsForeseen r due.start o.state.done a.now)) c.in-Some.is c.requires.due.1 in
+    let is = c.requires.due.1 in
     let free = sym (ap (list_any (λ m. nat_lt c.args.base (kept_stamp r.problem.grid o.stamps m))) is.marks) ∙ sym c.is_touched-again.ensures ∙ c.if-again.false in
     let fresh = (told r o c.args.base (omega (arith, moves)) c.requires.owned due).fresh free in
     subst (IsDecision c.decision.result) fresh (subst (λ d. IsDecision d (judged_here r due.start o.state.done)) (sym c.decision.ensures) is.decides)
-
-pub decided_again-requires-clause-due : goal.decided_again-requires-clause-due
-decided_again-requires-clause-due g c =
-    let r = run_for g.W.Words.moves c.args.given.now in
-    (c.requires.due.0, subst (λ v. IfSome v (λ a. IsForeseen r c.requires.due.0.start c.args.owner.now.state.done a.now)) c.in-Some.is c.requires.due.1)

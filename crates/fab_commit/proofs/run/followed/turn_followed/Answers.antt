@@ -36,8 +36,8 @@ overflow_add-next g c =
     let moves = c.min-moves.ensures in
     grind (arith, few, batch, moves)
 
-pub tell-requires : goal.tell-requires
-tell-requires g c =
+pub post_or_let_go-requires : goal.post_or_let_go-requires
+post_or_let_go-requires g c =
     let r = run_for g.W.Words.moves c.args.given.now in
     let s = c.args.owner.now in
     let t = c.requires.alone.0 in
@@ -75,7 +75,7 @@ commit_by-requires-clause-due g c κs within =
     let kept = c.min-2.ensures in
     let next = open_ahead r t s o c.args.ahead c.min-2.result alone ready (omega (arith, kept)) in
     let tied = subst (λ o. IfSome o (λ f. IsTied g.S.Pursue.run g.S.Pursue.standing g.S.Follow.after g.J.Origin.start f.0 r t.start)) (sym c.fresh_list.ensures.same) c.requires.alone.2 in
-    (next.due, subst (λ x. IfSome c.tell.new.followers (λ f. IsTied g.S.Pursue.run g.S.Pursue.standing g.S.Follow.after g.J.Origin.start f.1 r x)) (sym next.is) (c.tell.ensures.base r t.start tied))
+    (next.due, subst (λ x. IfSome c.post_or_let_go.new.followers (λ f. IsTied g.S.Pursue.run g.S.Pursue.standing g.S.Follow.after g.J.Origin.start f.1 r x)) (sym next.is) (c.post_or_let_go.ensures.base r t.start tied))
 
 pub commit_alone-requires-clause-room : goal.commit_alone-requires-clause-room
 commit_alone-requires-clause-room g c κs within =
@@ -152,6 +152,6 @@ returns-clause-tied g c =
     let tied = subst (λ o. IfSome o (λ f. IsTied g.S.Pursue.run g.S.Pursue.standing g.S.Follow.after g.J.Origin.start f.0 r t.start)) (sym c.fresh_list.ensures.same) c.requires.alone.2 in
     let leads = subst (Leads r.problem.grid t.start.sites s.swaps.items) (sym (ap (λ (x : Standing). x.sites) made.stands)) c.requires.alone.3 in
     let is : IsPostOf o.state s.swaps.items c.post_of.result = record { swaps_are = c.post_of.ensures.swaps ∙ ap (λ v. v.items) c.replace-swaps.ensures.value; stage = c.post_of.ensures.stage; rest = c.post_of.ensures.rest; cost = c.post_of.ensures.cost } in
-    let on = c.tell.ensures.tied r t.start tied in
+    let on = c.post_or_let_go.ensures.tied r t.start tied in
     subst (λ o. IfSome o (λ f. IsTied g.S.Pursue.run g.S.Pursue.standing g.S.Follow.after g.J.Origin.start f.0 r (standing_of s.state))) (sym c.commit_by.ensures.same)
-    (subst (λ x. IfSome c.tell.new.followers (λ f. IsTied g.S.Pursue.run g.S.Pursue.standing g.S.Follow.after g.J.Origin.start f.0 r x)) (after_is r t.start o.state s.swaps.items c.post_of.result leads is ∙ made.stands) on)
+    (subst (λ x. IfSome c.post_or_let_go.new.followers (λ f. IsTied g.S.Pursue.run g.S.Pursue.standing g.S.Follow.after g.J.Origin.start f.0 r x)) (after_is r t.start o.state s.swaps.items c.post_of.result leads is ∙ made.stands) on)

@@ -2,7 +2,7 @@ use Rattle.std.proofs.Common.{◌≡◌, ◌<◌, length, ◌+ℤ◌, to_z, of_z
 use Rattle.std.specs.Prelude.{slice_index}
 use Rattle.fab_arch.specs.Grid.{kind_at}
 use Rattle.fab_net.specs.Netlist.{Netlist}
-use Rattle.fab_site.specs.declared.pieces.Swap.{Swap}
+use Rattle.fab_site.specs.declared.placement_types.Swap.{Swap}
 use Rattle.fab_cost.specs.Runs.{few_of}
 use Rattle.fab_cost.specs.Swapping.{change}
 use Rattle.fab_cost.proofs.Few.{change_fits}

@@ -11,4 +11,4 @@ returns-in-None c =
     let over : s.done + 1 ≡ p.moves = (let m = c.moves-moves.ensures.value in let l = c.requires.left in grind (arith, m, l)) in
     let took : s.accepted + c.from.result ≡ s.accepted + one_if c.args.accepted = search rules in
     let is = after_all p c.args.side s c.args.accepted (s.accepted + c.from.result) c.requires.side.0 c.requires.stage over took (sym c.in-None.is ∙ c.next_stage.ensures.stage) in
-    subst (λ n. IsAdvanced p c.args.side s c.args.accepted n true) (sym c.behind_the_last.ensures) is
+    subst (λ n. IsAdvanced p c.args.side s c.args.accepted n true) (sym c.stage_after_frozen.ensures) is

@@ -23,7 +23,7 @@ moves-preserved g c =
     record {
       same = c.verdict_by.ensures.same ∙ inv.same;
       many = omega (arith, many, more);
-      each = λ x tied j d l. each_pushed r x c.args.share.first c.moves.i xs c.push.new.self.items a items many (inv.each x tied)
+      each = λ x tied j d l. each_pushed r x c.args.range.first c.moves.i xs c.push.new.self.items a items many (inv.each x tied)
           (c.in_ok-verdict.ensures.is x (subst (λ (f : List Post × List Post). IsTied g.S.Pursue.run g.S.Pursue.standing g.S.Follow.after g.J.Origin.start f.1 r x) (sym inv.same) tied)) j d l;
     }
 
@@ -32,6 +32,6 @@ returns-clause-answers g c x tied =
     let r = run_for g.W.Words.moves c.args.given.now in
     let low = c.moves.auto.i-end in
     let all = c.moves-test.false in
-    let n : c.moves.i ≡ c.args.share.moves = omega (arith, low, all) in
+    let n : c.moves.i ≡ c.args.range.moves = omega (arith, low, all) in
     let many = c.moves.invariant.many in
-    answers_from r x c.args.share.first c.moves.i c.moves.verdicts.items many (λ j d l. c.moves.invariant.each x tied j d l)
+    answers_from r x c.args.range.first c.moves.i c.moves.verdicts.items many (λ j d l. c.moves.invariant.each x tied j d l)

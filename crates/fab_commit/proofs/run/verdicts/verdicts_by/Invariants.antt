@@ -12,5 +12,5 @@ invariant-moves g l =
     record {
       same : l.followers ≡ l.fn.followers;
       many : length l.verdicts.items ≡ l.i;
-      each : (x : Standing) → IsTied g.S.Pursue.run g.S.Pursue.standing g.S.Follow.after g.J.Origin.start l.fn.followers.1 r x → (j : ℕ) (d : Answer) → j < l.i → IsAnswer r x (l.share.first + j) (get_or l.verdicts.items j d);
+      each : (x : Standing) → IsTied g.S.Pursue.run g.S.Pursue.standing g.S.Follow.after g.J.Origin.start l.fn.followers.1 r x → (j : ℕ) (d : Answer) → j < l.i → IsAnswer r x (l.range.first + j) (get_or l.verdicts.items j d);
     }

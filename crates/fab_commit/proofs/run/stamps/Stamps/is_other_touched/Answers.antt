@@ -2,12 +2,11 @@ use Rattle.std.proofs.Common.{◌∙◌, sym, ap}
 use Rattle.std.specs.Prelude.{nat_lt}
 use Rattle.std.specs.List.{list_any}
 use Rattle.fab_move.specs.Judge.{other_marks}
-use Rattle.fab_commit.specs.Run.Foreseen.{nets_on}
 use Rattle.fab_commit.specs.Run.StampTables.{kept_stamp}
 use Rattle.fab_commit.proofs.run.stamps.Stamps.is_other_touched.Goals as goal
 
 pub is_block_touched-requires : goal.is_block_touched-requires
-is_block_touched-requires c = c.requires ∙ ap (nets_on c.args.design.now) c.in-Some.is
+is_block_touched-requires c = c.requires c.in-Some.block c.in-Some.is
 
 pub returns-in-Some : goal.returns-in-Some
 returns-in-Some c g =

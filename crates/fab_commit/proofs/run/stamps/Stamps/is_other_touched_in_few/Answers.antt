@@ -3,12 +3,11 @@ use Rattle.std.specs.Prelude.{nat_lt}
 use Rattle.std.specs.List.{list_any}
 use Rattle.fab_cost.specs.Runs.{few_of}
 use Rattle.fab_move.specs.Judge.{other_marks}
-use Rattle.fab_commit.specs.Run.Foreseen.{nets_on}
 use Rattle.fab_commit.specs.Run.StampTables.{kept_stamp}
 use Rattle.fab_commit.proofs.run.stamps.Stamps.is_other_touched_in_few.Goals as goal
 
-pub is_block_touched_in_few-requires-clause-nets : goal.is_block_touched_in_few-requires-clause-nets
-is_block_touched_in_few-requires-clause-nets c = c.requires.nets ∙ ap (nets_on c.args.design.now) c.in-Some.is
+pub is_block_touched_in_few-requires : goal.is_block_touched_in_few-requires
+is_block_touched_in_few-requires c = record { block = c.requires.other c.in-Some.block c.in-Some.is }
 
 pub returns-in-Some : goal.returns-in-Some
 returns-in-Some c g =

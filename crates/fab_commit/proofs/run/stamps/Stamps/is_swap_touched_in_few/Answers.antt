@@ -7,7 +7,12 @@ use Rattle.fab_move.specs.declared.marks.Mark.TheVariants.{Place}
 use Rattle.fab_move.specs.Judge.{block_marks, other_marks}
 use Rattle.fab_commit.specs.Run.StampTables.{kept_stamp}
 use Rattle.fab_commit.proofs.RunLemmas.Stamping.{first_touched, later_touched}
+use Rattle.fab_commit.proofs.RunLemmas.Near.{quiet_swap_in_few}
 use Rattle.fab_commit.proofs.run.stamps.Stamps.is_swap_touched_in_few.Goals as goal
+
+pub returns-then-is_quiet : goal.returns-then-is_quiet
+returns-then-is_quiet c =
+    quiet_swap_in_few c.args.design.now c.args.grid.now c.args.self.now c.args.base c.args.swap c.requires.table c.requires.block c.requires.other (c.is_quiet.ensures c.if-is_quiet.true)
 
 pub returns-then-is_block_touched_in_few : goal.returns-then-is_block_touched_in_few
 returns-then-is_block_touched_in_few c =

@@ -1,30 +1,23 @@
-use Rattle.std.proofs.Common.{◌≡◌, false, sym, ap, ◌∙◌, Bool}
-use Rattle.std.specs.Prelude.{nat_lt}
+use Rattle.std.proofs.Common.{◌≡◌, false, sym, ap, ◌∙◌}
+use Rattle.std.specs.Prelude.{nat_lt, slice_index}
 use Rattle.std.specs.List.{list_any}
-use Rattle.std.proofs.lemmas.Bool.{le-ltb}
-use Rattle.fab_move.specs.declared.marks.Mark.{Mark}
-use Rattle.fab_move.specs.declared.marks.Mark.TheVariants.{Place}
-use Rattle.fab_move.specs.Judge.{block_marks, footprint, other_marks}
+use Rattle.fab_net.specs.declared.netlist_types.NetId.{NetId}
+use Rattle.fab_move.specs.Judge.{footprint}
 use Rattle.fab_commit.specs.Run.StampTables.{kept_stamp}
-use Rattle.fab_commit.proofs.RunLemmas.Stamping.{first_touched, later_touched}
+use Rattle.fab_commit.proofs.RunLemmas.Near.{quiet_swap}
 use Rattle.fab_commit.proofs.run.stamps.Stamps.is_touched.Goals as goal
 
-pub returns-then-is_block_touched : goal.returns-then-is_block_touched
-returns-then-is_block_touched c =
-    let d = c.args.design.now in
-    let g = c.args.grid.now in
-    let s = c.in-Move.swap in
-    let f : Mark → Bool = λ m. nat_lt c.args.base (kept_stamp g c.args.self.now m) in
-    let low : f (Place s.to) ≡ false = ap (nat_lt c.args.base) (sym c.of_site-in-Move.ensures) ∙ le-ltb c.args.base c.of_site-in-Move.result c.if-base-of_site-2.false in
-    first_touched f (Place s.to) (block_marks d s.block) (other_marks d s.other) c.is_block_touched.result low (c.is_block_touched.ensures g) c.if-is_block_touched.true
-    ∙ ap (λ p. list_any f (footprint d p)) (sym c.in-Move.is)
+pub list-requires : goal.list-requires
+list-requires c = (c.requires.nets c.in-Move.swap c.in-Move.is).most c.if-nets.true
 
-pub returns-else-is_block_touched : goal.returns-else-is_block_touched
-returns-else-is_block_touched c =
+pub returns-then-is_quiet : goal.returns-then-is_quiet
+returns-then-is_quiet c =
     let d = c.args.design.now in
     let g = c.args.grid.now in
     let s = c.in-Move.swap in
-    let f : Mark → Bool = λ m. nat_lt c.args.base (kept_stamp g c.args.self.now m) in
-    let low : f (Place s.to) ≡ false = ap (nat_lt c.args.base) (sym c.of_site-in-Move.ensures) ∙ le-ltb c.args.base c.of_site-in-Move.result c.if-base-of_site-2.false in
-    later_touched f (Place s.to) (block_marks d s.block) (other_marks d s.other) c.is_block_touched.result c.is_other_touched.result low (c.is_block_touched.ensures g) c.if-is_block_touched.false (c.is_other_touched.ensures g)
-    ∙ ap (λ p. list_any f (footprint d p)) (sym c.in-Move.is)
+    let kept = c.args.self.now in
+    let base = c.args.base in
+    c.is_net_touched.ensures
+    ∙ (λ i. list_any (λ (n : NetId). nat_lt base (slice_index (c.deref-then-is_quiet.ensures.value i) n.0)) ((c.list.ensures ∙ (c.requires.nets s c.in-Move.is).nets c.if-nets.true) i))
+    ∙ quiet_swap d g kept base s c.requires.table (c.requires.block s c.in-Move.is) (λ b e. c.requires.other s b c.in-Move.is e) (c.is_quiet.ensures c.if-is_quiet.true)
+    ∙ ap (λ p. list_any (λ m. nat_lt base (kept_stamp g kept m)) (footprint d p)) (sym c.in-Move.is)

@@ -1,0 +1,54 @@
+//! Numbers by block, raised near a block: those of the other blocks on its nets with few terminals.
+
+ghost use Rattle.std.specs.Prelude.{◌≡◌, ◌<◌, ◌∷◌, [], length};
+ghost use Rattle.fab_cost.specs.Near.{AreLifted, IsLiftedNear, blocks_in};
+ghost use Rattle.fab_cost.specs.Runs.{HasRecords};
+
+use crate::records::Record;
+use crate::runs::Runs;
+use fab_net::{BlockId, Design};
+
+/// Raises the number of a block to a stamp. Beyond the end there is none.
+pub fn lift_one(numbers: &mut Vec<u64>, block: usize, stamp: u64)
+    ensures { AreLifted numbers.old.items numbers.new.items stamp (block ∷ []) }
+{
+    if block < numbers.len() && numbers[block] < stamp {
+        numbers[block] = stamp;
+    }
+}
+
+/// Raises the numbers of the blocks on a record to a stamp.
+fn lift_record<const W: usize>(numbers: &mut Vec<u64>, net: &Record<W>, stamp: u64)
+    ensures { AreLifted numbers.old.items numbers.new.items stamp net.now.others }
+{
+    'others: for i in 0..W {
+        lift_one(numbers, net.others[i] as usize, stamp);
+    }
+}
+
+/// Raises the numbers of the blocks on some records to a stamp.
+fn lift_records<const W: usize>(numbers: &mut Vec<u64>, records: &[Record<W>], stamp: u64)
+    ensures { AreLifted numbers.old.items numbers.new.items stamp (blocks_in records.now) }
+{
+    'records: for i in 0..records.len() {
+        lift_record(numbers, &records[i], stamp);
+    }
+}
+
+/// Raises to a stamp the numbers of the other blocks on those nets of a block that have up to 16 terminals.
+pub(crate) fn lift_near(
+    runs: &Runs,
+    _design: &Design,
+    numbers: &mut Vec<u64>,
+    block: BlockId,
+    stamp: u64,
+)
+    requires records { HasRecords runs.now _design.now }
+    requires block { block.0 < length _design.now.kinds }
+    ensures { IsLiftedNear _design.now block.0 numbers.old.items numbers.new.items stamp }
+{
+    let row = block.0 as usize;
+    lift_records(numbers, runs.rows.small_row(row), stamp);
+    lift_records(numbers, runs.rows.middle_row(row), stamp);
+    lift_records(numbers, runs.rows.wide_row(row), stamp);
+}

@@ -1,6 +1,0 @@
-use Rattle.std.proofs.Common.{◌≡◌, ℕ, ◌+◌, ◌<◌}
-use Rattle.std.specs.Prelude.{slice_index_or}
-use Rattle.fab_site.proofs.words.Words.fill_starts.Given as goal
-
-abbrev pub invariant-loop-i : goal.invariant-loop-i
-invariant-loop-i g l = (k : ℕ) → k < l.i → slice_index_or l.out k 0 ≡ g.Self.Words.starts l.self (l.first + k)

@@ -1,5 +1,0 @@
-use Rattle.vplace.proofs.WordsBack.{words_come_back}
-use Rattle.vplace.proofs.words.words_come_back.Goals as goal
-
-pub returns : goal.returns
-returns c = words_come_back
