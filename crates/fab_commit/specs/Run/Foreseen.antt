@@ -67,6 +67,10 @@ pub record IsForeseen (r : Run) (x : Standing) (k : ℕ) (f : Foreseen) : Type 0
 abbrev pub AreForeseen : Run → Standing → ℕ → List Foreseen → Type 0
 AreForeseen r x k all = (i : ℕ) (f : Foreseen) → i < length all → IsForeseen r x (k + i) (slice_index_or all i f)
 
+-- all of these are rejected
+abbrev pub AreRejected : List Foreseen → Type 0
+AreRejected all = (i : ℕ) (f : Foreseen) → i < length all → (slice_index_or all i f).accepted ≡ false
+
 -- on the placement of y, move k proposes this swap, and so much of its change of cost comes from nets with up to 16 terminals
 pub record IsStill (r : Run) (y : Standing) (k : ℕ) (few : ℤ) (s : Swap) : Type 0 where
   pub proposes : proposal r.problem.design r.problem.grid r.problem.fixed y.sites y.range (r.problem.words k) ≡ Move s

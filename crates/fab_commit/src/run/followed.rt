@@ -15,14 +15,14 @@ ghost use Rattle.fab_commit.specs.Run.Alone.{AreOpen, HasGone, IsAlone, is_touch
 ghost use Rattle.fab_commit.specs.Run.Behind.{MayBeFollowed, after_post};
 ghost use Rattle.fab_commit.specs.Run.Commits.{IsSound, run_for, standing_of};
 ghost use Rattle.fab_commit.specs.Run.Owners.{HasMade, HasRoom, IsOwned, Leads};
-ghost use Rattle.fab_commit.specs.Run.Foreseen.{AreForeseen, IsForeseen, IsStill};
+ghost use Rattle.fab_commit.specs.Run.Foreseen.{AreForeseen, AreRejected, IsForeseen, IsStill};
 ghost use Rattle.fab_commit.specs.Run.Followed.{IsTied};
 ghost use Rattle.fab_commit.specs.Model.History.{is_redone};
 ghost use Rattle.fab_commit.specs.Model.TurnEvents.{LastTurn, next_turn};
 
 use crate::run::alone::{AT_ONCE, Ahead, commit_alone};
 use crate::run::behind::Pursue;
-use crate::run::foreseen::Foreseen;
+use crate::run::foreseen::{Foreseen, are_rejected};
 use crate::run::owner::{Owner, make_one};
 use crate::run::pipeline::reserve;
 use crate::run::post::{MoveRange, Post};
@@ -206,7 +206,8 @@ fn decided_again<W: Words>(
 
 /// Decides the next move: as it was foreseen on the placement after `base` moves, or again if an accepted move has touched what that rests
 /// on. Returns the decision, and whether it was decided again. The gate's call before the commit comes first. Allocates nothing.
-fn decided_followed<W: Words, G: Gate>(
+#[inline(always)]
+fn decided_followed<W: Words, G: Gate, const REJECTED: bool>(
     given: &Given<'_, W>,
     owner: &Owner,
     base: u64,
@@ -214,6 +215,7 @@ fn decided_followed<W: Words, G: Gate>(
     gate: &G,
 ) -> (Decision, bool)
     requires plan { IsLawful given.now.schedule }
+    requires rejected { REJECTED ≡ true → foreseen.now.accepted ≡ false }
     requires owned { IsOwned (run_for W.moves given.now) owner.now }
     requires going { owner.now.state.ended ≡ false }
     requires due { (due : AreOpen (run_for W.moves given.now) owner.now base 1) ×
@@ -232,11 +234,44 @@ fn decided_followed<W: Words, G: Gate>(
     if again {
         (decided_again(given, owner, base, foreseen), true)
     } else {
-        (foreseen.decision(), false)
+        (foreseen.decision::<REJECTED>(), false)
     }
 }
 
-/// Makes the next moves of the running stage, given what was foreseen of each on the placement after `base` moves. Allocates nothing.
+/// Makes the next moves of the running stage, given what was foreseen of each on the placement after `base` moves. `REJECTED` says that it is
+/// foreseen that all are rejected. Allocates nothing.
+fn commit_sheet<W: Words, G: Gate, const REJECTED: bool>(
+    given: &Given<'_, W>,
+    owner: &mut Owner,
+    foreseen: &[Foreseen],
+    base: u64,
+    gate: &G,
+)
+    requires plan { IsLawful given.now.schedule }
+    requires rejected { REJECTED ≡ true → AreRejected foreseen.now }
+    requires owned { IsOwned (run_for W.moves given.now) owner.old }
+    requires room { HasRoom owner.old (length foreseen.now) }
+    requires due { (due : AreOpen (run_for W.moves given.now) owner.old base
+        (length foreseen.now)) ×
+        AreForeseen (run_for W.moves given.now) due.start owner.old.state.done foreseen.now }
+    ensures made { HasMade (run_for W.moves given.now) owner.old (length foreseen.now) owner.new }
+    ensures redone { (due : AreOpen (run_for W.moves given.now) owner.old base
+        (length foreseen.now)) →
+        owner.new.redone ≡
+        owner.old.redone +
+        count_by (is_redone (run_for W.moves given.now) due.start base)
+        (range_with_len owner.old.state.done (length foreseen.now)) }
+    ensures room { (n : ℕ) → HasRoom owner.old (length foreseen.now + n) → HasRoom owner.new n }
+{
+    for sight in foreseen {
+        let (decision, again) =
+            decided_followed::<W, G, REJECTED>(given, owner, base, sight, gate);
+        make_one(given, owner, &decision, again);
+    }
+}
+
+/// Makes the next moves of the running stage, given what was foreseen of each on the placement after `base` moves. In a cold stage it is mostly
+/// foreseen that all are rejected. Allocates nothing.
 #[inline(always)]
 fn commit_foreseen<W: Words, G: Gate>(
     given: &Given<'_, W>,
@@ -260,9 +295,10 @@ fn commit_foreseen<W: Words, G: Gate>(
         (range_with_len owner.old.state.done (length foreseen.now)) }
     ensures room { (n : ℕ) → HasRoom owner.old (length foreseen.now + n) → HasRoom owner.new n }
 {
-    for sight in foreseen {
-        let (decision, again) = decided_followed(given, owner, base, sight, gate);
-        make_one(given, owner, &decision, again);
+    if are_rejected(foreseen) {
+        commit_sheet::<W, G, true>(given, owner, foreseen, base, gate);
+    } else {
+        commit_sheet::<W, G, false>(given, owner, foreseen, base, gate);
     }
 }
 

@@ -1,8 +1,8 @@
 //! What is foreseen of a move by those who follow the owner.
 
-ghost use Rattle.std.specs.Prelude.{◌≡◌, pos, false};
+ghost use Rattle.std.specs.Prelude.{◌≡◌, pos, false, true};
 ghost use Rattle.fab_commit.specs.Run.Commits.{IsSound, run_for, standing_of};
-ghost use Rattle.fab_commit.specs.Run.Foreseen.{IsForeseen, decision_in};
+ghost use Rattle.fab_commit.specs.Run.Foreseen.{AreRejected, IsForeseen, decision_in};
 
 use crate::run::kept_nets::LargeNets;
 use crate::run::state::{Given, State, view_of};
@@ -31,8 +31,9 @@ impl Foreseen {
         without_swap(Proposal::Nothing, [0; 4])
     }
 
-    /// The decision.
-    pub(crate) fn decision(&self) -> Decision
+    /// The decision. `REJECTED` says that it is known that the move is rejected.
+    pub(crate) fn decision<const REJECTED: bool>(&self) -> Decision
+        requires { REJECTED ≡ true → self.now.accepted ≡ false }
         ensures { result ≡ decision_in self.now }
     {
         let swap = match self.proposal {
@@ -43,9 +44,32 @@ impl Foreseen {
         Decision {
             swap,
             delta: self.delta,
-            accepted: self.accepted,
+            accepted: !REJECTED & self.accepted,
         }
     }
+
+    /// Whether it is a swap that is rejected.
+    fn is_rejected(&self) -> bool
+        ensures { result ≡ true → self.now.accepted ≡ false }
+    {
+        let is_swap = match self.proposal {
+            Proposal::Move(_) => true,
+            Proposal::Nothing => false,
+            Proposal::Void(_, _) => false,
+        };
+        is_swap & !self.accepted
+    }
+}
+
+/// Whether all are swaps that are rejected. It looks at each, so that the cache lines that another processor wrote come over together.
+pub(crate) fn are_rejected(foreseen: &[Foreseen]) -> bool
+    ensures { result ≡ true → AreRejected foreseen.now }
+{
+    let mut all = true;
+    for sight in foreseen {
+        all &= sight.is_rejected();
+    }
+    all
 }
 
 /// What is foreseen of a move that proposes no swap.

@@ -60,6 +60,7 @@ impl Owner {
 }
 
 /// Stamps what a move touches, if it is accepted. Where a crew works, the cost is given.
+#[inline(always)]
 pub(crate) fn stamp<W: Words>(
     given: &Given<'_, W>,
     stamps: &mut Stamps,
@@ -88,6 +89,7 @@ pub(crate) fn stamp<W: Words>(
 
 /// Makes a move that is decided, beside a crew: notes its swap, stamps what it touches, commits it, and counts it if it is judged again.
 /// Allocates nothing.
+#[inline(always)]
 pub(crate) fn make_one<W: Words>(
     given: &Given<'_, W>,
     owner: &mut Owner,

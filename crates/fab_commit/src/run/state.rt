@@ -97,6 +97,7 @@ fn side_of(grid: &Grid) -> u16
 }
 
 /// Counts one more move of a stage, and goes on to the next stage after its last one. Returns whether that was the last move of all.
+#[inline(always)]
 fn advance(schedule: &Schedule, side: u16, stage: &mut Stage, accepted: bool) -> bool
     requires side { (1 ≤ side) × (side ≤ 1000) }
     requires stage { IsStage schedule.now side stage.old }
@@ -163,6 +164,7 @@ fn count(accepted: &mut Option<Vec<u64>>, total: &mut u64, number: u64, took: bo
 }
 
 /// Commits the next move as it was decided.
+#[inline(always)]
 pub(crate) fn commit<W: Words>(given: &Given<'_, W>, state: &mut State, decision: &Decision)
     requires sound { IsSound (run_for W.moves given.now) state.old }
     requires going { state.old.ended ≡ false }

@@ -15,6 +15,7 @@ pub(crate) struct Accepted {
 }
 
 /// Enters the swap of the next move, if it is accepted.
+#[inline(always)]
 pub(crate) fn enter(accepted: &mut Vec<Accepted>, number: u64, decision: &Decision)
     requires room { vec_len accepted.old < vec_capacity accepted.old }
     ensures items { (j : Judged) → IsDecision decision.now j →

@@ -32,7 +32,7 @@ fn verdict_from<W: Words>(
         IsAnswer (run_for W.moves given.now) x number v) }
 {
     let footprint = footprint_of(given.alloc, given.design, foreseen.proposal)?;
-    let decision = foreseen.decision();
+    let decision = foreseen.decision::<false>();
     Ok(Verdict {
         k: number,
         swap: decision.swap,

@@ -4,7 +4,7 @@ use Rattle.fab_commit.specs.Run.Alone.{AreOpen}
 use Rattle.fab_commit.specs.Run.Commits.{run_for}
 use Rattle.fab_commit.specs.Run.Owners.{HasMade, HasRoom}
 use Rattle.fab_commit.specs.Model.History.{is_redone}
-use Rattle.fab_commit.proofs.run.followed.commit_foreseen.Given as goal
+use Rattle.fab_commit.proofs.run.followed.commit_sheet.Given as goal
 
 abbrev pub invariant-loop-sight : goal.invariant-loop-sight
 invariant-loop-sight g l =

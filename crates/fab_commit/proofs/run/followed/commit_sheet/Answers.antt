@@ -9,7 +9,7 @@ use Rattle.fab_commit.specs.Model.History.{is_redone}
 use Rattle.fab_commit.proofs.RunLemmas.Alone.{counted_open, open_at, open_later}
 use Rattle.fab_commit.proofs.RunLemmas.Noting.{has_less}
 use Rattle.fab_commit.proofs.RunLemmas.Owning.{made_more}
-use Rattle.fab_commit.proofs.run.followed.commit_foreseen.Goals as goal
+use Rattle.fab_commit.proofs.run.followed.commit_sheet.Goals as goal
 
 -- what stands in a place that was never written
 abbrev nothing : Foreseen
@@ -33,6 +33,9 @@ decided_followed-again-requires-clause-due g c κs within =
     let item = get_or c.args.foreseen.now i nothing in
     let is = c.requires.due.1 i nothing low in
     (next.due, subst (λ x. IsForeseen r x mid.state.done item) (sym next.is) (subst (λ k. IsForeseen r due.start k item) (sym c.loop-sight.invariant.0.done) is))
+
+pub decided_followed-again-requires-clause-rejected : goal.decided_followed-again-requires-clause-rejected
+decided_followed-again-requires-clause-rejected g c κs within = λ known. c.requires.rejected known c.loop-sight.sight-index nothing c.loop-sight-test.true
 
 pub make_one-requires-clause-going : goal.make_one-requires-clause-going
 make_one-requires-clause-going g c =
