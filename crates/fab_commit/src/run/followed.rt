@@ -264,8 +264,7 @@ fn commit_sheet<W: Words, G: Gate, const REJECTED: bool>(
     ensures room { (n : ℕ) → HasRoom owner.old (length foreseen.now + n) → HasRoom owner.new n }
 {
     for sight in foreseen {
-        let (decision, again) =
-            decided_followed::<W, G, REJECTED>(given, owner, base, sight, gate);
+        let (decision, again) = decided_followed::<W, G, REJECTED>(given, owner, base, sight, gate);
         make_one(given, owner, &decision, again);
     }
 }
