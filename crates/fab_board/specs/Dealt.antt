@@ -19,7 +19,7 @@ knows count parts list told = record { count = count; parts = parts; list = list
 abbrev pub given : List View → ℕ
 given vs = sum_by (λ v. length v.list) vs
 
--- how often a seat found no number left
+-- how often the seats found no number left, added up
 abbrev pub tellings : List View → ℕ
 tellings vs = sum_by (λ v. v.told) vs
 

@@ -101,7 +101,8 @@ abbrev pub HeatStands : Plan → ℕ → Option ℕ → Type 0
 HeatStands p n (Some t) = MayStand p (n / p.moves) t
 HeatStands p n None = (x : ℕ) × (n ≡ (x + 1) * p.moves) × MayStand p x 0
 
--- a standing of the run: a legal placement, a lawful range and temperature, and no more moves accepted than made
+-- a standing that fits the run: a legal placement, a lawful range and temperature, and no more moves accepted than made, in the stage
+-- and in all
 pub record IsStanding (r : Run) (x : Standing) : Type 0 where
   pub legal : IsLegal r.problem.design r.problem.grid r.problem.fixed x.sites
   pub range : (1000 ≤ x.range) × (x.range ≤ 1000 * side r)

@@ -163,7 +163,7 @@ pub record HasLarge (d : Netlist) (rows : List (List ℕ)) : Type 0 where
   pub long : length rows ≡ length d.kinds
   pub each : (b : ℕ) → b < length d.kinds → AreLarge d b (slice_index_or rows b [])
 
--- the nets of each block of a design
+-- of each block a record of each net with 2 to 4, 5 to 8 and 9 to 16 terminals, and the places of those with more
 pub record HasRecords (p : Runs) (d : Netlist) : Type 0 where
   pub small : HasRows {W = 3} d 1 4 p.rows.small
   pub middle : HasRows {W = 7} d 4 8 p.rows.middle
@@ -188,7 +188,8 @@ pub record IsStep (before after gained lost : ℕ) : Type 0 where
 abbrev pub nets_to : Netlist → ℕ → ℕ → ℕ → List ℕ
 nets_to d k j c = if nat_lt c k then nets_of d c else (if c == k then take j (nets_of d c) else [])
 
--- the entries are the records of the blocks below k, and of the first j nets of block k
+-- the entries are the records of the nets with more than `above` and at most `most` terminals, of the blocks below k, and among the
+-- first j nets of block k
 pub record ArePacked {W : ℕ} (d : Netlist) (above most k j : ℕ) (entries : List (ℕ × Record W)) : Type 0 where
   pub rows : (c : ℕ) → AreRecords d c (filter (is_sized d above most) (nets_to d k j c)) (row_of entries c)
   pub within : (i : ℕ) (z : ℕ × Record W) → i < length entries → (slice_index_or entries i z).0 < length d.kinds

@@ -2,14 +2,14 @@
 use Rattle.std.specs.Prelude.{ℕ, ◌≡◌, ◌+◌, ◌<◌, ◌≤◌, List, [], ◌∷◌, length, map, slice_index, refl}
 use Rattle.fab_cost.specs.declared.records.Record.{Record}
 
--- of each block its records by size, and the places of its larger nets
+-- of each block the records of its nets with 2 to 4, 5 to 8 and 9 to 16 terminals, and the places of those with more
 pub record SizedRowsOf : Type 0 where
   pub small : List (List (Record 3))
   pub middle : List (List (Record 7))
   pub wide : List (List (Record 15))
   pub large : List (List ℕ)
 
--- where the rows of one kind begin
+-- where the rows of one kind begin: 0 is small, 1 middle, 2 wide, 3 large
 abbrev pub column : ℕ → List (List ℕ) → List ℕ
 column kind starts = map (λ four. slice_index four kind) starts
 

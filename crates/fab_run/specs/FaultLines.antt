@@ -49,7 +49,7 @@ named_place fault = None
 abbrev pub named_bytes : List ℕ → Span → List ℕ
 named_bytes net span = if nat_le span.stop (length net) then bytes_at net span else []
 
--- the name that a fault's place in the netlist text has, if any
+-- ` name NAME` with the name at a fault's place in the netlist text, or nothing
 abbrev pub name_text : Option Span → List ℕ → List ℕ
 name_text None net = []
 name_text (Some span) net = codes " name " ++ named_bytes net span

@@ -52,7 +52,7 @@ abbrev pub HeatFault : PointFault → Version → Plan → ℕ → (ℕ → List
 HeatFault e One p x Behind ls = (t : ℕ) × MayStand p x t × Behind t ls
 HeatFault e Two p x Behind ls = FieldFault e (number_in (codes "temperature")) (MayStand p x) Temperature Behind ls
 
--- the fault is at the end: the last line is missing, or is not `end`, or another line follows it
+-- another line follows the last one
 abbrev pub MoreFault : PointFault → List TextLine → Type 0
 MoreFault e [] = ⊥
 MoreFault e (l ∷ ls) = e ≡ BadField l.number

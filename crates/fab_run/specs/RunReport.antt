@@ -7,7 +7,7 @@ use Rattle.fab_arch.specs.Grid.{GridShape, shape}
 use Rattle.fab_net.specs.declared.netlist_types.BlockKind.TheVariants.{InputPad, OutputPad, Logic}
 use Rattle.fab_net.specs.Netlist.{Netlist, logic_count, pad_count}
 
--- `blocks B logic L pads P`
+-- `blocks B logic L pads P nets N`
 abbrev pub design_text : Netlist → List ℕ
 design_text d =
     codes "blocks " ++ decimal (length d.kinds) ++ codes " logic " ++ decimal (logic_count d) ++ codes " pads " ++ decimal (pad_count d)

@@ -1,4 +1,4 @@
--- The sites that blocks have before the first move: two lists by block number that may end early, of fixed blocks, and of begun ones
+-- The sites given to some blocks before the first move: two lists by block number that may end early, of fixed blocks, and of begun ones
 -- (fixing after the VPR manual's pad file; that any block may be fixed, or only begun, is our own).
 use Rattle.std.specs.Prelude.{ℕ, ◌≡◌, ◌<◌, true, List, [], ◌∷◌, length, is_some, Option, Some, None, refl}
 use Rattle.fab_arch.specs.declared.array.Site.{Site}

@@ -69,7 +69,7 @@ pub record LastOf : Type 0 where
   pub arch_name : List ℕ
   pub lies : Option (List ℕ)
 
--- the names of the last of some calls, and what lies where
+-- the names of the last of some calls, and what its out name gives
 abbrev pub last_of : LastOf → List ResumeCall → LastOf
 last_of l [] = l
 last_of l (c ∷ cs) =

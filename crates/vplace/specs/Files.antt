@@ -27,7 +27,7 @@ abbrev pub is_shut : Option Shut → List ℕ → Bool
 is_shut None name = true
 is_shut (Some shut) name = shut name
 
--- the name takes no file
+-- the name takes no file; true of every name if that is not known
 abbrev pub IsShut : Option Shut → List ℕ → Type 0
 IsShut shut name = is_shut shut name ≡ true
 

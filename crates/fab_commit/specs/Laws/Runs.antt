@@ -13,7 +13,7 @@ abbrev pub ways_of_turns : Run → World → List ℕ → List Way
 ways_of_turns r w [] = []
 ways_of_turns r w (batch ∷ batches) = ways r w (turn_events r batch w) ++ ways_of_turns r (turn r batch w) batches
 
--- of the first m moves of a turn, those are redone that moves made one at a time and their bases determine
+-- of the first m moves of a turn, as many are redone as moves made one at a time and their bases determine
 abbrev pub WaysOfABeginning : Type 0
 WaysOfABeginning =
     (r : Run) (t : LastTurn) (batch m : ℕ) → 0 < r.plan.moves → IsOfAStage r t → m ≤ (next_turn r batch t).made

@@ -43,7 +43,7 @@ pub record AreKept (d : Netlist) (s : Swap) (n : LargeNets) : Type 0 where
   pub most : n.is_kept ≡ true → n.all ≤ 5
   pub nets : n.is_kept ≡ true → take n.all n.nets ≡ large_among d (nets_on d (Some s.block)) ++ large_among d (nets_on d s.other)
 
--- these nets were added to those that were kept, unless there was no room
+-- if nets are still kept, they are those of before with these after them; there are 5 at most in any case
 pub record AreAppended (old new : LargeNets) (more : List NetId) : Type 0 where
   pub most : new.all ≤ 5
   pub were : new.is_kept ≡ true → old.is_kept ≡ true

@@ -36,14 +36,14 @@ pub record IsNear (d : Netlist) (blocks nets near : List ℕ) (floor : ℕ) : Ty
   pub own : (b base : ℕ) → b < length d.kinds → slice_index near b ≤ base → floor ≤ base → slice_index blocks b ≤ base
   pub few : (b n base : ℕ) → b < length d.kinds → has_number b (blocks_of d n) ≡ true → is_large d n ≡ false → slice_index near b ≤ base → floor ≤ base → slice_index nets n ≤ base
 
--- there is a stamp for each block, site and net, and a number for what is near each block
+-- there is a stamp for each block, site and net, and a number for each block that bounds the stamps of what is near it
 pub record IsTable (d : Netlist) (g : GridShape) (s : Stamps) : Type 0 where
   pub blocks : length s.blocks.items ≡ length d.kinds
   pub places : length s.places.items ≡ site_count g
   pub nets : length s.nets.items ≡ length d.terminals
   pub near : IsNear d s.blocks.items s.nets.items s.near.items s.floor
 
--- what is near a block, if there is one
+-- the number of what is near a block, or 0 if there is no block
 abbrev pub near_of : List ℕ → Option BlockId → ℕ
 near_of near None = 0
 near_of near (Some b) = slice_index near b.0
