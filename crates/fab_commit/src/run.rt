@@ -6,6 +6,7 @@ pub mod annealer;
 pub mod behind;
 pub mod beside;
 mod crew_turn;
+mod early_reads;
 mod followed;
 pub mod foreseen;
 pub mod keeping;

@@ -6,4 +6,5 @@ pub mod Swapping
 pub mod Changes
 pub mod SizedRows
 pub mod Runs
+pub mod SwapViews
 pub mod Near

@@ -8,6 +8,7 @@ ghost use Rattle.fab_site.specs.Placement.{site_of, swapped, IsSwapOf};
 ghost use Rattle.fab_cost.specs.Edges.{counted_on, times};
 ghost use Rattle.fab_cost.specs.Swapping.{ComesBack, IsBoxAfter, IsBoxSwapped, IsSmall, IsSwapIfAny, swapped_by, times_other};
 
+use crate::block_nets::PinCounts;
 use crate::edge_counts::{CountedBox, Edges};
 use crate::net_box::clipped;
 use fab_arch::{Grid, Site};
@@ -167,8 +168,7 @@ pub(crate) fn swapped_box(
     grid: &Grid,
     placement: &Placement,
     swap: &Swap,
-    mine: u32,
-    others: u32,
+    shares: PinCounts,
 ) -> CountedBox
     requires old { old ≡
         counted_on grid.now (map (site_of placement.now.sites) (map block_on terminals.now)) }
@@ -176,13 +176,13 @@ pub(crate) fn swapped_box(
     requires few { length terminals.now ≤ 1048576 }
     requires within { All (λ t. t.block.0 < length placement.now.sites) terminals.now }
     requires lawful { IsSwapOf grid.now placement.now.sites swap.now }
-    requires mine { mine ≡ times swap.now.block.0 (map block_on terminals.now) }
-    requires others { others ≡ times_other swap.now.other (map block_on terminals.now) }
+    requires mine { shares.mine ≡ times swap.now.block.0 (map block_on terminals.now) }
+    requires others { shares.others ≡ times_other swap.now.other (map block_on terminals.now) }
     ensures { result ≡
         counted_on grid.now
         (map (site_of (swapped placement.now.sites swap.now)) (map block_on terminals.now)) }
 {
-    match shifted_by(old, grid, swap, mine, others) {
+    match shifted_by(old, grid, swap, shares.mine, shares.others) {
         Some(after) => after,
         None => counted_box(grid, placement, Some(*swap), terminals),
     }

@@ -13,6 +13,7 @@ ghost use Rattle.fab_cost.specs.Changes.{IsChange, IsPlainAfter, IsPlainSwapped}
 ghost use Rattle.fab_cost.specs.Cost.{cost_of, net_box, net_cost};
 ghost use Rattle.fab_cost.specs.Edges.{times, counted_box as box_counted};
 ghost use Rattle.fab_cost.specs.Runs.{table_of};
+ghost use Rattle.fab_cost.specs.SwapViews.{IsPartOf, IsView, sites_after, sites_before};
 ghost use Rattle.fab_cost.specs.Swapping.{HaveBoxes, IsPart, blocks_of, cost_unless, has_block, times_other};
 
 use crate::block_nets::{PinCounts, is_left_out, net_of, own_pins, partner_pins, shares_with};
@@ -20,6 +21,7 @@ use crate::edge_boxes::{NO_TALLY, Tally};
 use crate::edge_counts::{CountedBox, ends_after};
 use crate::lane_boxes::box_by_lanes;
 use crate::net_box::{NetBox, clipped};
+use crate::swap_view::{Part, SwapView};
 use fab_arch::{Grid, Site};
 use fab_net::{BlockId, Design, NetId, Terminal};
 use fab_site::{Placement, Swap};
@@ -75,29 +77,35 @@ fn moved_by(old: CountedBox, grid: &Grid, swap: &Swap, mine: u32, others: u32) -
 #[tactic(auto, using(crate::proofs::Changes::plain_given))]
 #[inline]
 fn new_box(
+    view: &SwapView<'_>,
     lanes: &[u16x4],
     old: CountedBox,
-    design: &Design,
-    grid: &Grid,
-    placement: &Placement,
-    swap: &Swap,
     net: NetId,
     shares: PinCounts,
 ) -> NetBox
-    requires table { lanes.now ≡ table_of grid.now placement.now.sites }
-    requires old { old ≡ box_counted design.now grid.now placement.now.sites net.0 }
-    requires net { Counts design.now net.0 }
+    requires view { IsView view.now }
+    requires table { lanes.now ≡ table_of view.now.grid.now (sites_before view.now) }
+    requires old { old ≡
+        box_counted view.now.design.now view.now.grid.now (sites_before view.now) net.0 }
+    requires net { Counts view.now.design.now net.0 }
     requires some { shares.mine ≢ shares.others }
-    requires mine { shares.mine ≡ times swap.now.block.0 (blocks_of design.now net.0) }
-    requires others { shares.others ≡ times_other swap.now.other (blocks_of design.now net.0) }
-    requires lawful { IsSwapOf grid.now placement.now.sites swap.now }
-    requires whole { length design.now.kinds ≡ length placement.now.sites }
+    requires mine { shares.mine ≡
+        times view.now.swap.now.block.0 (blocks_of view.now.design.now net.0) }
+    requires others { shares.others ≡
+        times_other view.now.swap.now.other (blocks_of view.now.design.now net.0) }
     ensures { box_of result ≡
-        net_box design.now grid.now (swapped placement.now.sites swap.now) net.0 }
+        net_box view.now.design.now view.now.grid.now (sites_after view.now) net.0 }
 {
-    match moved_by(old, grid, swap, shares.mine, shares.others) {
+    match moved_by(old, view.grid, view.swap, shares.mine, shares.others) {
         Some(after) => after,
-        None => box_by_lanes(lanes, design, grid, placement, swap, net),
+        None => box_by_lanes(
+            lanes,
+            view.design,
+            view.grid,
+            view.placement,
+            view.swap,
+            net,
+        ),
     }
 }
 
@@ -130,42 +138,36 @@ fn tally_of_boxes(
 /// How the swap changes the cost of net `i` of a block; nothing if it is also a net of the block `but`.
 #[tactic(auto, using(crate::proofs::Changes::left_out, crate::proofs::Changes::still, crate::proofs::Changes::changed))]
 pub(crate) fn change_of_large_net(
+    view: &SwapView<'_>,
     lanes: &[u16x4],
     old: CountedBox,
-    design: &Design,
-    grid: &Grid,
-    placement: &Placement,
-    swap: &Swap,
-    block: BlockId,
-    but: Option<BlockId>,
+    part: Part,
     i: usize,
 ) -> Tally
-    requires table { lanes.now ≡ table_of grid.now placement.now.sites }
+    requires view { IsView view.now }
+    requires part { IsPartOf view.now part }
+    requires table { lanes.now ≡ table_of view.now.grid.now (sites_before view.now) }
     requires old { old ≡
-        box_counted design.now grid.now placement.now.sites
-        (slice_index (nets_of design.now block.0) i) }
-    requires part { IsPart swap.now block but }
-    requires block { block.0 < length design.now.kinds }
-    requires within { i < length (nets_of design.now block.0) }
-    requires lawful { IsSwapOf grid.now placement.now.sites swap.now }
-    requires whole { length design.now.kinds ≡ length placement.now.sites }
+        box_counted view.now.design.now view.now.grid.now (sites_before view.now)
+        (slice_index (nets_of view.now.design.now part.block.0) i) }
+    requires within { i < length (nets_of view.now.design.now part.block.0) }
     ensures { IsChange
-        (cost_unless design.now grid.now placement.now.sites but
-        (slice_index (nets_of design.now block.0) i))
-        (cost_unless design.now grid.now (swapped placement.now.sites swap.now) but
-        (slice_index (nets_of design.now block.0) i)) result.gained result.lost }
+        (cost_unless view.now.design.now view.now.grid.now (sites_before view.now) part.but
+        (slice_index (nets_of view.now.design.now part.block.0) i))
+        (cost_unless view.now.design.now view.now.grid.now (sites_after view.now) part.but
+        (slice_index (nets_of view.now.design.now part.block.0) i)) result.gained result.lost }
 {
-    let _nets = design.nets();
-    let net = net_of(design, block, i);
-    let own = own_pins(design, block, i);
-    let beside = partner_pins(design, swap, block, but, i);
-    let shares = shares_with(swap, block, but, own, beside);
-    if is_left_out(but, shares) {
+    let _nets = view.design.nets();
+    let net = net_of(view.design, part.block, i);
+    let own = own_pins(view.design, part.block, i);
+    let beside = partner_pins(view.design, view.swap, part.block, part.but, i);
+    let shares = shares_with(view.swap, part.block, part.but, own, beside);
+    if is_left_out(part.but, shares) {
         return NO_TALLY;
     }
     if shares.mine == shares.others {
         return NO_TALLY;
     }
-    let new = new_box(lanes, old, design, grid, placement, swap, net, shares);
-    tally_of_boxes(design, net, design.terminals(net), old, new)
+    let new = new_box(view, lanes, old, net, shares);
+    tally_of_boxes(view.design, net, view.design.terminals(net), old, new)
 }

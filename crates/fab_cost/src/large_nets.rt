@@ -14,6 +14,7 @@ ghost use Rattle.fab_cost.specs.Changes.{IsChange};
 ghost use Rattle.fab_cost.specs.Cost.{cost_of, net_cost};
 ghost use Rattle.fab_cost.specs.Edges.{times, counted_box as box_counted};
 ghost use Rattle.fab_cost.specs.Runs.{AreInner, AreLarge, AreMost, HasRecords, inner_lanes, large_of, reach_lanes, table_of};
+ghost use Rattle.fab_cost.specs.SwapViews.{AreRenewedIf, AreRenewedTo, IsPartOf, IsView, cost_after, cost_before, cost_of_large, nets_in, sites_after, sites_before};
 ghost use Rattle.fab_cost.specs.Swapping.{AreRenewed, HaveBoxes, IsPart, blocks_of, cost_unless, counted_at, counted_blocks, has_block, is_on_swap, times_other};
 
 use crate::block_nets::{PinCounts, is_left_out, net_of, own_pins, partner_pins, shares_with};
@@ -24,6 +25,7 @@ use crate::lanes::{edge_lanes_of, holds, inner_lanes_of, reach_of, surrounds};
 use crate::large_change::change_of_large_net;
 use crate::most_pins::most_pins;
 use crate::runs::{Runs, WIDE};
+use crate::swap_view::{Part, SwapView};
 use fab_arch::Grid;
 use fab_net::{BlockId, Design, NetId};
 use fab_site::{Placement, Swap};
@@ -127,35 +129,21 @@ fn first_box(design: &Design, grid: &Grid, placement: &Placement, net: NetId) ->
 
 /// The box of the net after the swap.
 #[tactic(auto, using(crate::proofs::Nets::counted_from, crate::proofs::Nets::counted_to, crate::proofs::Nets::times_to, crate::proofs::Nets::times_other_to, crate::proofs::Making::terminals_some, crate::proofs::Making::terminals_within, crate::proofs::Bounds::terminals_few))]
-fn renewed(
-    old: CountedBox,
-    design: &Design,
-    grid: &Grid,
-    placement: &Placement,
-    swap: &Swap,
-    net: NetId,
-    shares: PinCounts,
-) -> CountedBox
-    requires old { old ≡ box_counted design.now grid.now placement.now.sites net.0 }
-    requires net { Counts design.now net.0 }
-    requires mine { shares.mine ≡ times swap.now.block.0 (blocks_of design.now net.0) }
-    requires others { shares.others ≡ times_other swap.now.other (blocks_of design.now net.0) }
-    requires lawful { IsSwapOf grid.now placement.now.sites swap.now }
-    requires whole { length design.now.kinds ≡ length placement.now.sites }
+fn renewed(view: &SwapView<'_>, old: CountedBox, net: NetId, shares: PinCounts) -> CountedBox
+    requires view { IsView view.now }
+    requires old { old ≡
+        box_counted view.now.design.now view.now.grid.now (sites_before view.now) net.0 }
+    requires net { Counts view.now.design.now net.0 }
+    requires mine { shares.mine ≡
+        times view.now.swap.now.block.0 (blocks_of view.now.design.now net.0) }
+    requires others { shares.others ≡
+        times_other view.now.swap.now.other (blocks_of view.now.design.now net.0) }
     ensures { result ≡
-        box_counted design.now grid.now (swapped placement.now.sites swap.now) net.0 }
+        box_counted view.now.design.now view.now.grid.now (sites_after view.now) net.0 }
 {
-    let _nets = design.nets();
-    let terminals = design.terminals(net);
-    swapped_box(
-        old,
-        terminals,
-        grid,
-        placement,
-        swap,
-        shares.mine,
-        shares.others,
-    )
+    let _nets = view.design.nets();
+    let terminals = view.design.terminals(net);
+    swapped_box(old, terminals, view.grid, view.placement, view.swap, shares)
 }
 
 /// What a net with this box costs, in ten-thousandths.
@@ -239,43 +227,34 @@ pub(crate) fn boxes_for(
 #[tactic(auto, using(crate::proofs::Large::row_within))]
 #[inline(always)]
 fn change_of_kept(
+    view: &SwapView<'_>,
     lanes: &[u16x4],
     large: &LargeBoxes,
-    design: &Design,
-    grid: &Grid,
-    placement: &Placement,
-    swap: &Swap,
-    reach: u16x4,
-    block: BlockId,
-    but: Option<BlockId>,
+    part: Part,
     row: &[u32],
     k: usize,
 ) -> Tally
-    requires table { lanes.now ≡ table_of grid.now placement.now.sites }
-    requires have { HaveBoxes large.now.boxes.items (large_of design.now) grid.now
-        placement.now.sites }
-    requires reach { reach ≡ reach_lanes grid.now swap.now }
-    requires part { IsPart swap.now block but }
-    requires block { block.0 < length design.now.kinds }
-    requires large { AreLarge design.now block.0 row.now }
+    requires view { IsView view.now }
+    requires part { IsPartOf view.now part }
+    requires table { lanes.now ≡ table_of view.now.grid.now (sites_before view.now) }
+    requires have { HaveBoxes large.now.boxes.items (large_of view.now.design.now)
+        view.now.grid.now (sites_before view.now) }
+    requires large { AreLarge view.now.design.now part.block.0 row.now }
     requires within { k < length row.now }
-    requires most { AreMost large.now.most.items (counted_blocks design.now) }
-    requires lawful { IsSwapOf grid.now placement.now.sites swap.now }
-    requires whole { length design.now.kinds ≡ length placement.now.sites }
+    requires most { AreMost large.now.most.items (counted_blocks view.now.design.now) }
     ensures { IsChange
-        (cost_unless (large_of design.now) grid.now placement.now.sites but
-        (slice_index (nets_of (large_of design.now) block.0) k))
-        (cost_unless (large_of design.now) grid.now (swapped placement.now.sites swap.now) but
-        (slice_index (nets_of (large_of design.now) block.0) k)) result.gained result.lost }
+        (cost_before view.now part (slice_index (nets_in view.now part) k))
+        (cost_after view.now part (slice_index (nets_in view.now part) k))
+        result.gained result.lost }
 {
-    let _nets = design.nets();
+    let _nets = view.design.nets();
     let i = row[k] as usize;
-    let net = net_of(design, block, i);
-    if holds(large.inner_of(net), reach) {
+    let net = net_of(view.design, part.block, i);
+    if holds(large.inner_of(net), u16x4::from_array(view.reach)) {
         NO_TALLY
     } else {
         let old = large.kept(net);
-        change_of_large_net(lanes, old, design, grid, placement, swap, block, but, i)
+        change_of_large_net(view, lanes, old, part, i)
     }
 }
 
@@ -283,43 +262,31 @@ fn change_of_kept(
 #[tactic(auto, using(crate::proofs::Changes::none, crate::proofs::Changes::more, crate::proofs::Changes::all))]
 #[inline(always)]
 fn change_of_larges(
+    view: &SwapView<'_>,
     lanes: &[u16x4],
     large: &LargeBoxes,
     runs: &Runs,
-    design: &Design,
-    grid: &Grid,
-    placement: &Placement,
-    swap: &Swap,
-    reach: u16x4,
-    block: BlockId,
-    but: Option<BlockId>,
+    part: Part,
 ) -> Tally
-    requires table { lanes.now ≡ table_of grid.now placement.now.sites }
-    requires records { HasRecords runs.now design.now }
-    requires have { HaveBoxes large.now.boxes.items (large_of design.now) grid.now
-        placement.now.sites }
-    requires reach { reach ≡ reach_lanes grid.now swap.now }
-    requires part { IsPart swap.now block but }
-    requires block { block.0 < length design.now.kinds }
-    requires most { AreMost large.now.most.items (counted_blocks design.now) }
-    requires lawful { IsSwapOf grid.now placement.now.sites swap.now }
-    requires whole { length design.now.kinds ≡ length placement.now.sites }
+    requires view { IsView view.now }
+    requires part { IsPartOf view.now part }
+    requires table { lanes.now ≡ table_of view.now.grid.now (sites_before view.now) }
+    requires records { HasRecords runs.now view.now.design.now }
+    requires have { HaveBoxes large.now.boxes.items (large_of view.now.design.now)
+        view.now.grid.now (sites_before view.now) }
+    requires most { AreMost large.now.most.items (counted_blocks view.now.design.now) }
     ensures { IsChange
-        (sum_by (cost_unless (large_of design.now) grid.now placement.now.sites but)
-        (nets_of (large_of design.now) block.0))
-        (sum_by (cost_unless (large_of design.now) grid.now (swapped placement.now.sites swap.now)
-        but) (nets_of (large_of design.now) block.0)) result.gained result.lost }
+        (sum_by (cost_before view.now part) (nets_in view.now part))
+        (sum_by (cost_after view.now part) (nets_in view.now part)) result.gained result.lost }
 {
-    let _nx = grid.nx();
-    let _ny = grid.ny();
-    let _nets = design.nets();
-    let row = runs.rows.large_row(block.0 as usize);
+    let _nx = view.grid.nx();
+    let _ny = view.grid.ny();
+    let _nets = view.design.nets();
+    let row = runs.rows.large_row(part.block.0 as usize);
     let mut gained: u64 = 0;
     let mut lost: u64 = 0;
     'places: for k in 0..row.len() {
-        let one = change_of_kept(
-            lanes, large, design, grid, placement, swap, reach, block, but, row, k,
-        );
+        let one = change_of_kept(view, lanes, large, part, row, k);
         gained += one.gained;
         lost += one.lost;
     }
@@ -330,41 +297,38 @@ fn change_of_larges(
 #[tactic(auto, using(crate::proofs::Sited::block_below, crate::proofs::Changes::whole_none, crate::proofs::Changes::whole_some))]
 #[inline(always)]
 pub(crate) fn change_of_large(
+    view: &SwapView<'_>,
     lanes: &[u16x4],
     large: &LargeBoxes,
     runs: &Runs,
-    design: &Design,
-    grid: &Grid,
-    placement: &Placement,
-    swap: &Swap,
 ) -> Tally
-    requires table { lanes.now ≡ table_of grid.now placement.now.sites }
-    requires records { HasRecords runs.now design.now }
-    requires have { HaveBoxes large.now.boxes.items (large_of design.now) grid.now
-        placement.now.sites }
-    requires most { AreMost large.now.most.items (counted_blocks design.now) }
-    requires lawful { IsSwapOf grid.now placement.now.sites swap.now }
-    requires whole { length design.now.kinds ≡ length placement.now.sites }
-    ensures balance { cost_of (large_of design.now) grid.now
-        (swapped placement.now.sites swap.now) + result.lost ≡
-        cost_of (large_of design.now) grid.now placement.now.sites + result.gained }
+    requires view { IsView view.now }
+    requires table { lanes.now ≡ table_of view.now.grid.now (sites_before view.now) }
+    requires records { HasRecords runs.now view.now.design.now }
+    requires have { HaveBoxes large.now.boxes.items (large_of view.now.design.now)
+        view.now.grid.now (sites_before view.now) }
+    requires most { AreMost large.now.most.items (counted_blocks view.now.design.now) }
+    ensures balance { cost_of_large view.now (sites_after view.now) + result.lost ≡
+        cost_of_large view.now (sites_before view.now) + result.gained }
     ensures gained { result.gained < 2 ^ 43 }
     ensures lost { result.lost < 2 ^ 43 }
 {
-    let _nx = grid.nx();
-    let _ny = grid.ny();
-    let _nets = design.nets();
-    let reach = reach_of(grid, swap);
-    let first = change_of_larges(
-        lanes, large, runs, design, grid, placement, swap, reach, swap.block, None,
-    );
-    match swap.other {
+    let _nx = view.grid.nx();
+    let _ny = view.grid.ny();
+    let _nets = view.design.nets();
+    let part = Part {
+        block: view.swap.block,
+        but: None,
+    };
+    let first = change_of_larges(view, lanes, large, runs, part);
+    match view.swap.other {
         None => first,
         Some(other) => {
-            let but = Some(swap.block);
-            let second = change_of_larges(
-                lanes, large, runs, design, grid, placement, swap, reach, other, but,
-            );
+            let part = Part {
+                block: other,
+                but: Some(view.swap.block),
+            };
+            let second = change_of_larges(view, lanes, large, runs, part);
             plus(first, second)
         }
     }
@@ -374,145 +338,97 @@ pub(crate) fn change_of_large(
 /// the net's cost after and before.
 #[tactic(auto)]
 fn renew_kept(
+    view: &SwapView<'_>,
     large: &mut LargeBoxes,
-    design: &Design,
-    grid: &Grid,
-    placement: &Placement,
-    swap: &Swap,
-    block: BlockId,
-    but: Option<BlockId>,
+    part: Part,
     row: &[u32],
     k: usize,
 ) -> Tally
-    requires left { AreRenewed large.old.boxes.items (large_of design.now) grid.now
-        placement.now.sites (swapped placement.now.sites swap.now)
-        (λ n.
-        has_block but (blocks_of design.now n) ||
-        has_number n (take k (nets_of (large_of design.now) block.0))) }
-    requires part { IsPart swap.now block but }
-    requires block { block.0 < length design.now.kinds }
-    requires large { AreLarge design.now block.0 row.now }
+    requires view { IsView view.now }
+    requires part { IsPartOf view.now part }
+    requires left { AreRenewedTo view.now part k large.old.boxes.items }
+    requires large { AreLarge view.now.design.now part.block.0 row.now }
     requires within { k < length row.now }
-    requires lawful { IsSwapOf grid.now placement.now.sites swap.now }
-    requires whole { length design.now.kinds ≡ length placement.now.sites }
-    ensures boxes { AreRenewed large.new.boxes.items (large_of design.now) grid.now
-        placement.now.sites (swapped placement.now.sites swap.now)
-        (λ n.
-        has_block but (blocks_of design.now n) ||
-        has_number n (take (k + 1) (nets_of (large_of design.now) block.0))) }
+    ensures boxes { AreRenewedTo view.now part (k + 1) large.new.boxes.items }
     ensures gained { result.gained ≡
-        cost_unless (large_of design.now) grid.now (swapped placement.now.sites swap.now) but
-        (slice_index (nets_of (large_of design.now) block.0) k) }
+        cost_after view.now part (slice_index (nets_in view.now part) k) }
     ensures lost { result.lost ≡
-        cost_unless (large_of design.now) grid.now placement.now.sites but
-        (slice_index (nets_of (large_of design.now) block.0) k) }
+        cost_before view.now part (slice_index (nets_in view.now part) k) }
     ensures most { large.new.most.items ≡ large.old.most.items }
 {
     let i = row[k] as usize;
-    let net = net_of(design, block, i);
-    let own = own_pins(design, block, i);
-    let beside = partner_pins(design, swap, block, but, i);
-    let shares = shares_with(swap, block, but, own, beside);
-    if is_left_out(but, shares) {
+    let net = net_of(view.design, part.block, i);
+    let own = own_pins(view.design, part.block, i);
+    let beside = partner_pins(view.design, view.swap, part.block, part.but, i);
+    let shares = shares_with(view.swap, part.block, part.but, own, beside);
+    if is_left_out(part.but, shares) {
         return NO_TALLY;
     }
     let old = large.kept(net);
-    let new = renewed(old, design, grid, placement, swap, net, shares);
+    let new = renewed(view, old, net, shares);
     large.set(net, new);
-    tally_between(design, net, old, new)
+    tally_between(view.design, net, old, new)
 }
 
 /// Renews the box of large net `k` of a block, if the swap changes it and it is no net of the block `but`. Returns how the net's
 /// cost changes.
 #[tactic(auto, using(crate::proofs::Large::row_within))]
 fn renew_net(
+    view: &SwapView<'_>,
     large: &mut LargeBoxes,
-    design: &Design,
-    grid: &Grid,
-    placement: &Placement,
-    swap: &Swap,
-    reach: u16x4,
-    block: BlockId,
-    but: Option<BlockId>,
+    part: Part,
     row: &[u32],
     k: usize,
 ) -> Tally
-    requires left { AreRenewed large.old.boxes.items (large_of design.now) grid.now
-        placement.now.sites (swapped placement.now.sites swap.now)
-        (λ n.
-        has_block but (blocks_of design.now n) ||
-        has_number n (take k (nets_of (large_of design.now) block.0))) }
-    requires reach { reach ≡ reach_lanes grid.now swap.now }
-    requires part { IsPart swap.now block but }
-    requires block { block.0 < length design.now.kinds }
-    requires large { AreLarge design.now block.0 row.now }
+    requires view { IsView view.now }
+    requires part { IsPartOf view.now part }
+    requires left { AreRenewedTo view.now part k large.old.boxes.items }
+    requires large { AreLarge view.now.design.now part.block.0 row.now }
     requires within { k < length row.now }
-    requires lawful { IsSwapOf grid.now placement.now.sites swap.now }
-    requires whole { length design.now.kinds ≡ length placement.now.sites }
-    ensures boxes { AreRenewed large.new.boxes.items (large_of design.now) grid.now
-        placement.now.sites (swapped placement.now.sites swap.now)
-        (λ n.
-        has_block but (blocks_of design.now n) ||
-        has_number n (take (k + 1) (nets_of (large_of design.now) block.0))) }
+    ensures boxes { AreRenewedTo view.now part (k + 1) large.new.boxes.items }
     ensures change { IsChange
-        (cost_unless (large_of design.now) grid.now placement.now.sites but
-        (slice_index (nets_of (large_of design.now) block.0) k))
-        (cost_unless (large_of design.now) grid.now (swapped placement.now.sites swap.now) but
-        (slice_index (nets_of (large_of design.now) block.0) k)) result.gained result.lost }
+        (cost_before view.now part (slice_index (nets_in view.now part) k))
+        (cost_after view.now part (slice_index (nets_in view.now part) k))
+        result.gained result.lost }
     ensures most { large.new.most.items ≡ large.old.most.items }
 {
-    let net = net_of(design, block, row[k] as usize);
-    if surrounds(edge_lanes_of(large.kept(net)), reach) {
+    let net = net_of(view.design, part.block, row[k] as usize);
+    if surrounds(
+        edge_lanes_of(large.kept(net)),
+        u16x4::from_array(view.reach),
+    ) {
         NO_TALLY
     } else {
-        renew_kept(large, design, grid, placement, swap, block, but, row, k)
+        renew_kept(view, large, part, row, k)
     }
 }
 
 /// Renews the boxes of a block's large nets, except those of the block `but`, which are renewed already. Returns how the
 /// nets' cost changes.
 #[tactic(auto, using(crate::proofs::Renewals::started, crate::proofs::Changes::none))]
-fn renew_larges(
-    large: &mut LargeBoxes,
-    runs: &Runs,
-    design: &Design,
-    grid: &Grid,
-    placement: &Placement,
-    swap: &Swap,
-    reach: u16x4,
-    block: BlockId,
-    but: Option<BlockId>,
-) -> Tally
-    requires records { HasRecords runs.now design.now }
-    requires left { AreRenewed large.old.boxes.items (large_of design.now) grid.now
-        placement.now.sites (swapped placement.now.sites swap.now)
-        (λ n. has_block but (blocks_of design.now n)) }
-    requires reach { reach ≡ reach_lanes grid.now swap.now }
-    requires part { IsPart swap.now block but }
-    requires block { block.0 < length design.now.kinds }
-    requires lawful { IsSwapOf grid.now placement.now.sites swap.now }
-    requires whole { length design.now.kinds ≡ length placement.now.sites }
-    ensures boxes { AreRenewed large.new.boxes.items (large_of design.now) grid.now
-        placement.now.sites (swapped placement.now.sites swap.now)
+fn renew_larges(view: &SwapView<'_>, large: &mut LargeBoxes, runs: &Runs, part: Part) -> Tally
+    requires view { IsView view.now }
+    requires part { IsPartOf view.now part }
+    requires records { HasRecords runs.now view.now.design.now }
+    requires left { AreRenewedIf view.now
+        (λ n. has_block part.but (blocks_of view.now.design.now n)) large.old.boxes.items }
+    ensures boxes { AreRenewedIf view.now
         (λ n.
-        has_block but (blocks_of design.now n) || has_number block.0 (blocks_of design.now n)) }
+        has_block part.but (blocks_of view.now.design.now n) ||
+        has_number part.block.0 (blocks_of view.now.design.now n)) large.new.boxes.items }
     ensures change { IsChange
-        (sum_by (cost_unless (large_of design.now) grid.now placement.now.sites but)
-        (nets_of (large_of design.now) block.0))
-        (sum_by (cost_unless (large_of design.now) grid.now (swapped placement.now.sites swap.now)
-        but) (nets_of (large_of design.now) block.0)) result.gained result.lost }
+        (sum_by (cost_before view.now part) (nets_in view.now part))
+        (sum_by (cost_after view.now part) (nets_in view.now part)) result.gained result.lost }
     ensures most { large.new.most.items ≡ large.old.most.items }
 {
-    let _nx = grid.nx();
-    let _ny = grid.ny();
-    let _nets = design.nets();
-    let row = runs.rows.large_row(block.0 as usize);
+    let _nx = view.grid.nx();
+    let _ny = view.grid.ny();
+    let _nets = view.design.nets();
+    let row = runs.rows.large_row(part.block.0 as usize);
     let mut gained: u64 = 0;
     let mut lost: u64 = 0;
     'places: for k in 0..row.len() {
-        let one = renew_net(
-            large, design, grid, placement, swap, reach, block, but, row, k,
-        );
+        let one = renew_net(view, large, part, row, k);
         gained += one.gained;
         lost += one.lost;
     }
@@ -546,17 +462,26 @@ pub(crate) fn renew_large(
     let _nx = grid.nx();
     let _ny = grid.ny();
     let _nets = design.nets();
-    let reach = reach_of(grid, swap);
-    let first = renew_larges(
-        large, runs, design, grid, placement, swap, reach, swap.block, None,
-    );
+    let view = SwapView {
+        design,
+        grid,
+        placement,
+        swap,
+        reach: reach_of(grid, swap).to_array(),
+    };
+    let part = Part {
+        block: swap.block,
+        but: None,
+    };
+    let first = renew_larges(&view, large, runs, part);
     match swap.other {
         None => first,
         Some(other) => {
-            let but = Some(swap.block);
-            let second = renew_larges(
-                large, runs, design, grid, placement, swap, reach, other, but,
-            );
+            let part = Part {
+                block: other,
+                but: Some(swap.block),
+            };
+            let second = renew_larges(&view, large, runs, part);
             plus(first, second)
         }
     }

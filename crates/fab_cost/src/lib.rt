@@ -18,6 +18,7 @@ mod records;
 mod runs;
 mod sized_rows;
 mod small_nets;
+mod swap_view;
 mod whole_boxes;
 pub mod wire;
 

@@ -1,16 +1,17 @@
 //! Numbers by block, raised near a block: those of the other blocks on its nets with few terminals.
 
-ghost use Rattle.std.specs.Prelude.{◌≡◌, ◌<◌, ◌∷◌, [], length};
-ghost use Rattle.fab_cost.specs.Near.{AreLifted, IsLiftedNear, blocks_in};
+ghost use Rattle.std.specs.Prelude.{◌≡◌, ◌==◌, ◌<◌, ◌≤◌, length};
+ghost use Rattle.fab_net.specs.Netlist.{has_number};
+ghost use Rattle.fab_cost.specs.Near.{AreLifted, are_neighbours, blocks_in};
 ghost use Rattle.fab_cost.specs.Runs.{HasRecords};
 
 use crate::records::Record;
 use crate::runs::Runs;
 use fab_net::{BlockId, Design};
 
-/// Raises the number of a block to a stamp. Beyond the end there is none.
+/// Raises the number of a block to a stamp, if it is lower. Beyond the end there is none.
 pub fn lift_one(numbers: &mut Vec<u64>, block: usize, stamp: u64)
-    ensures { AreLifted numbers.old.items numbers.new.items stamp (block ∷ []) }
+    ensures { AreLifted (λ k. k == block) stamp numbers.old.items numbers.new.items }
 {
     if block < numbers.len() && numbers[block] < stamp {
         numbers[block] = stamp;
@@ -19,7 +20,8 @@ pub fn lift_one(numbers: &mut Vec<u64>, block: usize, stamp: u64)
 
 /// Raises the numbers of the blocks on a record to a stamp.
 fn lift_record<const W: usize>(numbers: &mut Vec<u64>, net: &Record<W>, stamp: u64)
-    ensures { AreLifted numbers.old.items numbers.new.items stamp net.now.others }
+    ensures { AreLifted (λ k.
+        has_number k net.now.others) stamp numbers.old.items numbers.new.items }
 {
     'others: for i in 0..W {
         lift_one(numbers, net.others[i] as usize, stamp);
@@ -28,7 +30,8 @@ fn lift_record<const W: usize>(numbers: &mut Vec<u64>, net: &Record<W>, stamp: u
 
 /// Raises the numbers of the blocks on some records to a stamp.
 fn lift_records<const W: usize>(numbers: &mut Vec<u64>, records: &[Record<W>], stamp: u64)
-    ensures { AreLifted numbers.old.items numbers.new.items stamp (blocks_in records.now) }
+    ensures { AreLifted (λ k.
+        has_number k (blocks_in records.now)) stamp numbers.old.items numbers.new.items }
 {
     'records: for i in 0..records.len() {
         lift_record(numbers, &records[i], stamp);
@@ -45,7 +48,9 @@ pub(crate) fn lift_near(
 )
     requires records { HasRecords runs.now _design.now }
     requires block { block.0 < length _design.now.kinds }
-    ensures { IsLiftedNear _design.now block.0 numbers.old.items numbers.new.items stamp }
+    requires long { length numbers.old.items ≤ length _design.now.kinds }
+    ensures { AreLifted (are_neighbours _design.now block.0) stamp numbers.old.items
+        numbers.new.items }
 {
     let row = block.0 as usize;
     lift_records(numbers, runs.rows.small_row(row), stamp);

@@ -134,7 +134,28 @@ pub(crate) fn together(
     })
 }
 
+/// Reads a record, if there is one there.
+fn read_record<const W: usize>(records: &[Record<W>], place: u32) -> u64 {
+    match records.get(place as usize) {
+        Some(record) => u64::from(record.factor),
+        None => 0,
+    }
+}
+
 impl SizedRows {
+    /// Reads where the rows of a block begin, and what lies there: its first records, or those of a later block. What it returns has no
+    /// meaning.
+    pub(crate) fn read_early(&self, r: usize) -> u64 {
+        match self.starts.get(r) {
+            Some(starts) => {
+                read_record(&self.small, starts[0])
+                    ^ read_record(&self.middle, starts[1])
+                    ^ read_record(&self.wide, starts[2])
+            }
+            None => 0,
+        }
+    }
+
     /// The records of a block's nets with 2 to 4 terminals.
     #[inline(always)]
     pub(crate) fn small_row(&self, r: usize) -> &[Record<3>]

@@ -19,6 +19,6 @@ mod windows;
 pub use acceptance::accepts;
 pub use judgement::{decide, footprint_of, judge, weigh};
 pub use marks::{Footprint, Mark};
-pub use proposals::{Proposal, propose};
+pub use proposals::{Proposal, chosen, propose};
 pub use stream_words::StreamWords;
 pub use verdicts::{Decision, Verdict, View};

@@ -53,8 +53,8 @@ pub fn propose(
     }
 }
 
-/// The block that a word picks among those that may move; `None` if no block may move.
-fn chosen(design: &Design, fixed: &Fixed, word: u32) -> Option<BlockId>
+/// The block that a word picks among those that may move; `None` if no block may move. Allocates nothing.
+pub fn chosen(design: &Design, fixed: &Fixed, word: u32) -> Option<BlockId>
     requires { (b : ℕ) (s : Site) → fixed_at fixed.now b ≡ Some s → b < length design.now.kinds }
     ensures { number_of result ≡
         slice_get (movable design.now fixed.now)

@@ -1,13 +1,14 @@
 -- What a piece answers and leaves, said of the piece that is asked for.
-use Rattle.std.proofs.Common.{◌≡◌, ℕ, ◌⊎◌, Bool, true, List, Option, Some, sym, ap, subst, ◌∙◌, inl, inr}
+use Rattle.std.proofs.Common.{◌≡◌, ◌≢◌, ℕ, ◌⊎◌, Bool, true, List, Option, Some, refl, sym, ap, subst, ◌∙◌, inl, inr}
 use Rattle.std.specs.Prelude.{Result, Ok, Err, IfOk, IfErr, OnErr}
 use Rattle.fab_file.specs.declared.fault.PlaceFault.TheVariants.{Write}
-use Rattle.fab_run.specs.Check.{report_failed_with}
+use Rattle.fab_run.specs.Check.{IsTextFault, report_failed_with}
 use Rattle.fab_commit.specs.Run.Noted.{noted}
 use Rattle.fab_run.specs.Counted.{Answers, Counts}
 use Rattle.fab_run.specs.Ends.{Answer, AreRedone, IsReportCutOf, IsReportOf, Piece, answer_of}
-use Rattle.fab_run.specs.Placed.{IsDeviceFault, IsMade, IsPlaceCut, IsPlaced, IsReportBegun, IsReportCut, IsTextCut, IsUnreadyFor}
-use Rattle.fab_run.specs.RunChecks.{place_failed_with}
+use Rattle.fab_run.specs.Placed.{IsDeviceFault, IsMade, IsPlaced, IsTextCut, IsUnreadyFor}
+use Rattle.fab_run.specs.RunChecks.{IsRefusal, place_failed_with}
+use Rattle.fab_run.specs.CutShort.{IsCutShort}
 use Rattle.fab_run.specs.Setting.{Texts}
 use Rattle.fab_run.specs.declared.fault.RunFault.{RunFault}
 use Rattle.fab_run.specs.declared.fault.RunFault.TheVariants.{Place, Report, NoMemory}
@@ -40,22 +41,8 @@ pub redone_asked : (again : Bool) (Asked : Piece → Type 0) (p : Piece) (batch 
 redone_asked again Asked p batch (Ok out) asked redone = (p, asked, redone)
 redone_asked again Asked p batch (Err e) asked redone = tt
 
-pub cut_asked : (Asked : Piece → Type 0) (p : Piece) (r : Answered) (old new : Option (List ℕ)) → Asked p → OnErr r (IsReportOf p old new) → OnErr r ((new ≡ old) ⊎ IsReportBegun Asked old new)
-cut_asked Asked p (Ok out) old new asked cut = tt
-cut_asked Asked p (Err e) old new asked cut = inr (p, asked, cut)
-
-pub report_cut_asked : (Asked : Piece → Type 0) (p : Piece) (r : Answered) (old new : Option (List ℕ)) → Asked p → IfErr r (λ e. e ≡ Report → IsReportCutOf p old new) → IfErr r (λ e. e ≡ Report → IsReportCut Asked old new)
-report_cut_asked Asked p (Ok out) old new asked cut = tt
-report_cut_asked Asked p (Err e) old new asked cut = λ q. (p, asked, cut q)
-
-pub place_cut_asked : (may_be_unready : Bool) (Asked : Piece → Type 0) (t : Texts) (p : Piece) (r : Answered) (report_old report_new place_old place_new : Option (List ℕ)) → Asked p
-    → IfErr r (λ e. e ≡ Place Write → IsUnreadyFor may_be_unready p report_old report_new place_old place_new ⊎ IsTextCut t p report_old report_new place_old place_new)
-    → IfErr r (λ e. e ≡ Place Write → IsPlaceCut may_be_unready Asked t report_old report_new place_old place_new)
-place_cut_asked may_be_unready Asked t p (Ok out) report_old report_new place_old place_new asked cut = tt
-place_cut_asked may_be_unready Asked t p (Err e) report_old report_new place_old place_new asked cut = λ q. (p, asked, cut q)
-
 -- one of three faults
-by_device : (P : RunFault → Type 0) (a b c d : ℕ) (e : RunFault) → P NoMemory → P Report → P (Place Write) → IsDeviceFault a b c d e → P e
+pub by_device : (P : RunFault → Type 0) (a b c d : ℕ) (e : RunFault) → P NoMemory → P Report → P (Place Write) → IsDeviceFault a b c d e → P e
 by_device P a b c d e memory report place (inl h) = elim (h.0) [ inl q ↦ subst P (sym q.0) memory | inr q ↦ subst P (sym q.0) report ]
 by_device P a b c d e memory report place (inr h) = subst P (sym h.0) place
 
@@ -74,3 +61,32 @@ failed_by a b c d e (inr h) = (h.1 ∙ ap (λ f. report_failed_with f a) (sym h.
 pub failed_of_device : (a b c d : ℕ) (r : Answered) → IfErr r (IsDeviceFault a b c d) → IfErr r (λ e. (b ≡ report_failed_with e a) × (d ≡ place_failed_with e c))
 failed_of_device a b c d (Ok out) h = tt
 failed_of_device a b c d (Err e) h = failed_by a b c d e h
+
+-- a fault of the texts or a lack of memory leaves everything as it was
+pub nothing_written : (Asked : Piece → Type 0) (t : Texts) (may_be_unready : Bool) (report place : Option (List ℕ)) (e : RunFault) → IsTextFault e → IsCutShort Asked t may_be_unready report report place place e
+nothing_written Asked t may_be_unready report place e text =
+    record {
+      silent = λ h. refl;
+      begun = inl refl;
+      report = λ q. absurd (subst IsTextFault q text);
+      unplaced = λ h. refl;
+      place = λ q. absurd (subst IsTextFault q text);
+    }
+
+-- what a piece leaves, said of the piece that is asked for
+pub short_asked : (Asked : Piece → Type 0) (t : Texts) (may_be_unready : Bool) (p : Piece) (a b c d : ℕ) (r : Answered) (report_old report_new place_old place_new : Option (List ℕ)) → Asked p
+    → IfErr r (IsDeviceFault a b c d)
+    → OnErr r (IsReportOf p report_old report_new)
+    → IfErr r (λ e. e ≡ Report → IsReportCutOf p report_old report_new)
+    → IfErr r (λ e. e ≢ Place Write → place_new ≡ place_old)
+    → IfErr r (λ e. e ≡ Place Write → IsUnreadyFor may_be_unready p report_old report_new place_old place_new ⊎ IsTextCut t p report_old report_new place_old place_new)
+    → IfErr r (IsCutShort Asked t may_be_unready report_old report_new place_old place_new)
+short_asked Asked t may_be_unready p a b c d (Ok out) report_old report_new place_old place_new asked fault begun report unplaced place = tt
+short_asked Asked t may_be_unready p a b c d (Err e) report_old report_new place_old place_new asked fault begun report unplaced place =
+    record {
+      silent = by_device (λ f. IsRefusal f → report_new ≡ report_old) a b c d e (λ h. absurd h) (λ h. absurd h) (λ h. absurd h) fault;
+      begun = inr (p, asked, begun);
+      report = λ q. (p, asked, report q);
+      unplaced = unplaced;
+      place = λ q. (p, asked, place q);
+    }

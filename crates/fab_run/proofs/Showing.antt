@@ -1,6 +1,6 @@
 -- What the turns of a piece show.
-use Rattle.std.proofs.Common.{◌≡◌, ℕ, ◌+◌, ◌-◌, ◌<◌, ◌≤◌, ◌⊎◌, min, List, [], ◌∷◌, ◌++◌, Ok, Option, sym, ap, subst, ◌∙◌, arith, inl, inr}
-use Rattle.std.specs.Prelude.{Err, OnOk, OnErr}
+use Rattle.std.proofs.Common.{◌≡◌, ℕ, ◌+◌, ◌-◌, ◌<◌, ◌≤◌, ◌⊎◌, min, List, [], ◌∷◌, ◌++◌, Ok, Option, refl, sym, ap, subst, ◌∙◌, arith, inl, inr}
+use Rattle.std.specs.Prelude.{Err, IfErr, OnOk, OnErr}
 use Rattle.std.proofs.lemmas.List.{append-nil}
 use Rattle.fab_dial.specs.declared.readings.Reading.{Reading}
 use Rattle.fab_commit.specs.declared.run.turn.Turn.{Turn}
@@ -10,8 +10,12 @@ use Rattle.fab_commit.specs.Run.Readings.{HasShown, IsShown, reading_at, reading
 use Rattle.fab_commit.specs.Run.Turned.{IsTurned}
 use Rattle.fab_commit.proofs.RunLemmas.Showing.{cut_first, shown_behind, shown_on}
 use Rattle.fab_run.specs.Ends.{IsPiece, IsWithin, Piece}
-use Rattle.fab_run.specs.Shown.{AreShown, AreShownBegun, AreShownInPart, EndsShown, HaveShown, HaveShownInPart, LeadsShown, LeadsShownWithin}
-use Rattle.fab_run.proofs.Lifting.{Answered}
+use Rattle.fab_run.specs.Shown.{AreShown, AreShownBegun, AreShownInPart, EndsShown, HaveShown, LeadsShown, LeadsShownWithin}
+use Rattle.fab_run.specs.CutShort.{IsShownShort}
+use Rattle.fab_run.specs.Placed.{IsDeviceFault}
+use Rattle.fab_run.specs.RunChecks.{IsRefusal}
+use Rattle.fab_run.specs.declared.fault.RunFault.{RunFault}
+use Rattle.fab_run.proofs.Lifting.{Answered, by_device}
 use Rattle.fab_run.proofs.Whole.{none_within, within_by}
 
 pub leads_none : (r : Run) (batch : ℕ) (a : Standing) (old : List Reading) → LeadsShown r batch a a old old
@@ -108,6 +112,12 @@ pub shown_asked : (Asked : Piece → Type 0) (p : Piece) (batch : ℕ) (r : Answ
 shown_asked Asked p batch (Ok out) old new asked shown = (p, asked, shown)
 shown_asked Asked p batch (Err e) old new asked shown = tt
 
-pub part_asked : (Asked : Piece → Type 0) (p : Piece) (batch : ℕ) (r : Answered) (old new : List Reading) → Asked p → OnErr r (AreShownInPart p batch old new) → OnErr r ((new ≡ old) ⊎ HaveShownInPart Asked batch old new)
-part_asked Asked p batch (Ok out) old new asked shown = tt
-part_asked Asked p batch (Err e) old new asked shown = inr (p, asked, shown)
+pub short_shown : (Asked : Piece → Type 0) (p : Piece) (batch : ℕ) (a b c d : ℕ) (r : Answered) (old new : List Reading) → Asked p → IfErr r (IsDeviceFault a b c d) → OnErr r (AreShownInPart p batch old new)
+    → IfErr r (IsShownShort Asked batch old new)
+short_shown Asked p batch a b c d (Ok out) old new asked fault begun = tt
+short_shown Asked p batch a b c d (Err e) old new asked fault begun =
+    record { unshown = by_device (λ f. IsRefusal f → new ≡ old) a b c d e (λ h. absurd h) (λ h. absurd h) (λ h. absurd h) fault; begun = inr (p, asked, begun) }
+
+-- a fault before the first move shows nothing
+pub nothing_shown : (Asked : Piece → Type 0) (batch : ℕ) (old : List Reading) (e : RunFault) → IsShownShort Asked batch old old e
+nothing_shown Asked batch old e = record { unshown = λ h. refl; begun = inl refl }

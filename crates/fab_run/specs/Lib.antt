@@ -23,5 +23,6 @@ pub mod PointText
 pub mod PointExamples
 pub mod Chains
 pub mod Shown
+pub mod CutShort
 pub mod Watched
 pub mod Standings

@@ -2,16 +2,15 @@
 //! run as the one that answers the numbers. They do not answer how many moves turns of the batch judge again, so what a move rests on is
 //! looked at only where a crew judged it ahead. The contract says the same of all else.
 
-ghost use Rattle.std.specs.Prelude.{◌≡◌, ◌≢◌, ◌⊎◌, OnOk, OnErr, IfOk, IfErr};
+ghost use Rattle.std.specs.Prelude.{◌≡◌, OnOk, IfOk, IfErr};
 ghost use Rattle.fab_run.specs.Check.{report_failed_with};
 ghost use Rattle.fab_run.specs.Counted.{Counts};
 ghost use Rattle.fab_run.specs.Going.{Going, IsGoing, IsGoingFault};
 ghost use Rattle.fab_run.specs.Setting.{IsSetting, Setting, texts_of};
 ghost use Rattle.fab_run.specs.RunChecks.{IsRefusal, IsRunFault, place_failed_with};
-ghost use Rattle.fab_run.specs.Shown.{HaveShown, HaveShownInPart};
-ghost use Rattle.fab_run.specs.Placed.{AskFor, AskToGoOn, IsPlaceCut, IsPlaced, IsReportBegun, IsReportCut};
-ghost use Rattle.fab_run.specs.declared.fault.RunFault.TheVariants.{Place, Report};
-ghost use Rattle.fab_file.specs.declared.fault.PlaceFault.TheVariants.{Write};
+ghost use Rattle.fab_run.specs.Shown.{HaveShown};
+ghost use Rattle.fab_run.specs.CutShort.{IsCutShort, IsShownShort};
+ghost use Rattle.fab_run.specs.Placed.{AskFor, AskToGoOn, IsPlaced};
 
 use crate::fault::RunFault;
 use crate::fresh_run::place_ended;
@@ -50,24 +49,11 @@ pub fn place_run_counted_shown<G: Gate, R: AllocGlobal + Threads + Wait + Sync, 
         IfErr result (λ e. ¬ IsRefusal e) }
     // An error is the first check that fails, a lack of memory, or the failure of a writer.
     ensures fault { IfErr result (IsRunFault (texts_of inputs.now) options.now) }
-    // A refused run writes nothing. After any other fault, a beginning of the report may have been written.
-    ensures silent { IfErr result (λ e.
-        IsRefusal e → W.contents report.new ≡ W.contents report.old) }
-    ensures cut { OnErr result ((W.contents report.new ≡ W.contents report.old) ⊎
-        IsReportBegun (AskFor (texts_of inputs.now) options.now) (W.contents report.old)
-        (W.contents report.new)) }
-    ensures report_cut { IfErr result (λ e.
-        e ≡ Report →
-        IsReportCut (AskFor (texts_of inputs.now) options.now) (W.contents report.old)
-        (W.contents report.new)) }
-    // The place text is written after the whole report, and only its own writer can cut it short. If that is not ready, no move is
-    // made.
-    ensures unplaced { IfErr result (λ e.
-        e ≢ Place Write → P.contents place.new ≡ P.contents place.old) }
-    ensures place_cut { IfErr result (λ e.
-        e ≡ Place Write →
-        IsPlaceCut P.may_be_unready (AskFor (texts_of inputs.now) options.now) (texts_of inputs.now)
-        (W.contents report.old) (W.contents report.new) (P.contents place.old)
+    // A refused run writes nothing. Any other fault leaves a beginning of the report. Only the place text's own writer can cut that text
+    // short, and only once the whole report is written; if it is not ready, no move is made.
+    ensures cut_short { IfErr result
+        (IsCutShort (AskFor (texts_of inputs.now) options.now) (texts_of inputs.now)
+        P.may_be_unready (W.contents report.old) (W.contents report.new) (P.contents place.old)
         (P.contents place.new)) }
     // A writer failed only if the answer says so.
     ensures sound { OnOk result ((W.failed report.new ≡ W.failed report.old) ×
@@ -80,9 +66,8 @@ pub fn place_run_counted_shown<G: Gate, R: AllocGlobal + Threads + Wait + Sync, 
         (HaveShown (AskFor (texts_of inputs.now) options.now) options.now.batch shower.old.shown
         shower.new.shown) }
     // A refused run shows nothing. Any other fault leaves a beginning of these readings.
-    ensures unshown { IfErr result (λ e. IsRefusal e → shower.new.shown ≡ shower.old.shown) }
-    ensures shown_cut { OnErr result ((shower.new.shown ≡ shower.old.shown) ⊎
-        HaveShownInPart (AskFor (texts_of inputs.now) options.now) options.now.batch
+    ensures shown_short { IfErr result
+        (IsShownShort (AskFor (texts_of inputs.now) options.now) options.now.batch
         shower.old.shown shower.new.shown) }
     ensures dial { shower.new.dial ≡ shower.old.dial }
 {
@@ -113,24 +98,11 @@ pub fn place_run_counted<R: AllocGlobal + Threads + Wait + Sync, W: Sink, P: Sin
         IfErr result (λ e. ¬ IsRefusal e) }
     // An error is the first check that fails, a lack of memory, or the failure of a writer.
     ensures fault { IfErr result (IsRunFault (texts_of inputs.now) options.now) }
-    // A refused run writes nothing. After any other fault, a beginning of the report may have been written.
-    ensures silent { IfErr result (λ e.
-        IsRefusal e → W.contents report.new ≡ W.contents report.old) }
-    ensures cut { OnErr result ((W.contents report.new ≡ W.contents report.old) ⊎
-        IsReportBegun (AskFor (texts_of inputs.now) options.now) (W.contents report.old)
-        (W.contents report.new)) }
-    ensures report_cut { IfErr result (λ e.
-        e ≡ Report →
-        IsReportCut (AskFor (texts_of inputs.now) options.now) (W.contents report.old)
-        (W.contents report.new)) }
-    // The place text is written after the whole report, and only its own writer can cut it short. If that is not ready, no move is
-    // made.
-    ensures unplaced { IfErr result (λ e.
-        e ≢ Place Write → P.contents place.new ≡ P.contents place.old) }
-    ensures place_cut { IfErr result (λ e.
-        e ≡ Place Write →
-        IsPlaceCut P.may_be_unready (AskFor (texts_of inputs.now) options.now) (texts_of inputs.now)
-        (W.contents report.old) (W.contents report.new) (P.contents place.old)
+    // A refused run writes nothing. Any other fault leaves a beginning of the report. Only the place text's own writer can cut that text
+    // short, and only once the whole report is written; if it is not ready, no move is made.
+    ensures cut_short { IfErr result
+        (IsCutShort (AskFor (texts_of inputs.now) options.now) (texts_of inputs.now)
+        P.may_be_unready (W.contents report.old) (W.contents report.new) (P.contents place.old)
         (P.contents place.new)) }
     // A writer failed only if the answer says so.
     ensures sound { OnOk result ((W.failed report.new ≡ W.failed report.old) ×
@@ -175,24 +147,11 @@ pub fn resume_run_counted<R: AllocGlobal + Threads + Wait + Sync, W: Sink, P: Si
         IfErr result (λ e. ¬ IsRefusal e) }
     // An error is the first check that fails, a lack of memory, or the failure of a writer.
     ensures fault { IfErr result (IsGoingFault (texts_of inputs.now) point.now batch workers) }
-    // A refused run writes nothing. After any other fault, a beginning of the report may have been written.
-    ensures silent { IfErr result (λ e.
-        IsRefusal e → W.contents report.new ≡ W.contents report.old) }
-    ensures cut { OnErr result ((W.contents report.new ≡ W.contents report.old) ⊎
-        IsReportBegun (AskToGoOn (texts_of inputs.now) point.now batch workers stop)
-        (W.contents report.old) (W.contents report.new)) }
-    ensures report_cut { IfErr result (λ e.
-        e ≡ Report →
-        IsReportCut (AskToGoOn (texts_of inputs.now) point.now batch workers stop)
-        (W.contents report.old) (W.contents report.new)) }
-    // The place text is written after the whole report, and only its own writer can cut it short. If that writer is not ready, no move is
-    // made.
-    ensures unplaced { IfErr result (λ e.
-        e ≢ Place Write → P.contents place.new ≡ P.contents place.old) }
-    ensures place_cut { IfErr result (λ e.
-        e ≡ Place Write →
-        IsPlaceCut P.may_be_unready (AskToGoOn (texts_of inputs.now) point.now batch workers stop)
-        (texts_of inputs.now) (W.contents report.old) (W.contents report.new)
+    // A refused run writes nothing. Any other fault leaves a beginning of the report. Only the place text's own writer can cut that text
+    // short, and only once the whole report is written; if it is not ready, no move is made.
+    ensures cut_short { IfErr result
+        (IsCutShort (AskToGoOn (texts_of inputs.now) point.now batch workers stop)
+        (texts_of inputs.now) P.may_be_unready (W.contents report.old) (W.contents report.new)
         (P.contents place.old) (P.contents place.new)) }
     // A writer failed only if the answer says so.
     ensures sound { OnOk result ((W.failed report.new ≡ W.failed report.old) ×

@@ -1,6 +1,6 @@
 //! A run from its start placement: from texts and numbers to a placement, or to a point where it stops.
 
-ghost use Rattle.std.specs.Prelude.{◌≡◌, ◌≢◌, ◌⊎◌, true, [], OnOk, OnErr, IfOk, IfErr};
+ghost use Rattle.std.specs.Prelude.{◌≡◌, true, [], OnOk, IfOk, IfErr};
 ghost use Rattle.fab_arch.specs.Grid.{Holds};
 ghost use Rattle.fab_net.specs.Netlist.{logic_count, pad_count};
 ghost use Rattle.fab_site.specs.Pins.{ArePins};
@@ -9,10 +9,9 @@ ghost use Rattle.fab_run.specs.Counted.{Answers};
 ghost use Rattle.fab_run.specs.Ends.{AreRedone, Piece as PieceAsked, answer_of};
 ghost use Rattle.fab_run.specs.Setting.{IsSetting, Setting, setting_of, texts_of};
 ghost use Rattle.fab_run.specs.RunChecks.{IsRefusal, IsRunFault, place_failed_with};
-ghost use Rattle.fab_run.specs.Shown.{HaveShown, HaveShownInPart};
-ghost use Rattle.fab_run.specs.Placed.{AskFor, IsPlaceCut, IsPlaced, IsReportBegun, IsReportCut, head_by, start_by};
-ghost use Rattle.fab_run.specs.declared.fault.RunFault.TheVariants.{Place, Report};
-ghost use Rattle.fab_file.specs.declared.fault.PlaceFault.TheVariants.{Write};
+ghost use Rattle.fab_run.specs.Shown.{HaveShown};
+ghost use Rattle.fab_run.specs.CutShort.{IsCutShort, IsShownShort};
+ghost use Rattle.fab_run.specs.Placed.{AskFor, IsPlaced, head_by, start_by};
 
 use crate::fault::RunFault;
 use crate::inputs::{Inputs, Options, Outcome};
@@ -128,21 +127,9 @@ pub(crate) fn place_ended<
     ensures only { (s : Setting) → IsSetting (texts_of inputs.now) options.now s →
         IfErr result (λ e. ¬ IsRefusal e) }
     ensures fault { IfErr result (IsRunFault (texts_of inputs.now) options.now) }
-    ensures silent { IfErr result (λ e.
-        IsRefusal e → W.contents report.new ≡ W.contents report.old) }
-    ensures cut { OnErr result ((W.contents report.new ≡ W.contents report.old) ⊎
-        IsReportBegun (AskFor (texts_of inputs.now) options.now) (W.contents report.old)
-        (W.contents report.new)) }
-    ensures report_cut { IfErr result (λ e.
-        e ≡ Report →
-        IsReportCut (AskFor (texts_of inputs.now) options.now) (W.contents report.old)
-        (W.contents report.new)) }
-    ensures unplaced { IfErr result (λ e.
-        e ≢ Place Write → P.contents place.new ≡ P.contents place.old) }
-    ensures place_cut { IfErr result (λ e.
-        e ≡ Place Write →
-        IsPlaceCut P.may_be_unready (AskFor (texts_of inputs.now) options.now) (texts_of inputs.now)
-        (W.contents report.old) (W.contents report.new) (P.contents place.old)
+    ensures cut_short { IfErr result
+        (IsCutShort (AskFor (texts_of inputs.now) options.now) (texts_of inputs.now)
+        P.may_be_unready (W.contents report.old) (W.contents report.new) (P.contents place.old)
         (P.contents place.new)) }
     ensures sound { OnOk result ((W.failed report.new ≡ W.failed report.old) ×
         (P.failed place.new ≡ P.failed place.old)) }
@@ -152,9 +139,8 @@ pub(crate) fn place_ended<
     ensures shown { OnOk result
         (HaveShown (AskFor (texts_of inputs.now) options.now) options.now.batch shower.old.shown
         shower.new.shown) }
-    ensures unshown { IfErr result (λ e. IsRefusal e → shower.new.shown ≡ shower.old.shown) }
-    ensures shown_cut { OnErr result ((shower.new.shown ≡ shower.old.shown) ⊎
-        HaveShownInPart (AskFor (texts_of inputs.now) options.now) options.now.batch
+    ensures shown_short { IfErr result
+        (IsShownShort (AskFor (texts_of inputs.now) options.now) options.now.batch
         shower.old.shown shower.new.shown) }
     ensures dial { shower.new.dial ≡ shower.old.dial }
 {
@@ -213,24 +199,11 @@ pub fn place_run_shown<G: Gate, R: AllocGlobal + Threads + Wait + Sync, W: Sink,
         IfErr result (λ e. ¬ IsRefusal e) }
     // An error is the first check that fails, a lack of memory, or the failure of a writer.
     ensures fault { IfErr result (IsRunFault (texts_of inputs.now) options.now) }
-    // A refused run writes nothing. After any other fault, a beginning of the report may have been written.
-    ensures silent { IfErr result (λ e.
-        IsRefusal e → W.contents report.new ≡ W.contents report.old) }
-    ensures cut { OnErr result ((W.contents report.new ≡ W.contents report.old) ⊎
-        IsReportBegun (AskFor (texts_of inputs.now) options.now) (W.contents report.old)
-        (W.contents report.new)) }
-    ensures report_cut { IfErr result (λ e.
-        e ≡ Report →
-        IsReportCut (AskFor (texts_of inputs.now) options.now) (W.contents report.old)
-        (W.contents report.new)) }
-    // The place text is written after the whole report, and only its own writer can cut it short. If that is not ready, no move is
-    // made.
-    ensures unplaced { IfErr result (λ e.
-        e ≢ Place Write → P.contents place.new ≡ P.contents place.old) }
-    ensures place_cut { IfErr result (λ e.
-        e ≡ Place Write →
-        IsPlaceCut P.may_be_unready (AskFor (texts_of inputs.now) options.now) (texts_of inputs.now)
-        (W.contents report.old) (W.contents report.new) (P.contents place.old)
+    // A refused run writes nothing. Any other fault leaves a beginning of the report. Only the place text's own writer can cut that text
+    // short, and only once the whole report is written; if it is not ready, no move is made.
+    ensures cut_short { IfErr result
+        (IsCutShort (AskFor (texts_of inputs.now) options.now) (texts_of inputs.now)
+        P.may_be_unready (W.contents report.old) (W.contents report.new) (P.contents place.old)
         (P.contents place.new)) }
     // A writer failed only if the answer says so.
     ensures sound { OnOk result ((W.failed report.new ≡ W.failed report.old) ×
@@ -243,9 +216,8 @@ pub fn place_run_shown<G: Gate, R: AllocGlobal + Threads + Wait + Sync, W: Sink,
         (HaveShown (AskFor (texts_of inputs.now) options.now) options.now.batch shower.old.shown
         shower.new.shown) }
     // A refused run shows nothing. Any other fault leaves a beginning of these readings.
-    ensures unshown { IfErr result (λ e. IsRefusal e → shower.new.shown ≡ shower.old.shown) }
-    ensures shown_cut { OnErr result ((shower.new.shown ≡ shower.old.shown) ⊎
-        HaveShownInPart (AskFor (texts_of inputs.now) options.now) options.now.batch
+    ensures shown_short { IfErr result
+        (IsShownShort (AskFor (texts_of inputs.now) options.now) options.now.batch
         shower.old.shown shower.new.shown) }
     ensures dial { shower.new.dial ≡ shower.old.dial }
 {
@@ -288,24 +260,11 @@ pub fn place_run<R: AllocGlobal + Threads + Wait + Sync, W: Sink, P: Sink>(
         IfErr result (λ e. ¬ IsRefusal e) }
     // An error is the first check that fails, a lack of memory, or the failure of a writer.
     ensures fault { IfErr result (IsRunFault (texts_of inputs.now) options.now) }
-    // A refused run writes nothing. After any other fault, a beginning of the report may have been written.
-    ensures silent { IfErr result (λ e.
-        IsRefusal e → W.contents report.new ≡ W.contents report.old) }
-    ensures cut { OnErr result ((W.contents report.new ≡ W.contents report.old) ⊎
-        IsReportBegun (AskFor (texts_of inputs.now) options.now) (W.contents report.old)
-        (W.contents report.new)) }
-    ensures report_cut { IfErr result (λ e.
-        e ≡ Report →
-        IsReportCut (AskFor (texts_of inputs.now) options.now) (W.contents report.old)
-        (W.contents report.new)) }
-    // The place text is written after the whole report, and only its own writer can cut it short. If that is not ready, no move is
-    // made.
-    ensures unplaced { IfErr result (λ e.
-        e ≢ Place Write → P.contents place.new ≡ P.contents place.old) }
-    ensures place_cut { IfErr result (λ e.
-        e ≡ Place Write →
-        IsPlaceCut P.may_be_unready (AskFor (texts_of inputs.now) options.now) (texts_of inputs.now)
-        (W.contents report.old) (W.contents report.new) (P.contents place.old)
+    // A refused run writes nothing. Any other fault leaves a beginning of the report. Only the place text's own writer can cut that text
+    // short, and only once the whole report is written; if it is not ready, no move is made.
+    ensures cut_short { IfErr result
+        (IsCutShort (AskFor (texts_of inputs.now) options.now) (texts_of inputs.now)
+        P.may_be_unready (W.contents report.old) (W.contents report.new) (P.contents place.old)
         (P.contents place.new)) }
     // A writer failed only if the answer says so.
     ensures sound { OnOk result ((W.failed report.new ≡ W.failed report.old) ×

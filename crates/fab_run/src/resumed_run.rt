@@ -1,6 +1,6 @@
 //! Resumes a run from a checkpoint text.
 
-ghost use Rattle.std.specs.Prelude.{◌≡◌, ◌≢◌, ◌⊎◌, true, OnOk, OnErr, IfOk, IfErr};
+ghost use Rattle.std.specs.Prelude.{◌≡◌, true, OnOk, IfOk, IfErr};
 ghost use Rattle.fab_file.specs.Written.{are_labels as labels_are};
 ghost use Rattle.fab_run.specs.Check.{IsTextFault, report_failed_with};
 ghost use Rattle.fab_run.specs.Counted.{Answers};
@@ -8,10 +8,10 @@ ghost use Rattle.fab_run.specs.Ends.{AreRedone, Piece as PieceAsked, answer_of};
 ghost use Rattle.fab_run.specs.Going.{Going, HasPoint, IsGoing, IsGoingFault, IsGoingNumberFault, IsGoingTextFault};
 ghost use Rattle.fab_run.specs.Setting.{Within, texts_of};
 ghost use Rattle.fab_run.specs.RunChecks.{IsRefusal, place_failed_with};
-ghost use Rattle.fab_run.specs.Shown.{HaveShown, HaveShownInPart};
-ghost use Rattle.fab_run.specs.Placed.{AskToGoOn, IsPlaceCut, IsPlaced, IsReportBegun, IsReportCut};
-ghost use Rattle.fab_run.specs.declared.fault.RunFault.TheVariants.{NoMemory, Place, Report};
-ghost use Rattle.fab_file.specs.declared.fault.PlaceFault.TheVariants.{Write};
+ghost use Rattle.fab_run.specs.Shown.{HaveShown};
+ghost use Rattle.fab_run.specs.CutShort.{IsCutShort, IsShownShort};
+ghost use Rattle.fab_run.specs.Placed.{AskToGoOn, IsPlaced};
+ghost use Rattle.fab_run.specs.declared.fault.RunFault.TheVariants.{NoMemory};
 
 use crate::designs::read_design;
 use crate::fault::RunFault;
@@ -120,21 +120,9 @@ pub(crate) fn resume_ended<
     ensures only { (s : Going) → IsGoing (texts_of inputs.now) point.now batch workers s →
         IfErr result (λ e. ¬ IsRefusal e) }
     ensures fault { IfErr result (IsGoingFault (texts_of inputs.now) point.now batch workers) }
-    ensures silent { IfErr result (λ e.
-        IsRefusal e → W.contents report.new ≡ W.contents report.old) }
-    ensures cut { OnErr result ((W.contents report.new ≡ W.contents report.old) ⊎
-        IsReportBegun (AskToGoOn (texts_of inputs.now) point.now batch workers stop)
-        (W.contents report.old) (W.contents report.new)) }
-    ensures report_cut { IfErr result (λ e.
-        e ≡ Report →
-        IsReportCut (AskToGoOn (texts_of inputs.now) point.now batch workers stop)
-        (W.contents report.old) (W.contents report.new)) }
-    ensures unplaced { IfErr result (λ e.
-        e ≢ Place Write → P.contents place.new ≡ P.contents place.old) }
-    ensures place_cut { IfErr result (λ e.
-        e ≡ Place Write →
-        IsPlaceCut P.may_be_unready (AskToGoOn (texts_of inputs.now) point.now batch workers stop)
-        (texts_of inputs.now) (W.contents report.old) (W.contents report.new)
+    ensures cut_short { IfErr result
+        (IsCutShort (AskToGoOn (texts_of inputs.now) point.now batch workers stop)
+        (texts_of inputs.now) P.may_be_unready (W.contents report.old) (W.contents report.new)
         (P.contents place.old) (P.contents place.new)) }
     ensures sound { OnOk result ((W.failed report.new ≡ W.failed report.old) ×
         (P.failed place.new ≡ P.failed place.old)) }
@@ -144,9 +132,8 @@ pub(crate) fn resume_ended<
     ensures shown { OnOk result
         (HaveShown (AskToGoOn (texts_of inputs.now) point.now batch workers stop) batch
         shower.old.shown shower.new.shown) }
-    ensures unshown { IfErr result (λ e. IsRefusal e → shower.new.shown ≡ shower.old.shown) }
-    ensures shown_cut { OnErr result ((shower.new.shown ≡ shower.old.shown) ⊎
-        HaveShownInPart (AskToGoOn (texts_of inputs.now) point.now batch workers stop) batch
+    ensures shown_short { IfErr result
+        (IsShownShort (AskToGoOn (texts_of inputs.now) point.now batch workers stop) batch
         shower.old.shown shower.new.shown) }
     ensures dial { shower.new.dial ≡ shower.old.dial }
 {
@@ -199,21 +186,9 @@ pub(crate) fn resume_run_shown<G: Gate, R: AllocGlobal + Threads + Wait + Sync, 
     ensures only { (s : Going) → IsGoing (texts_of inputs.now) point.now batch workers s →
         IfErr result (λ e. ¬ IsRefusal e) }
     ensures fault { IfErr result (IsGoingFault (texts_of inputs.now) point.now batch workers) }
-    ensures silent { IfErr result (λ e.
-        IsRefusal e → W.contents report.new ≡ W.contents report.old) }
-    ensures cut { OnErr result ((W.contents report.new ≡ W.contents report.old) ⊎
-        IsReportBegun (AskToGoOn (texts_of inputs.now) point.now batch workers stop)
-        (W.contents report.old) (W.contents report.new)) }
-    ensures report_cut { IfErr result (λ e.
-        e ≡ Report →
-        IsReportCut (AskToGoOn (texts_of inputs.now) point.now batch workers stop)
-        (W.contents report.old) (W.contents report.new)) }
-    ensures unplaced { IfErr result (λ e.
-        e ≢ Place Write → P.contents place.new ≡ P.contents place.old) }
-    ensures place_cut { IfErr result (λ e.
-        e ≡ Place Write →
-        IsPlaceCut P.may_be_unready (AskToGoOn (texts_of inputs.now) point.now batch workers stop)
-        (texts_of inputs.now) (W.contents report.old) (W.contents report.new)
+    ensures cut_short { IfErr result
+        (IsCutShort (AskToGoOn (texts_of inputs.now) point.now batch workers stop)
+        (texts_of inputs.now) P.may_be_unready (W.contents report.old) (W.contents report.new)
         (P.contents place.old) (P.contents place.new)) }
     ensures sound { OnOk result ((W.failed report.new ≡ W.failed report.old) ×
         (P.failed place.new ≡ P.failed place.old)) }
@@ -223,9 +198,8 @@ pub(crate) fn resume_run_shown<G: Gate, R: AllocGlobal + Threads + Wait + Sync, 
     ensures shown { OnOk result
         (HaveShown (AskToGoOn (texts_of inputs.now) point.now batch workers stop) batch
         shower.old.shown shower.new.shown) }
-    ensures unshown { IfErr result (λ e. IsRefusal e → shower.new.shown ≡ shower.old.shown) }
-    ensures shown_cut { OnErr result ((shower.new.shown ≡ shower.old.shown) ⊎
-        HaveShownInPart (AskToGoOn (texts_of inputs.now) point.now batch workers stop) batch
+    ensures shown_short { IfErr result
+        (IsShownShort (AskToGoOn (texts_of inputs.now) point.now batch workers stop) batch
         shower.old.shown shower.new.shown) }
     ensures dial { shower.new.dial ≡ shower.old.dial }
 {
@@ -267,24 +241,11 @@ pub fn resume_run<R: AllocGlobal + Threads + Wait + Sync, W: Sink, P: Sink>(
         IfErr result (λ e. ¬ IsRefusal e) }
     // An error is the first check that fails, a lack of memory, or the failure of a writer.
     ensures fault { IfErr result (IsGoingFault (texts_of inputs.now) point.now batch workers) }
-    // A refused run writes nothing. After any other fault, a beginning of the report may have been written.
-    ensures silent { IfErr result (λ e.
-        IsRefusal e → W.contents report.new ≡ W.contents report.old) }
-    ensures cut { OnErr result ((W.contents report.new ≡ W.contents report.old) ⊎
-        IsReportBegun (AskToGoOn (texts_of inputs.now) point.now batch workers stop)
-        (W.contents report.old) (W.contents report.new)) }
-    ensures report_cut { IfErr result (λ e.
-        e ≡ Report →
-        IsReportCut (AskToGoOn (texts_of inputs.now) point.now batch workers stop)
-        (W.contents report.old) (W.contents report.new)) }
-    // The place text is written after the whole report, and only its own writer can cut it short. If that writer is not ready, no move is
-    // made.
-    ensures unplaced { IfErr result (λ e.
-        e ≢ Place Write → P.contents place.new ≡ P.contents place.old) }
-    ensures place_cut { IfErr result (λ e.
-        e ≡ Place Write →
-        IsPlaceCut P.may_be_unready (AskToGoOn (texts_of inputs.now) point.now batch workers stop)
-        (texts_of inputs.now) (W.contents report.old) (W.contents report.new)
+    // A refused run writes nothing. Any other fault leaves a beginning of the report. Only the place text's own writer can cut that text
+    // short, and only once the whole report is written; if it is not ready, no move is made.
+    ensures cut_short { IfErr result
+        (IsCutShort (AskToGoOn (texts_of inputs.now) point.now batch workers stop)
+        (texts_of inputs.now) P.may_be_unready (W.contents report.old) (W.contents report.new)
         (P.contents place.old) (P.contents place.new)) }
     // A writer failed only if the answer says so.
     ensures sound { OnOk result ((W.failed report.new ≡ W.failed report.old) ×

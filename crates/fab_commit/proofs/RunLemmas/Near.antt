@@ -11,7 +11,8 @@ use Rattle.fab_net.specs.declared.netlist_types.NetId.{NetId}
 use Rattle.fab_net.specs.BlockNets.{net_id}
 use Rattle.fab_net.specs.Netlist.{Netlist, counted, has_number, nets_of}
 use Rattle.fab_site.specs.declared.placement_types.Swap.{Swap}
-use Rattle.fab_cost.specs.Near.{AreLifted, IsLiftedNear}
+use Rattle.fab_cost.specs.Near.{AreLifted, are_neighbours}
+use Rattle.fab_cost.proofs.Lifting.{lifted_kept, lifted_up, neighbour}
 use Rattle.fab_cost.specs.Runs.{few_of, is_large}
 use Rattle.fab_cost.specs.Swapping.{blocks_of}
 use Rattle.fab_cost.proofs.Few.{nets_few}
@@ -34,13 +35,13 @@ among_names n (c ∷ cs) = ap (λ b. (n == c) || b) (among_names n cs)
 pub near_raised : (d : Netlist) (blocks nets later near mid new : List ℕ) (floor b x : ℕ) (ns : List NetId)
     → IsNear d blocks nets near floor → b < length blocks → ns ≡ map net_id (nets_of d b)
     → ((k : ℕ) → slice_index later k ≡ cond (list_any (λ (n : NetId). k == n.0) ns) x (slice_index nets k))
-    → AreLifted near mid x (b ∷ []) → IsLiftedNear d b mid new x
+    → AreLifted (λ k. k == b) x near mid → AreLifted (are_neighbours d b) x mid new
     → IsNear d (set blocks b x) later new floor
 near_raised d blocks nets later near mid new floor b x ns is low names each one all = record {
   long = all.long ∙ one.long ∙ is.long;
   own = λ k base at h f.
-      let was = one.kept k in
-      let more = all.kept k in
+      let was = kept_one k at in
+      let more = kept_all k at in
       elim (cases_Bool (k == b)) [
         | inl e ↦
             let up = own_raised k e at in
@@ -50,8 +51,8 @@ near_raised d blocks nets later near mid new floor b x ns is low names each one 
             rw (block_alone (record { 0 = b }) blocks x k low, n) old
       ];
   few = λ k n base at on small h f.
-      let was = one.kept k in
-      let more = all.kept k in
+      let was = kept_one k at in
+      let more = kept_all k at in
       elim (cases_Bool (list_any (λ (m : NetId). n == m.0) ns)) [
         | inl e ↦
             let up = on_its_net k n at on small (sym (ap (list_any (λ (m : NetId). n == m.0)) names ∙ among_names n (nets_of d b)) ∙ e) in
@@ -62,11 +63,17 @@ near_raised d blocks nets later near mid new floor b x ns is low names each one 
       ];
 }
   where
+    kept_one : (k : ℕ) → k < length d.kinds → slice_index near k ≤ slice_index mid k
+    kept_one k at = (let long = is.long in lifted_kept (λ v. v == b) x near mid one k (omega (arith, at, long)))
+
+    kept_all : (k : ℕ) → k < length d.kinds → slice_index mid k ≤ slice_index new k
+    kept_all k at = (let long = is.long in (let same = one.long in lifted_kept (are_neighbours d b) x mid new all k (omega (arith, at, long, same))))
+
     own_raised : (k : ℕ) → (k == b) ≡ true → k < length d.kinds → x ≤ slice_index new k
     own_raised k e at =
         let long = is.long in
-        let up = one.each k (omega (arith, at, long)) (or_left (k == b) false e) in
-        let more = all.kept k in
+        let up = lifted_up (λ v. v == b) x near mid one k (omega (arith, at, long)) e in
+        let more = kept_all k at in
         omega (arith, up, more)
 
     on_its_net : (k n : ℕ) → k < length d.kinds → has_number k (blocks_of d n) ≡ true → is_large d n ≡ false → has_number n (nets_of d b) ≡ true → x ≤ slice_index new k
@@ -76,7 +83,7 @@ near_raised d blocks nets later near mid new floor b x ns is low names each one 
           | inr e ↦
               let long = is.long in
               let same = one.long in
-              all.each k n (omega (arith, at, long, same)) at among small on e
+              lifted_up (are_neighbours d b) x mid new all k (omega (arith, at, long, same)) (neighbour d b k n e among small on)
         ]
 
 -- or the floor is raised

@@ -6,6 +6,7 @@ ghost use Rattle.std.specs.Arc.{arc_value};
 ghost use Rattle.fab_commit.specs.Run.Commits.{IsSound, run_for, standing_of};
 ghost use Rattle.fab_commit.specs.Run.Behind.{MayBeFollowed, after_post};
 
+use crate::run::early_reads::read_early;
 use crate::run::foreseen::{Foreseen, foresee};
 use crate::run::post::Post;
 use crate::run::state::{Given, State};
@@ -19,6 +20,8 @@ pub struct Behind<'a, 'g, W: Words + Drop, G: Gate> {
     given: Arc<Given<'a, W>>,
     state: State,
     gate: &'g G,
+    /// What was read early. It has no meaning, and is kept so that the compiler keeps the reads.
+    read: u64,
 }
 
 impl<'a, 'g, W: Words + Drop, G: Gate> Drop for Behind<'a, 'g, W, G> {
@@ -28,6 +31,7 @@ impl<'a, 'g, W: Words + Drop, G: Gate> Drop for Behind<'a, 'g, W, G> {
             given: _,
             state: _,
             gate: _,
+            read: _,
         } = self;
     }
 }
@@ -38,7 +42,12 @@ impl<'a, 'g, W: Words + Drop, G: Gate> Behind<'a, 'g, W, G> {
         requires sound { IsSound (run_for W.moves (arc_value given)) state }
         ensures { result ≡ record { given = arc_value given.entry; standing = standing_of state } }
     {
-        Behind { given, state, gate }
+        Behind {
+            given,
+            state,
+            gate,
+            read: 0,
+        }
     }
 }
 
@@ -140,6 +149,7 @@ impl<'a, 'g, W: Words + Drop, G: Gate> Follow<Post, Foreseen> for Behind<'a, 'g,
         let some = &mut words[..count as usize];
         self.gate.before_judge(first);
         given.words.fill_words(first, some);
+        let read = read_early(given, state, &*some);
         'places: for i in 0..count as usize {
             let number = first + i as u64;
             if i > 0 {
@@ -148,6 +158,7 @@ impl<'a, 'g, W: Words + Drop, G: Gate> Follow<Post, Foreseen> for Behind<'a, 'g,
             places[i] = foresee(given, state, number, some[i]);
             self.gate.after_judge(number);
         }
+        self.read ^= read;
         true
     }
 }

@@ -48,20 +48,15 @@ impl Foreseen {
         }
     }
 
-    /// Whether it is a swap that is rejected.
+    /// Whether it is rejected. A move that proposes no swap is.
     fn is_rejected(&self) -> bool
         ensures { result ≡ true → self.now.accepted ≡ false }
     {
-        let is_swap = match self.proposal {
-            Proposal::Move(_) => true,
-            Proposal::Nothing => false,
-            Proposal::Void(_, _) => false,
-        };
-        is_swap & !self.accepted
+        !self.accepted
     }
 }
 
-/// Whether all are swaps that are rejected. It looks at each, so that the cache lines that another processor wrote come over together.
+/// Whether all are rejected. It looks at each, so that the cache lines that another processor wrote come over together.
 pub(crate) fn are_rejected(foreseen: &[Foreseen]) -> bool
     ensures { result ≡ true → AreRejected foreseen.now }
 {

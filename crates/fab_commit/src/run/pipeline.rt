@@ -23,6 +23,8 @@ pub(crate) struct Pipeline {
     pub(crate) ahead: Vec<Verdict>,
     /// How many moves were made in the placement that `ahead` was judged on.
     pub(crate) base: u64,
+    /// What was read early. It has no meaning, and is kept so that the compiler keeps the reads.
+    pub(crate) read: u64,
 }
 
 impl Drop for Pipeline {
@@ -32,6 +34,7 @@ impl Drop for Pipeline {
             owner: _,
             ahead: _,
             base: _,
+            read: _,
         } = self;
     }
 }
@@ -45,6 +48,7 @@ impl Pipeline {
             owner,
             ahead: _,
             base: _,
+            read: _,
         } = self;
         owner
     }
@@ -76,6 +80,7 @@ pub(crate) fn first_pipeline<W: Words>(
         owner,
         ahead: Vec::new(alloc),
         base,
+        read: 0,
     })
 }
 

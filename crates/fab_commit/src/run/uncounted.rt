@@ -11,6 +11,7 @@ ghost use Rattle.fab_commit.specs.Run.Readings.{reading_at};
 ghost use Rattle.fab_commit.specs.Run.Uncounted.{AreMadeUncounted, IsFurther, IsIdle};
 
 use crate::run::alone::{AT_ONCE, at_once, show_state};
+use crate::run::early_reads::read_early;
 use crate::run::numbers::reserve_numbers;
 use crate::run::pipeline::Pipeline;
 use crate::run::stage::MovesPlan;
@@ -48,13 +49,21 @@ fn commit_uncounted<W: Words, G: Gate>(
     }
 }
 
-/// Makes the next moves of the running stage. `words` is room for the words of some moves. Allocates nothing.
+/// Room for what is made ready for the next moves.
+#[derive(Drop)]
+struct Ready {
+    words: [[u32; 4]; AT_ONCE],
+    /// What was read early. It has no meaning.
+    read: u64,
+}
+
+/// Makes the next moves of the running stage. Allocates nothing.
 fn make_uncounted<W: Words, G: Gate>(
     given: &Given<'_, W>,
     state: &mut State,
     moves: u64,
     gate: &G,
-    words: &mut [[u32; 4]; AT_ONCE],
+    ready: &mut Ready,
 )
     requires plan { IsLawful given.now.schedule }
     requires sound { IsSound (run_for W.moves given.now) state.old }
@@ -63,15 +72,18 @@ fn make_uncounted<W: Words, G: Gate>(
     ensures { IsFurther (run_for W.moves given.now) state.old moves state.new }
 {
     let most = at_once(gate) as u64;
+    let mut read = ready.read;
     let mut made = 0;
     while made < moves {
         let count = (moves - made).min(most);
-        let some = &mut words[..count as usize];
+        let some = &mut ready.words[..count as usize];
         gate.before_judge(state.done);
         given.words.fill_words(state.done, some);
+        read ^= read_early(given, &*state, &*some);
         commit_uncounted(given, state, &*some, gate);
         made += count;
     }
+    ready.read = read;
 }
 
 /// Makes a turn of so many moves, and shows how far the run has come. An error means that memory ran out; then no move was made.
@@ -82,7 +94,7 @@ fn turn_uncounted<W: Words, G: Gate, R: Wait>(
     moves: u64,
     plan: &MovesPlan<'_, G>,
     shower: &mut Shower,
-    words: &mut [[u32; 4]; AT_ONCE],
+    ready: &mut Ready,
 ) -> Result<(), AllocError>
     requires plan { IsLawful given.now.schedule }
     requires sound { IsSound (run_for W.moves given.now) state.old }
@@ -98,7 +110,7 @@ fn turn_uncounted<W: Words, G: Gate, R: Wait>(
     ensures kept { OnErr result (shower.new.shown ≡ shower.old.shown) }
 {
     reserve_numbers(&mut state.accepted, moves as usize)?;
-    make_uncounted(given, state, moves, plan.gate, words);
+    make_uncounted(given, state, moves, plan.gate, ready);
     show_state(rt, given, &*state, plan.dial, shower);
     Ok(())
 }
@@ -111,6 +123,7 @@ fn turns_uncounted<W: Words, G: Gate, R: Wait>(
     state: &mut State,
     plan: &MovesPlan<'_, G>,
     shower: &mut Shower,
+    ready: &mut Ready,
 ) -> Result<(), AllocError>
     requires plan { IsLawful given.now.schedule }
     requires sound { IsSound (run_for W.moves given.now) state.old }
@@ -123,11 +136,10 @@ fn turns_uncounted<W: Words, G: Gate, R: Wait>(
         state.old state.new result shower.old.shown shower.new.shown }
     ensures dial { shower.new.dial ≡ shower.old.dial }
 {
-    let mut words = [[0u32; 4]; AT_ONCE];
     let mut rest = plan.count;
     'turns: while rest > 0 {
         let moves = plan.batch.min(rest);
-        turn_uncounted(rt, given, state, moves, plan, shower, &mut words)?;
+        turn_uncounted(rt, given, state, moves, plan, shower, ready)?;
         rest -= moves;
     }
     Ok(())
@@ -154,7 +166,12 @@ pub(crate) fn finish_uncounted<W: Words, G: Gate, R: Wait>(
     ensures idle { IsIdle state.old state.new }
     ensures dial { shower.new.dial ≡ shower.old.dial }
 {
-    let made = turns_uncounted(rt, given, &mut state.owner.state, plan, shower);
+    let mut ready = Ready {
+        words: [[0u32; 4]; AT_ONCE],
+        read: state.read,
+    };
+    let made = turns_uncounted(rt, given, &mut state.owner.state, plan, shower, &mut ready);
+    state.read = ready.read;
     state.owner.swaps.clear();
     state.ahead.clear();
     state.base = state.owner.state.done;

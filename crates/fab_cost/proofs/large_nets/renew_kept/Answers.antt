@@ -11,126 +11,126 @@ use Rattle.fab_cost.proofs.PinCounts.{partner_below}
 use Rattle.fab_cost.proofs.large_nets.renew_kept.Goals as goal
 
 pub net_of-net-requires-clause-within : goal.net_of-net-requires-clause-within
-net_of-net-requires-clause-within c = row_within c.args.design.now c.args.block.0 c.args.row.now c.args.k _ 0 c.requires.large c.requires.within refl
+net_of-net-requires-clause-within c = row_within c.args.view.now.design.now c.args.part.block.0 c.args.row.now c.args.k _ 0 c.requires.large c.requires.within refl
 
 pub partner_pins-beside-requires-clause-beside : goal.partner_pins-beside-requires-clause-beside
 partner_pins-beside-requires-clause-beside c b e =
-    partner_below c.args.grid.now c.args.placement.now.sites c.args.swap.now c.args.block b c.args.but _ c.requires.lawful c.requires.part e c.requires.whole
+    partner_below c.args.view.now.grid.now c.args.view.now.placement.now.sites c.args.view.now.swap.now c.args.part.block b c.args.part.but _ c.requires.view.lawful c.requires.part.part e c.requires.view.whole
 
 pub returns-then-is_left_out-clause-boxes : goal.returns-then-is_left_out-clause-boxes
 returns-then-is_left_out-clause-boxes c =
-    let d = c.args.design.now in
-    let g = c.args.grid.now in
-    let sites = c.args.placement.now.sites in
-    let after = swapped sites c.args.swap.now in
-    let b = c.args.block.0 in
+    let d = c.args.view.now.design.now in
+    let g = c.args.view.now.grid.now in
+    let sites = c.args.view.now.placement.now.sites in
+    let after = swapped sites c.args.view.now.swap.now in
+    let b = c.args.part.block.0 in
     let n = c.net_of-net.result.0 in
     let shares = (c.shares_with-shares.ensures (blocks_of d (get_or (nets_of d b) (get_or c.args.row.now c.args.k 0) 0)) c.own_pins-own.ensures c.partner_pins-beside.ensures) in
-    let mine = shares.0 ∙ ap (λ v. times c.args.swap.now.block.0 (blocks_of d v)) (sym c.net_of-net.ensures.number) in
-    let is = c.is_left_out.ensures c.args.swap.now c.args.block (blocks_of d n) c.requires.part mine in
+    let mine = shares.0 ∙ ap (λ v. times c.args.view.now.swap.now.block.0 (blocks_of d v)) (sym c.net_of-net.ensures.number) in
+    let is = c.is_left_out.ensures c.args.view.now.swap.now c.args.part.block (blocks_of d n) c.requires.part.part mine in
     let at : n ≡ get_or (nets_of (large_of d) b) c.args.k 0 = c.net_of-net.ensures.number ∙ row_net d b c.args.row.now c.args.k _ 0 c.requires.large c.requires.within refl in
     let within : c.args.k < length (nets_of (large_of d) b) = subst (λ v. c.args.k < v) (row_long d b c.args.row.now c.requires.large) c.requires.within in
-    next_on c.args.large.now.boxes.items (large_of d) g sites after b c.args.but c.args.k n c.is_left_out.result c.requires.left within at is c.if-is_left_out.true
+    next_on c.args.large.now.boxes.items (large_of d) g sites after b c.args.part.but c.args.k n c.is_left_out.result c.requires.left within at is c.if-is_left_out.true
 
 pub returns-then-is_left_out-clause-gained : goal.returns-then-is_left_out-clause-gained
 returns-then-is_left_out-clause-gained c =
-    let d = c.args.design.now in
-    let g = c.args.grid.now in
-    let sites = c.args.placement.now.sites in
-    let after = swapped sites c.args.swap.now in
-    let b = c.args.block.0 in
+    let d = c.args.view.now.design.now in
+    let g = c.args.view.now.grid.now in
+    let sites = c.args.view.now.placement.now.sites in
+    let after = swapped sites c.args.view.now.swap.now in
+    let b = c.args.part.block.0 in
     let n = c.net_of-net.result.0 in
     let shares = (c.shares_with-shares.ensures (blocks_of d (get_or (nets_of d b) (get_or c.args.row.now c.args.k 0) 0)) c.own_pins-own.ensures c.partner_pins-beside.ensures) in
-    let mine = shares.0 ∙ ap (λ v. times c.args.swap.now.block.0 (blocks_of d v)) (sym c.net_of-net.ensures.number) in
-    let is = c.is_left_out.ensures c.args.swap.now c.args.block (blocks_of d n) c.requires.part mine in
+    let mine = shares.0 ∙ ap (λ v. times c.args.view.now.swap.now.block.0 (blocks_of d v)) (sym c.net_of-net.ensures.number) in
+    let is = c.is_left_out.ensures c.args.view.now.swap.now c.args.part.block (blocks_of d n) c.requires.part.part mine in
     let at : n ≡ get_or (nets_of (large_of d) b) c.args.k 0 = c.net_of-net.ensures.number ∙ row_net d b c.args.row.now c.args.k _ 0 c.requires.large c.requires.within refl in
-    unless_on (large_of d) g after c.args.but n c.is_left_out.result is c.if-is_left_out.true ∙ ap (cost_unless (large_of d) g after c.args.but) at
+    unless_on (large_of d) g after c.args.part.but n c.is_left_out.result is c.if-is_left_out.true ∙ ap (cost_unless (large_of d) g after c.args.part.but) at
 
 pub returns-then-is_left_out-clause-lost : goal.returns-then-is_left_out-clause-lost
 returns-then-is_left_out-clause-lost c =
-    let d = c.args.design.now in
-    let g = c.args.grid.now in
-    let sites = c.args.placement.now.sites in
-    let b = c.args.block.0 in
+    let d = c.args.view.now.design.now in
+    let g = c.args.view.now.grid.now in
+    let sites = c.args.view.now.placement.now.sites in
+    let b = c.args.part.block.0 in
     let n = c.net_of-net.result.0 in
     let shares = (c.shares_with-shares.ensures (blocks_of d (get_or (nets_of d b) (get_or c.args.row.now c.args.k 0) 0)) c.own_pins-own.ensures c.partner_pins-beside.ensures) in
-    let mine = shares.0 ∙ ap (λ v. times c.args.swap.now.block.0 (blocks_of d v)) (sym c.net_of-net.ensures.number) in
-    let is = c.is_left_out.ensures c.args.swap.now c.args.block (blocks_of d n) c.requires.part mine in
+    let mine = shares.0 ∙ ap (λ v. times c.args.view.now.swap.now.block.0 (blocks_of d v)) (sym c.net_of-net.ensures.number) in
+    let is = c.is_left_out.ensures c.args.view.now.swap.now c.args.part.block (blocks_of d n) c.requires.part.part mine in
     let at : n ≡ get_or (nets_of (large_of d) b) c.args.k 0 = c.net_of-net.ensures.number ∙ row_net d b c.args.row.now c.args.k _ 0 c.requires.large c.requires.within refl in
-    unless_on (large_of d) g sites c.args.but n c.is_left_out.result is c.if-is_left_out.true ∙ ap (cost_unless (large_of d) g sites c.args.but) at
+    unless_on (large_of d) g sites c.args.part.but n c.is_left_out.result is c.if-is_left_out.true ∙ ap (cost_unless (large_of d) g sites c.args.part.but) at
 
 pub renewed-new-requires-clause-mine : goal.renewed-new-requires-clause-mine
 renewed-new-requires-clause-mine c =
-    let d = c.args.design.now in
-    let b = c.args.block.0 in
+    let d = c.args.view.now.design.now in
+    let b = c.args.part.block.0 in
     let shares = (c.shares_with-shares.ensures (blocks_of d (get_or (nets_of d b) (get_or c.args.row.now c.args.k 0) 0)) c.own_pins-own.ensures c.partner_pins-beside.ensures) in
-    let mine = shares.0 ∙ ap (λ v. times c.args.swap.now.block.0 (blocks_of d v)) (sym c.net_of-net.ensures.number) in
+    let mine = shares.0 ∙ ap (λ v. times c.args.view.now.swap.now.block.0 (blocks_of d v)) (sym c.net_of-net.ensures.number) in
     mine
 
 pub renewed-new-requires-clause-others : goal.renewed-new-requires-clause-others
 renewed-new-requires-clause-others c =
-    let d = c.args.design.now in
-    let b = c.args.block.0 in
+    let d = c.args.view.now.design.now in
+    let b = c.args.part.block.0 in
     let shares = (c.shares_with-shares.ensures (blocks_of d (get_or (nets_of d b) (get_or c.args.row.now c.args.k 0) 0)) c.own_pins-own.ensures c.partner_pins-beside.ensures) in
-    shares.1 ∙ ap (λ v. times_other c.args.swap.now.other (blocks_of d v)) (sym c.net_of-net.ensures.number)
+    shares.1 ∙ ap (λ v. times_other c.args.view.now.swap.now.other (blocks_of d v)) (sym c.net_of-net.ensures.number)
 
 pub renewed-new-requires-clause-old : goal.renewed-new-requires-clause-old
 renewed-new-requires-clause-old c =
-    let d = c.args.design.now in
-    let g = c.args.grid.now in
-    let sites = c.args.placement.now.sites in
-    let after = swapped sites c.args.swap.now in
-    let b = c.args.block.0 in
+    let d = c.args.view.now.design.now in
+    let g = c.args.view.now.grid.now in
+    let sites = c.args.view.now.placement.now.sites in
+    let after = swapped sites c.args.view.now.swap.now in
+    let b = c.args.part.block.0 in
     let n = c.net_of-net.result.0 in
     let shares = (c.shares_with-shares.ensures (blocks_of d (get_or (nets_of d b) (get_or c.args.row.now c.args.k 0) 0)) c.own_pins-own.ensures c.partner_pins-beside.ensures) in
-    let mine = shares.0 ∙ ap (λ v. times c.args.swap.now.block.0 (blocks_of d v)) (sym c.net_of-net.ensures.number) in
-    let is = c.is_left_out.ensures c.args.swap.now c.args.block (blocks_of d n) c.requires.part mine in
+    let mine = shares.0 ∙ ap (λ v. times c.args.view.now.swap.now.block.0 (blocks_of d v)) (sym c.net_of-net.ensures.number) in
+    let is = c.is_left_out.ensures c.args.view.now.swap.now c.args.part.block (blocks_of d n) c.requires.part.part mine in
     let at : n ≡ get_or (nets_of (large_of d) b) c.args.k 0 = c.net_of-net.ensures.number ∙ row_net d b c.args.row.now c.args.k _ 0 c.requires.large c.requires.within refl in
     let within : c.args.k < length (nets_of (large_of d) b) = subst (λ v. c.args.k < v) (row_long d b c.args.row.now c.requires.large) c.requires.within in
     let counts = row_counts d b c.args.row.now c.args.k _ 0 n c.requires.large c.requires.within refl c.net_of-net.ensures.number in
-    let old = old_here c.args.large.now.boxes.items (large_of d) g sites after b c.args.but c.args.k n c.is_left_out.result c.kept-old.result c.requires.left counts within at is c.if-is_left_out.false c.kept-old.ensures ∙ box_large d g sites n in
+    let old = old_here c.args.large.now.boxes.items (large_of d) g sites after b c.args.part.but c.args.k n c.is_left_out.result c.kept-old.result c.requires.left counts within at is c.if-is_left_out.false c.kept-old.ensures ∙ box_large d g sites n in
     old
 
 pub returns-clause-boxes : goal.returns-clause-boxes
 returns-clause-boxes c =
-    let d = c.args.design.now in
-    let g = c.args.grid.now in
-    let sites = c.args.placement.now.sites in
-    let after = swapped sites c.args.swap.now in
-    let b = c.args.block.0 in
+    let d = c.args.view.now.design.now in
+    let g = c.args.view.now.grid.now in
+    let sites = c.args.view.now.placement.now.sites in
+    let after = swapped sites c.args.view.now.swap.now in
+    let b = c.args.part.block.0 in
     let n = c.net_of-net.result.0 in
     let at : n ≡ get_or (nets_of (large_of d) b) c.args.k 0 = c.net_of-net.ensures.number ∙ row_net d b c.args.row.now c.args.k _ 0 c.requires.large c.requires.within refl in
     let within : c.args.k < length (nets_of (large_of d) b) = subst (λ v. c.args.k < v) (row_long d b c.args.row.now c.requires.large) c.requires.within in
     let counts = row_counts d b c.args.row.now c.args.k _ 0 n c.requires.large c.requires.within refl c.net_of-net.ensures.number in
-    next_off c.args.large.now.boxes.items _ (large_of d) g sites after b c.args.but c.args.k n c.renewed-new.result c.requires.left counts within at (c.renewed-new.ensures ∙ sym (box_large d g after n)) c.set.ensures.boxes
+    next_off c.args.large.now.boxes.items _ (large_of d) g sites after b c.args.part.but c.args.k n c.renewed-new.result c.requires.left counts within at (c.renewed-new.ensures ∙ sym (box_large d g after n)) c.set.ensures.boxes
 
 pub returns-clause-gained : goal.returns-clause-gained
 returns-clause-gained c =
-    let d = c.args.design.now in
-    let g = c.args.grid.now in
-    let sites = c.args.placement.now.sites in
-    let after = swapped sites c.args.swap.now in
-    let b = c.args.block.0 in
+    let d = c.args.view.now.design.now in
+    let g = c.args.view.now.grid.now in
+    let sites = c.args.view.now.placement.now.sites in
+    let after = swapped sites c.args.view.now.swap.now in
+    let b = c.args.part.block.0 in
     let n = c.net_of-net.result.0 in
     let shares = (c.shares_with-shares.ensures (blocks_of d (get_or (nets_of d b) (get_or c.args.row.now c.args.k 0) 0)) c.own_pins-own.ensures c.partner_pins-beside.ensures) in
-    let mine = shares.0 ∙ ap (λ v. times c.args.swap.now.block.0 (blocks_of d v)) (sym c.net_of-net.ensures.number) in
-    let is = c.is_left_out.ensures c.args.swap.now c.args.block (blocks_of d n) c.requires.part mine in
+    let mine = shares.0 ∙ ap (λ v. times c.args.view.now.swap.now.block.0 (blocks_of d v)) (sym c.net_of-net.ensures.number) in
+    let is = c.is_left_out.ensures c.args.view.now.swap.now c.args.part.block (blocks_of d n) c.requires.part.part mine in
     let at : n ≡ get_or (nets_of (large_of d) b) c.args.k 0 = c.net_of-net.ensures.number ∙ row_net d b c.args.row.now c.args.k _ 0 c.requires.large c.requires.within refl in
-    unless_off d g after c.args.but n c.is_left_out.result c.tally_between.result.gained is c.if-is_left_out.false (c.tally_between.ensures.gained g after c.renewed-new.ensures) ∙ sym (unless_large d g after c.args.but n) ∙ ap (cost_unless (large_of d) g after c.args.but) at
+    unless_off d g after c.args.part.but n c.is_left_out.result c.tally_between.result.gained is c.if-is_left_out.false (c.tally_between.ensures.gained g after c.renewed-new.ensures) ∙ sym (unless_large d g after c.args.part.but n) ∙ ap (cost_unless (large_of d) g after c.args.part.but) at
 
 pub returns-clause-lost : goal.returns-clause-lost
 returns-clause-lost c =
-    let d = c.args.design.now in
-    let g = c.args.grid.now in
-    let sites = c.args.placement.now.sites in
-    let after = swapped sites c.args.swap.now in
-    let b = c.args.block.0 in
+    let d = c.args.view.now.design.now in
+    let g = c.args.view.now.grid.now in
+    let sites = c.args.view.now.placement.now.sites in
+    let after = swapped sites c.args.view.now.swap.now in
+    let b = c.args.part.block.0 in
     let n = c.net_of-net.result.0 in
     let shares = (c.shares_with-shares.ensures (blocks_of d (get_or (nets_of d b) (get_or c.args.row.now c.args.k 0) 0)) c.own_pins-own.ensures c.partner_pins-beside.ensures) in
-    let mine = shares.0 ∙ ap (λ v. times c.args.swap.now.block.0 (blocks_of d v)) (sym c.net_of-net.ensures.number) in
-    let is = c.is_left_out.ensures c.args.swap.now c.args.block (blocks_of d n) c.requires.part mine in
+    let mine = shares.0 ∙ ap (λ v. times c.args.view.now.swap.now.block.0 (blocks_of d v)) (sym c.net_of-net.ensures.number) in
+    let is = c.is_left_out.ensures c.args.view.now.swap.now c.args.part.block (blocks_of d n) c.requires.part.part mine in
     let at : n ≡ get_or (nets_of (large_of d) b) c.args.k 0 = c.net_of-net.ensures.number ∙ row_net d b c.args.row.now c.args.k _ 0 c.requires.large c.requires.within refl in
     let within : c.args.k < length (nets_of (large_of d) b) = subst (λ v. c.args.k < v) (row_long d b c.args.row.now c.requires.large) c.requires.within in
     let counts = row_counts d b c.args.row.now c.args.k _ 0 n c.requires.large c.requires.within refl c.net_of-net.ensures.number in
-    let old = old_here c.args.large.now.boxes.items (large_of d) g sites after b c.args.but c.args.k n c.is_left_out.result c.kept-old.result c.requires.left counts within at is c.if-is_left_out.false c.kept-old.ensures ∙ box_large d g sites n in
-    unless_off d g sites c.args.but n c.is_left_out.result c.tally_between.result.lost is c.if-is_left_out.false (c.tally_between.ensures.lost g sites old) ∙ sym (unless_large d g sites c.args.but n) ∙ ap (cost_unless (large_of d) g sites c.args.but) at
+    let old = old_here c.args.large.now.boxes.items (large_of d) g sites after b c.args.part.but c.args.k n c.is_left_out.result c.kept-old.result c.requires.left counts within at is c.if-is_left_out.false c.kept-old.ensures ∙ box_large d g sites n in
+    unless_off d g sites c.args.part.but n c.is_left_out.result c.tally_between.result.lost is c.if-is_left_out.false (c.tally_between.ensures.lost g sites old) ∙ sym (unless_large d g sites c.args.part.but n) ∙ ap (cost_unless (large_of d) g sites c.args.part.but) at

@@ -1,4 +1,4 @@
-use Rattle.std.proofs.Common.{None, Some, arith}
+use Rattle.std.proofs.Common.{None, Some, refl, arith}
 use Rattle.fab_site.specs.Placement.{swapped}
 use Rattle.fab_cost.specs.Runs.{large_of}
 use Rattle.fab_cost.proofs.Changes.{gained_low, lost_low, whole_none, whole_some}
@@ -7,8 +7,8 @@ use Rattle.fab_cost.proofs.Renewals.{one_done, both_done}
 use Rattle.fab_cost.proofs.Sited.{other_below}
 use Rattle.fab_cost.proofs.large_nets.renew_large.Goals as goal
 
-pub renew_larges-second-requires-clause-block : goal.renew_larges-second-requires-clause-block
-renew_larges-second-requires-clause-block c = other_below c.args.grid.now c.args.placement.now.sites c.args.swap.now c.in-Some.other _ c.requires.lawful c.in-Some.is c.requires.whole
+pub renew_larges-second-requires-clause-part : goal.renew_larges-second-requires-clause-part
+renew_larges-second-requires-clause-part c = record { part = (refl, c.in-Some.is); block = other_below c.args.grid.now c.args.placement.now.sites c.args.swap.now c.in-Some.other _ c.requires.lawful c.in-Some.is c.requires.whole }
 
 pub plus-requires-clause-gained : goal.plus-requires-clause-gained
 plus-requires-clause-gained c =

@@ -8,52 +8,52 @@ use Rattle.fab_cost.proofs.Renewals.{ended}
 use Rattle.fab_cost.proofs.large_nets.renew_larges.Goals as goal
 
 pub renew_net-one-requires-clause-large : goal.renew_net-one-requires-clause-large
-renew_net-one-requires-clause-large c = subst (AreLarge c.args.design.now c.args.block.0) (sym c.large_row-row.ensures) (c.requires.records.large.each c.args.block.0 c.requires.block)
+renew_net-one-requires-clause-large c = subst (AreLarge c.args.view.now.design.now c.args.part.block.0) (sym c.large_row-row.ensures) (c.requires.records.large.each c.args.part.block.0 c.requires.part.block)
 
 pub overflow_add-gained : goal.overflow_add-gained
 overflow_add-gained c =
-    let d = c.args.design.now in
-    let b = c.args.block.0 in
-    let sites = c.args.placement.now.sites in
-    let row = subst (AreLarge d b) (sym c.large_row-row.ensures) (c.requires.records.large.each b c.requires.block) in
+    let d = c.args.view.now.design.now in
+    let b = c.args.part.block.0 in
+    let sites = c.args.view.now.placement.now.sites in
+    let row = subst (AreLarge d b) (sym c.large_row-row.ensures) (c.requires.records.large.each b c.requires.part.block) in
     let h : c.places.k < length (nets_of (large_of d) b) = (let e = row_long d b c.large_row-row.result.now row in let t = c.places-test.true in omega (arith, e, t)) in
-    let f = gained_fits (large_of d) c.args.grid.now sites (swapped sites c.args.swap.now) c.args.but b c.places.k c.places.gained c.places.lost c.renew_net-one.result.gained c.renew_net-one.result.lost
+    let f = gained_fits (large_of d) c.args.view.now.grid.now sites (swapped sites c.args.view.now.swap.now) c.args.part.but b c.places.k c.places.gained c.places.lost c.renew_net-one.result.gained c.renew_net-one.result.lost
     (lawful_large d c.nets-nets.ensures.lawful) (omega arith, omega arith) (omega arith, omega arith) h c.places.invariant.change c.renew_net-one.ensures.change in
     omega arith
 
 pub overflow_add-lost : goal.overflow_add-lost
 overflow_add-lost c =
-    let d = c.args.design.now in
-    let b = c.args.block.0 in
-    let sites = c.args.placement.now.sites in
-    let row = subst (AreLarge d b) (sym c.large_row-row.ensures) (c.requires.records.large.each b c.requires.block) in
+    let d = c.args.view.now.design.now in
+    let b = c.args.part.block.0 in
+    let sites = c.args.view.now.placement.now.sites in
+    let row = subst (AreLarge d b) (sym c.large_row-row.ensures) (c.requires.records.large.each b c.requires.part.block) in
     let h : c.places.k < length (nets_of (large_of d) b) = (let e = row_long d b c.large_row-row.result.now row in let t = c.places-test.true in omega (arith, e, t)) in
-    let f = lost_fits (large_of d) c.args.grid.now sites (swapped sites c.args.swap.now) c.args.but b c.places.k c.places.gained c.places.lost c.renew_net-one.result.gained c.renew_net-one.result.lost
+    let f = lost_fits (large_of d) c.args.view.now.grid.now sites (swapped sites c.args.view.now.swap.now) c.args.part.but b c.places.k c.places.gained c.places.lost c.renew_net-one.result.gained c.renew_net-one.result.lost
     (lawful_large d c.nets-nets.ensures.lawful) (omega arith, omega arith) (omega arith, omega arith) h c.places.invariant.change c.renew_net-one.ensures.change in
     omega arith
 
 pub places-preserved : goal.places-preserved
 places-preserved c =
-    let d = c.args.design.now in
-    let b = c.args.block.0 in
-    let sites = c.args.placement.now.sites in
-    let row = subst (AreLarge d b) (sym c.large_row-row.ensures) (c.requires.records.large.each b c.requires.block) in
+    let d = c.args.view.now.design.now in
+    let b = c.args.part.block.0 in
+    let sites = c.args.view.now.placement.now.sites in
+    let row = subst (AreLarge d b) (sym c.large_row-row.ensures) (c.requires.records.large.each b c.requires.part.block) in
     let h : c.places.k < length (nets_of (large_of d) b) = (let e = row_long d b c.large_row-row.result.now row in let t = c.places-test.true in omega (arith, e, t)) in
     record {
-      change = more (large_of d) c.args.grid.now sites (swapped sites c.args.swap.now) c.args.but b c.places.k c.places.gained c.places.lost c.renew_net-one.result.gained c.renew_net-one.result.lost h c.places.invariant.change c.renew_net-one.ensures.change;
+      change = more (large_of d) c.args.view.now.grid.now sites (swapped sites c.args.view.now.swap.now) c.args.part.but b c.places.k c.places.gained c.places.lost c.renew_net-one.result.gained c.renew_net-one.result.lost h c.places.invariant.change c.renew_net-one.ensures.change;
       most = c.renew_net-one.ensures.most ∙ c.places.invariant.most;
       left = c.renew_net-one.ensures.boxes;
     }
 
 pub returns : goal.returns
 returns c =
-    let d = c.args.design.now in
-    let b = c.args.block.0 in
-    let sites = c.args.placement.now.sites in
-    let row = subst (AreLarge d b) (sym c.large_row-row.ensures) (c.requires.records.large.each b c.requires.block) in
+    let d = c.args.view.now.design.now in
+    let b = c.args.part.block.0 in
+    let sites = c.args.view.now.placement.now.sites in
+    let row = subst (AreLarge d b) (sym c.large_row-row.ensures) (c.requires.records.large.each b c.requires.part.block) in
     let e = row_long d b c.large_row-row.result.now row in
     record {
-      boxes = ended c.places.large.boxes.items (large_of d) c.args.grid.now sites (swapped sites c.args.swap.now) b c.args.but c.places.k c.places.invariant.left (omega arith);
-      change = all (large_of d) c.args.grid.now sites (swapped sites c.args.swap.now) c.args.but b c.places.k c.places.gained c.places.lost (omega arith) c.places.invariant.change;
+      boxes = ended c.places.large.boxes.items (large_of d) c.args.view.now.grid.now sites (swapped sites c.args.view.now.swap.now) b c.args.part.but c.places.k c.places.invariant.left (omega arith);
+      change = all (large_of d) c.args.view.now.grid.now sites (swapped sites c.args.view.now.swap.now) c.args.part.but b c.places.k c.places.gained c.places.lost (omega arith) c.places.invariant.change;
       most = c.places.invariant.most;
     }

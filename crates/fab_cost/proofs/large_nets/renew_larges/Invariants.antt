@@ -10,7 +10,7 @@ use Rattle.fab_cost.proofs.large_nets.renew_larges.Given as goal
 
 abbrev pub invariant-places : goal.invariant-places
 invariant-places l = record {
-  change : IsChange (sum_by (cost_unless (large_of l.design) l.grid l.placement.sites l.but) (take l.k (nets_of (large_of l.design) l.block.0))) (sum_by (cost_unless (large_of l.design) l.grid (swapped l.placement.sites l.swap) l.but) (take l.k (nets_of (large_of l.design) l.block.0))) l.gained l.lost;
+  change : IsChange (sum_by (cost_unless (large_of l.view.design.now) l.view.grid.now l.view.placement.now.sites l.part.but) (take l.k (nets_of (large_of l.view.design.now) l.part.block.0))) (sum_by (cost_unless (large_of l.view.design.now) l.view.grid.now (swapped l.view.placement.now.sites l.view.swap.now) l.part.but) (take l.k (nets_of (large_of l.view.design.now) l.part.block.0))) l.gained l.lost;
   most : l.large.most.items ≡ l.initial.large.most.items;
-  left : AreRenewed l.large.boxes.items (large_of l.design) l.grid l.placement.sites (swapped l.placement.sites l.swap) (done_to (large_of l.design) l.block.0 l.but l.k);
+  left : AreRenewed l.large.boxes.items (large_of l.view.design.now) l.view.grid.now l.view.placement.now.sites (swapped l.view.placement.now.sites l.view.swap.now) (done_to (large_of l.view.design.now) l.part.block.0 l.part.but l.k);
 }

@@ -7,8 +7,8 @@ use Rattle.fab_run.specs.Placed.{AskToGoOn}
 use Rattle.fab_run.specs.RunChecks.{IsRefusal}
 use Rattle.fab_run.specs.Setting.{texts_of}
 use Rattle.std.proofs.lemmas.Result.{err_from_is_err_and}
-use Rattle.fab_run.proofs.Lifting.{cut_asked, failed_of_device, fault_of_device, made_asked, place_cut_asked, redone_asked, report_cut_asked}
-use Rattle.fab_run.proofs.Showing.{part_asked, shown_asked}
+use Rattle.fab_run.proofs.Lifting.{failed_of_device, fault_of_device, made_asked, nothing_written, redone_asked, short_asked}
+use Rattle.fab_run.proofs.Showing.{nothing_shown, short_shown, shown_asked}
 use Rattle.fab_run.proofs.resumed_run.resume_ended.Given as given
 use Rattle.fab_run.proofs.resumed_run.resume_ended.Goals as goal
 
@@ -36,19 +36,6 @@ pub returns-clause-redone : goal.returns-clause-redone
 returns-clause-redone g c =
     redone_asked g.K.Keeping.again (AskToGoOn (texts_of c.args.inputs.now) c.args.point.now c.args.batch c.args.workers c.args.stop) (made g c) c.args.batch c.run_piece.result (asked g c) c.run_piece.ensures.redone
 
-pub returns-clause-cut : goal.returns-clause-cut
-returns-clause-cut g c =
-    cut_asked (AskToGoOn (texts_of c.args.inputs.now) c.args.point.now c.args.batch c.args.workers c.args.stop) (made g c) c.run_piece.result (g.W.Sink.contents c.args.report.now) (g.W.Sink.contents c.run_piece.new.report) (asked g c) c.run_piece.ensures.cut
-
-pub returns-clause-report_cut : goal.returns-clause-report_cut
-returns-clause-report_cut g c =
-    report_cut_asked (AskToGoOn (texts_of c.args.inputs.now) c.args.point.now c.args.batch c.args.workers c.args.stop) (made g c) c.run_piece.result (g.W.Sink.contents c.args.report.now) (g.W.Sink.contents c.run_piece.new.report) (asked g c) c.run_piece.ensures.report_cut
-
-pub returns-clause-place_cut : goal.returns-clause-place_cut
-returns-clause-place_cut g c =
-    let t = texts_of c.args.inputs.now in
-    place_cut_asked g.P.Sink.may_be_unready (AskToGoOn t c.args.point.now c.args.batch c.args.workers c.args.stop) t (made g c) c.run_piece.result (g.W.Sink.contents c.args.report.now) (g.W.Sink.contents c.run_piece.new.report) (g.P.Sink.contents c.args.place.now) (g.P.Sink.contents c.run_piece.new.place) (asked g c) c.run_piece.ensures.place_cut
-
 pub returns-clause-only : goal.returns-clause-only
 returns-clause-only g c other known = fault_of_device (λ f. ¬ (IsRefusal f)) _ _ _ _ c.run_piece.result (λ h. h) (λ h. h) (λ h. h) c.run_piece.ensures.fault
 
@@ -56,9 +43,6 @@ pub returns-clause-fault : goal.returns-clause-fault
 returns-clause-fault g c =
     let found : IsGoing (texts_of c.args.inputs.now) c.args.point.now c.args.batch c.args.workers (read g c) = c.in_ok-design.ensures.found in
     fault_of_device (IsGoingFault (texts_of c.args.inputs.now) c.args.point.now c.args.batch c.args.workers) _ _ _ _ c.run_piece.result tt (read g c, found) (read g c, found) c.run_piece.ensures.fault
-
-pub returns-clause-silent : goal.returns-clause-silent
-returns-clause-silent g c = fault_of_device (λ f. IsRefusal f → g.W.Sink.contents c.run_piece.new.report ≡ g.W.Sink.contents c.args.report.now) _ _ _ _ c.run_piece.result (λ h. absurd h) (λ h. absurd h) (λ h. absurd h) c.run_piece.ensures.fault
 
 pub returns-clause-failed : goal.returns-clause-failed
 returns-clause-failed g c = failed_of_device _ _ _ _ c.run_piece.result c.run_piece.ensures.fault
@@ -72,9 +56,20 @@ pub returns-clause-shown : goal.returns-clause-shown
 returns-clause-shown g c =
     shown_asked (AskToGoOn (texts_of c.args.inputs.now) c.args.point.now c.args.batch c.args.workers c.args.stop) (made g c) c.args.batch c.run_piece.result c.args.shower.now.shown c.run_piece.new.shower.shown (asked g c) c.run_piece.ensures.shown
 
-pub returns-clause-shown_cut : goal.returns-clause-shown_cut
-returns-clause-shown_cut g c =
-    part_asked (AskToGoOn (texts_of c.args.inputs.now) c.args.point.now c.args.batch c.args.workers c.args.stop) (made g c) c.args.batch c.run_piece.result c.args.shower.now.shown c.run_piece.new.shower.shown (asked g c) c.run_piece.ensures.shown_cut
+pub returns-clause-cut_short : goal.returns-clause-cut_short
+returns-clause-cut_short g c =
+    short_asked (AskToGoOn (texts_of c.args.inputs.now) c.args.point.now c.args.batch c.args.workers c.args.stop) (texts_of c.args.inputs.now) g.P.Sink.may_be_unready (made g c) _ _ _ _ c.run_piece.result (g.W.Sink.contents c.args.report.now) (g.W.Sink.contents c.run_piece.new.report) (g.P.Sink.contents c.args.place.now) (g.P.Sink.contents c.run_piece.new.place) (asked g c) c.run_piece.ensures.fault c.run_piece.ensures.cut c.run_piece.ensures.report_cut c.run_piece.ensures.unplaced c.run_piece.ensures.place_cut
 
-pub returns-clause-unshown : goal.returns-clause-unshown
-returns-clause-unshown g c = fault_of_device (λ f. IsRefusal f → c.run_piece.new.shower.shown ≡ c.args.shower.now.shown) _ _ _ _ c.run_piece.result (λ h. absurd h) (λ h. absurd h) (λ h. absurd h) c.run_piece.ensures.fault
+pub returns-clause-shown_short : goal.returns-clause-shown_short
+returns-clause-shown_short g c =
+    short_shown (AskToGoOn (texts_of c.args.inputs.now) c.args.point.now c.args.batch c.args.workers c.args.stop) (made g c) c.args.batch _ _ _ _ c.run_piece.result c.args.shower.now.shown c.run_piece.new.shower.shown (asked g c) c.run_piece.ensures.fault c.run_piece.ensures.shown_cut
+
+pub returns-in_err-design-clause-cut_short : goal.returns-in_err-design-clause-cut_short
+returns-in_err-design-clause-cut_short g c =
+    let p = err_from_is_err_and c.from_residual.result c.from_residual.ensures.1 in
+    rw (p.1, p.2) (nothing_written (AskToGoOn (texts_of c.args.inputs.now) c.args.point.now c.args.batch c.args.workers c.args.stop) (texts_of c.args.inputs.now) g.P.Sink.may_be_unready (g.W.Sink.contents c.args.report.now) (g.P.Sink.contents c.args.place.now) _ c.in_err-design.ensures.text)
+
+pub returns-in_err-design-clause-shown_short : goal.returns-in_err-design-clause-shown_short
+returns-in_err-design-clause-shown_short g c =
+    let p = err_from_is_err_and c.from_residual.result c.from_residual.ensures.1 in
+    rw (p.1, p.2) (nothing_shown (AskToGoOn (texts_of c.args.inputs.now) c.args.point.now c.args.batch c.args.workers c.args.stop) c.args.batch c.args.shower.now.shown _)

@@ -22,7 +22,7 @@ returns-in-Err g c =
     let moves = c.min-moves.ensures in
     let left = c.moves_left-left.ensures in
     let low : n ≤ c.min-moves.result = omega (arith, within) in
-    let now : Pipeline = record { owner = c.make_moves-judged.new.state.owner; ahead = c.clear-2.new.self; base = s.owner.state.done } in
+    let now : Pipeline = record { owner = c.make_moves-judged.new.state.owner; ahead = c.clear-2.new.self; base = s.owner.state.done; read = c.make_moves-judged.new.state.read } in
     let some = c.in-Err.ensures.some in
     let ahead = c.min.ensures in
     let all : (t : LastTurn) → IsBehind r t s → HasTurned r t s n 0 now = λ t b.

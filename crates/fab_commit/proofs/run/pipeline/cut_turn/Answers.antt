@@ -10,7 +10,7 @@ pub returns-clause-cut : goal.returns-clause-cut
 returns-clause-cut g c = λ t b.
     let r = run_for g.W.Words.moves c.args._given.now in
     let s = c.args.pipeline.now in
-    let now : Pipeline = record { owner = record s.owner { swaps = c.clear.new.self }; ahead = c.clear-2.new.self; base = s.owner.state.done } in
+    let now : Pipeline = record { owner = record s.owner { swaps = c.clear.new.self }; ahead = c.clear-2.new.self; base = s.owner.state.done; read = s.read } in
     let owned = owned_cleared r s.owner now.owner b.owned refl refl refl in
     turned r t s now now.owner 0 0 0 [] b (record {
       state = refl;

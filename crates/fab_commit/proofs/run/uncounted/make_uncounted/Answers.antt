@@ -24,16 +24,19 @@ fill_words-requires g c =
     let r = run_for g.W.Words.moves c.args.given.now in
     let s = c.loop-made.state in
     let few = done_fits r s s.ended c.requires.plan c.loop-made.invariant.has.sound refl in
-    let long = length-take c.min-count.result c.loop-made.words in
+    let long = length-take c.min-count.result c.loop-made.ready.words in
     let count = c.min-count.ensures in
     grind (arith, few, long, count)
+
+pub read_early-read-requires : goal.read_early-read-requires
+read_early-read-requires g c = record { sound = c.loop-made.invariant.has.sound }
 
 pub commit_uncounted-requires-clause-sound : goal.commit_uncounted-requires-clause-sound
 commit_uncounted-requires-clause-sound g c κs within = c.loop-made.invariant.has.sound
 
 pub commit_uncounted-requires-clause-room : goal.commit_uncounted-requires-clause-room
 commit_uncounted-requires-clause-room g c κs within =
-    let long = length-take c.min-count.result c.loop-made.words in
+    let long = length-take c.min-count.result c.loop-made.ready.words in
     let same = c.fill_words.auto.out in
     let count = c.min-count.ensures in
     let low = c.loop-made.invariant.low in
@@ -44,7 +47,7 @@ pub commit_uncounted-requires-clause-left : goal.commit_uncounted-requires-claus
 commit_uncounted-requires-clause-left g c κs within =
     let r = run_for g.W.Words.moves c.args.given.now in
     let x = standing_of c.args.state.now in
-    let long = length-take c.min-count.result c.loop-made.words in
+    let long = length-take c.min-count.result c.loop-made.ready.words in
     let same = c.fill_words.auto.out in
     let count = c.min-count.ensures in
     let low = c.loop-made.invariant.low in
@@ -64,7 +67,7 @@ loop-made-preserved g c =
     let m = c.min-count.result in
     let inv = c.loop-made.invariant in
     let array = inv.long in
-    let long = length-take c.min-count.result c.loop-made.words in
+    let long = length-take c.min-count.result c.loop-made.ready.words in
     let same = c.fill_words.auto.out in
     let count = c.min-count.ensures in
     let low = inv.low in
@@ -72,7 +75,7 @@ loop-made-preserved g c =
     let all : length c.fill_words.new.out ≡ m = omega (arith, array, long, same, count) in
     record {
       low = omega (arith, low, more, count);
-      long = length-append c.fill_words.new.out (drop m c.loop-made.words) ∙ (let rest = length-drop m c.loop-made.words in omega (arith, all, array, rest, long, same));
+      long = length-append c.fill_words.new.out (drop m c.loop-made.ready.words) ∙ (let rest = length-drop m c.loop-made.ready.words in omega (arith, all, array, rest, long, same));
       has = further_more r s mid now n m inv.has (subst (λ k. IsFurther r mid k now) all c.commit_uncounted.ensures.further);
       room = λ k h.
           let was = inv.room (m + k) (room_less s.accepted (n + m + k) (n + (m + k)) (omega arith) h) in

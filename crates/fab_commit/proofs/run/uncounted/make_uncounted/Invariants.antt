@@ -8,7 +8,7 @@ abbrev pub invariant-loop-made : goal.invariant-loop-made
 invariant-loop-made g l =
     record {
       low : l.made ≤ l.moves;
-      long : length l.words ≡ 32;
+      long : length l.ready.words ≡ 32;
       has : IsFurther (run_for g.W.Words.moves l.given) l.initial.state l.made l.state;
       room : (n : ℕ) → HasRoomFor l.initial.state.accepted (l.made + n) → HasRoomFor l.state.accepted n;
     }

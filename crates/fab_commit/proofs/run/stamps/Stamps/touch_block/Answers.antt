@@ -18,6 +18,12 @@ stamp_nets-requires c =
 pub lift_near-requires-clause-made : goal.lift_near-requires-clause-made
 lift_near-requires-clause-made c = subst (λ o. IfSome o (λ b. IsMadeFor b.now c.args.design.now)) c.in-Some.is c.requires.near
 
+pub lift_near-requires-clause-long : goal.lift_near-requires-clause-long
+lift_near-requires-clause-long c =
+    let near = c.requires.table.near.long in
+    let same = c.lift_one.ensures.long in
+    omega (arith, near, same)
+
 pub returns-in-Some-clause-table : goal.returns-in-Some-clause-table
 returns-in-Some-clause-table c =
     let s = c.args.self.now in

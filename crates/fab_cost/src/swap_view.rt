@@ -1,0 +1,23 @@
+//! A swap, and what the nets with many terminals are looked at with.
+
+use fab_arch::Grid;
+use fab_net::{BlockId, Design};
+use fab_site::{Placement, Swap};
+
+/// A swap of a placement, with its design and array.
+#[derive(Clone, Copy)]
+pub(crate) struct SwapView<'a> {
+    pub(crate) design: &'a Design,
+    pub(crate) grid: &'a Grid,
+    pub(crate) placement: &'a Placement,
+    pub(crate) swap: &'a Swap,
+    /// The lane-wise least of its two sites.
+    pub(crate) reach: [u16; 4],
+}
+
+/// One block of a swap, whose nets are looked at: the first; or the other, without the nets that are also of the first, `but`.
+#[derive(Clone, Copy)]
+pub(crate) struct Part {
+    pub(crate) block: BlockId,
+    pub(crate) but: Option<BlockId>,
+}
