@@ -1,4 +1,4 @@
--- A swap, and what the nets with many terminals are looked at with (our own).
+-- A swap, and what its nets are looked at with (our own).
 use Rattle.std.specs.Prelude.{ℕ, ◌≡◌, ◌<◌, ◌||◌, Bool, List, length, take}
 use Rattle.fab_arch.specs.declared.array.Site.{Site}
 use Rattle.fab_site.specs.Placement.{swapped, IsSwapOf}

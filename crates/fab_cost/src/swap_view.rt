@@ -1,4 +1,4 @@
-//! A swap, and what the nets with many terminals are looked at with.
+//! A swap, and what its nets are looked at with.
 
 use fab_arch::Grid;
 use fab_net::{BlockId, Design};
