@@ -1,5 +1,5 @@
 -- What a crew foresees of a move, as contracts see it (our own).
-use Rattle.std.specs.Prelude.{ℕ, ℤ, pos, negsuc, ◌≡◌, ◌+◌, ◌<◌, ◌≤◌, ◌++◌, true, false, List, [], ◌∷◌, filter, length, map, take, Option, Some, None, slice_index_or, codes, refl}
+use Rattle.std.specs.Prelude.{ℕ, ℤ, pos, negsuc, ◌≡◌, ◌+◌, ◌<◌, ◌≤◌, ◌++◌, true, false, List, [], ◌∷◌, filter, length, map, replicate, take, Option, Some, None, slice_index_or, codes, refl}
 use Rattle.fab_arch.specs.declared.array.Site.{Site}
 use Rattle.fab_arch.specs.Grid.{kind_at}
 use Rattle.fab_net.specs.declared.netlist_types.BlockId.{BlockId}
@@ -80,21 +80,26 @@ pub record IsStill (r : Run) (y : Standing) (k : ℕ) (few : ℤ) (s : Swap) : T
 pub a_void_move_swaps_nothing : (b : BlockId) (to : Site) → swap_in (Void b to) ≡ None
 a_void_move_swaps_nothing b to = refl
 
--- a block on net 1 only, and another on nets 0 and 1
-abbrev two_blocks : Netlist
-two_blocks = record {
-  kinds = Logic ∷ Logic ∷ [];
-  names = codes "b1" ∷ codes "b2" ∷ [];
-  terminals = (terminal 1 0 ∷ []) ∷ (terminal 0 0 ∷ terminal 1 1 ∷ []) ∷ [];
-  globals = false ∷ false ∷ [];
+-- a block on net 1 only, another on nets 0 and 1, and a third on nets 1 and 2, of which net 2 has 17 terminals
+abbrev three_blocks : Netlist
+three_blocks = record {
+  kinds = Logic ∷ Logic ∷ Logic ∷ [];
+  names = codes "b1" ∷ codes "b2" ∷ codes "b3" ∷ [];
+  terminals = (terminal 1 0 ∷ []) ∷ (terminal 0 0 ∷ terminal 1 1 ∷ terminal 2 0 ∷ []) ∷ replicate 17 (terminal 2 1) ∷ [];
+  globals = false ∷ false ∷ false ∷ [];
 }
 
--- the nets of both: a net of both is there twice, and none has many terminals
-pub nets_of_both : nets_on two_blocks (Some (record { 0 = 0 })) ++ nets_on two_blocks (Some (record { 0 = 1 })) ≡ record { 0 = 1 } ∷ record { 0 = 0 } ∷ record { 0 = 1 } ∷ []
+-- the nets of both: a net of both is there twice
+pub nets_of_both : nets_on three_blocks (Some (record { 0 = 0 })) ++ nets_on three_blocks (Some (record { 0 = 1 })) ≡ record { 0 = 1 } ∷ record { 0 = 0 } ∷ record { 0 = 1 } ∷ []
 nets_of_both = refl
 
-pub none_of_both_is_large : large_among two_blocks (nets_on two_blocks (Some (record { 0 = 0 }))) ++ large_among two_blocks (nets_on two_blocks (Some (record { 0 = 1 }))) ≡ []
+-- the first two blocks are not on the net with many terminals
+pub none_of_both_is_large : large_among three_blocks (nets_on three_blocks (Some (record { 0 = 0 }))) ++ large_among three_blocks (nets_on three_blocks (Some (record { 0 = 1 }))) ≡ []
 none_of_both_is_large = refl
+
+-- the third is
+pub one_of_both_is_large : large_among three_blocks (nets_on three_blocks (Some (record { 0 = 0 }))) ++ large_among three_blocks (nets_on three_blocks (Some (record { 0 = 2 }))) ≡ record { 0 = 2 } ∷ []
+one_of_both_is_large = refl
 
 -- a move that raises the cost by 3 ten-thousandths, of which nets with few terminals take 2 away, and is rejected
 pub a_rejected_move : (s : Swap) (words : List ℕ) (nets : LargeNets) → decision_in (record { proposal = Move s; few = negsuc 1; delta = pos 3; words = words; accepted = false; nets = nets }) ≡ record { swap = Some s; delta = pos 3; accepted = false }

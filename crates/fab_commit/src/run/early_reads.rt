@@ -11,7 +11,7 @@ use fab_site::Words;
 /// Designs of fewer blocks fit the nearest caches, and reading early only takes time.
 const LARGE: usize = 16_384;
 
-/// The most moves for which is read at once.
+/// The most moves that are looked at together.
 const MOST: usize = 32;
 
 /// The number of no block.
