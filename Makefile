@@ -8,8 +8,8 @@ V =
 
 .PHONY: test hostile edits place bench program flow install uninstall
 
-# Makes every proof from scratch, and runs the must-fail edits, every test and program, and the tests of the built program. The last line of
-# the output is `N passed, M failed`.
+# Makes every proof that the machine has not kept, and runs the must-fail edits, every test and program, and the tests of the built program.
+# The last line of the output is `N passed, M failed`.
 test:
 	@tests/all
 

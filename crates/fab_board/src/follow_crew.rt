@@ -510,24 +510,35 @@ fn all_workers<S: Follow<E, T>, E: Drop, T: Drop, J: Naming + Boarding + Origin<
     Ok((workers, claims))
 }
 
+/// What the workers of a crew are made of: a seat of the claim board and a state for each, and how the numbers are shared out.
+pub(crate) struct Hands<S> {
+    pub(crate) board: Board,
+    pub(crate) claims: Vec<ClaimSeat>,
+    pub(crate) states: Vec<S>,
+    pub(crate) plan: Plan,
+}
+
 /// What the threads of a crew share before any has joined: a worker for each of the states, with a seat of the board.
 pub(crate) fn new_shared<S: Follow<E, T>, E: Drop, T: Drop, J: Naming + Boarding + Origin<S>>(
     alloc: Global,
     book: Book<E, J>,
-    board: Board,
-    claims: Vec<ClaimSeat>,
-    states: Vec<S>,
+    hands: Hands<S>,
     by: &Follower<S, E, T, J>,
     front: &Front<E, J>,
-    plan: Plan,
 ) -> Result<Shared<S, E, T, J>, AllocError>
-    requires board { board.name ≡ J.board }
-    requires claims { All (λ s. s.board ≡ J.board) claims.items }
-    requires starts { All (λ s. J.start ≡ Some s) states.items }
-    requires many { length claims.items ≡ length states.items }
+    requires board { hands.board.name ≡ J.board }
+    requires claims { All (λ s. s.board ≡ J.board) hands.claims.items }
+    requires starts { All (λ s. J.start ≡ Some s) hands.states.items }
+    requires many { length hands.claims.items ≡ length hands.states.items }
     requires empty { front.now ≡ [] }
-    ensures many { IfOk result (λ c. c ≡ length states.items) }
+    ensures many { IfOk result (λ c. c ≡ length hands.states.items) }
 {
+    let Hands {
+        board,
+        claims,
+        states,
+        plan,
+    } = hands;
     let posts = all_posts(alloc)?;
     let places = all_places(alloc, by, front, plan)?;
     let (workers, room) = all_workers(alloc, states, claims, front, plan)?;

@@ -8,7 +8,7 @@ use crate::board::{Board, ClaimSeat};
 use crate::book::{Front, Naming, Opened};
 use crate::claimer::Boarding;
 use crate::follow::{Follow, Follower, Origin, Posted, Sheet, judge_unit};
-use crate::follow_crew::{Fetched, Shared, new_shared};
+use crate::follow_crew::{Fetched, Hands, Shared, new_shared};
 use crate::own_units::OwnUnits;
 use crate::plan::Plan;
 use std::alloc::{AllocError, Global};
@@ -325,29 +325,48 @@ impl<S: Follow<E, T>, E: Drop, T: Drop, J: Naming + Boarding + Origin<S>> Drop
     }
 }
 
-/// Creates a crew that no worker has joined yet, with a worker for each of the states, and its owner's end. An error means that memory ran
-/// out.
+/// What a crew is made of: a claim board with the seats of its workers, a state for the owner and one for each worker, and how the numbers
+/// are shared out.
+pub struct CrewParts<S> {
+    pub board: Board,
+    pub claims: Vec<ClaimSeat>,
+    pub first: S,
+    pub others: Vec<S>,
+    pub units: Plan,
+}
+
+/// Creates a crew that no worker has joined yet, with a worker for each of the other states, and its owner's end. An error means that
+/// memory ran out.
 pub fn new_crew<S: Follow<E, T>, E: Drop, T: Drop, J: Naming + Boarding + Origin<S>>(
     alloc: Global,
     opened: Opened<E>,
-    board: Board,
-    claims: Vec<ClaimSeat>,
-    state: S,
-    states: Vec<S>,
-    plan: Plan,
+    parts: CrewParts<S>,
 ) -> Result<(Arc<Shared<S, E, T, J>>, Lead<S, E, T, J>), AllocError>
     requires book { opened ≡ J.book }
-    requires board { board.name ≡ J.board }
-    requires claims { All (λ s. s.board ≡ J.board) claims.items }
-    requires start { J.start ≡ Some state }
-    requires starts { All (λ s. J.start ≡ Some s) states.items }
-    requires many { length claims.items ≡ length states.items }
+    requires board { parts.board.name ≡ J.board }
+    requires claims { All (λ s. s.board ≡ J.board) parts.claims.items }
+    requires start { J.start ≡ Some parts.first }
+    requires starts { All (λ s. J.start ≡ Some s) parts.others.items }
+    requires many { length parts.claims.items ≡ length parts.others.items }
     ensures lead { IfOk result (λ r. r.1 ≡ ([], [])) }
-    ensures many { IfOk result (λ r. arc_value r.0 ≡ length states.items) }
+    ensures many { IfOk result (λ r. arc_value r.0 ≡ length parts.others.items) }
 {
+    let CrewParts {
+        board,
+        claims,
+        first,
+        others,
+        units: plan,
+    } = parts;
     let (book, front) = opened.named::<J>();
-    let mine = Follower::new(state, front.again());
-    let made = new_shared(alloc, book, board, claims, states, &mine, &front, plan)?;
+    let mine = Follower::new(first, front.again());
+    let hands = Hands {
+        board,
+        claims,
+        states: others,
+        plan,
+    };
+    let made = new_shared(alloc, book, hands, &mine, &front)?;
     let Ok(crew) = Arc::new(alloc, made) else {
         return Err(AllocError);
     };

@@ -5,12 +5,12 @@ ghost use Rattle.std.specs.Thread.{IsSync};
 ghost use Rattle.fab_board.specs.Follows.{IsAnswered};
 ghost use Rattle.fab_board.specs.Judged.{AllAnswered};
 
-use crate::board::{Board, ClaimSeat};
+use crate::board::Board;
 use crate::book::{Naming, Opened};
 use crate::claimer::Boarding;
 use crate::follow::{Follow, Origin, Sheet};
 use crate::follow_crew::{beside, close_board};
-use crate::follow_lead::{Lead, new_crew};
+use crate::follow_lead::{CrewParts, Lead, new_crew};
 use crate::gate::Gate;
 use crate::plan::Plan;
 use crate::slots::{unwrap_all, vacant};
@@ -131,16 +131,6 @@ impl<'r, T: Drop, G: Gate, B: Judging<Answer = T>> Follow<Ask, Option<T>> for Le
     }
 }
 
-/// What a crew is made of: a claim board with its workers' seats, a state for the owner and one for each worker, and how the numbers are
-/// shared out.
-struct CrewParts<S> {
-    board: Board,
-    claims: Vec<ClaimSeat>,
-    first: S,
-    others: Vec<S>,
-    units: Plan,
-}
-
 /// The owner's end of a crew, and the sheet that it reads.
 #[derive(Drop)]
 struct OwnerEnd<S: Follow<Ask, Option<T>>, T: Drop, J: Naming + Boarding + Origin<S>> {
@@ -176,26 +166,33 @@ pub fn judge_batch<
         (j : ℕ) (d : T) → j < count →
         F.post judge.now (first + j) (Ok (slice_index_or v.items j d))) }
 {
-    judge_with(rt, alloc, first, count, workers, gate, Called { by: judge })
+    judge_with(
+        rt,
+        alloc,
+        Ask { first, count },
+        workers,
+        gate,
+        Called { by: judge },
+    )
 }
 
-/// Judges the `count` numbers from `first` on by a judgement, as [`judge_batch`] does by a closure.
+/// Judges the numbers that are asked for by a judgement, as [`judge_batch`] does by a closure.
 fn judge_with<T: Send + Drop, G: Gate, B: Judging<Answer = T> + Send, R: Threads + Wait + Sync>(
     rt: &R,
     alloc: Global,
-    first: u64,
-    count: u64,
+    ask: Ask,
     workers: u64,
     gate: &G,
     by: B,
 ) -> Result<Vec<T>, AllocError>
-    requires first { first ≤ 2 ^ 62 }
-    requires count { count ≤ 4096 }
+    requires first { ask.first ≤ 2 ^ 62 }
+    requires count { ask.count ≤ 4096 }
     requires workers { (0 < workers) × (workers ≤ 64) }
-    requires calls { (k : ℕ) → k < count → B.may by (first + k) }
-    ensures len { IfOk result (λ v. length v.items ≡ count) }
-    ensures each { IfOk result (λ v. AllAnswered (λ k x. B.gives by (first + k) x) v.items) }
+    requires calls { (k : ℕ) → k < ask.count → B.may by (ask.first + k) }
+    ensures len { IfOk result (λ v. length v.items ≡ ask.count) }
+    ensures each { IfOk result (λ v. AllAnswered (λ k x. B.gives by (ask.first + k) x) v.items) }
 {
+    let Ask { first, count } = ask;
     if count == 0 {
         return Ok(Vec::new(alloc));
     }
@@ -285,16 +282,7 @@ fn judged_by<
     ensures each { IfOk result (λ v.
         AllAnswered (λ k x. IsAnswered S.after S.answer J.start (first + k) (Some x)) v.items) }
 {
-    let CrewParts {
-        board,
-        claims,
-        first: state,
-        others,
-        units,
-    } = parts;
-    let (crew, lead) = new_crew::<S, Ask, Option<T>, J>(
-        alloc, opened, board, claims, state, others, units,
-    )?;
+    let (crew, lead) = new_crew::<S, Ask, Option<T>, J>(alloc, opened, parts)?;
     let sheet = lead.sheet(alloc)?;
     let mut owner_end = OwnerEnd { lead, sheet };
     let answers = beside(

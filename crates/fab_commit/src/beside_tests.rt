@@ -97,21 +97,23 @@ pub(crate) fn make_part<W: Words + Send + Sync + Drop, G: Gate, R: Threads + Wai
     if left == 0 || batch < 1 || 4096 < batch {
         return Err(Fail::from("no moves to make"));
     }
+    let workers = match by {
+        By::Crew(workers, _) => workers,
+        _ => 1,
+    };
+    if workers < 1 || 64 < workers {
+        return Err(Fail::from("no crew"));
+    }
+    let plan = StagePlan {
+        batch,
+        workers,
+        gate,
+        dial,
+    };
     match by {
-        By::Alone(part) => anneal.make_alone(rt, part.min(left), batch, gate, dial, shower)?,
-        By::Rest => anneal.finish_stage_alone(rt, batch, gate, dial, shower)?,
-        By::Crew(workers, part) => {
-            if workers < 1 || 64 < workers {
-                return Err(Fail::from("no crew"));
-            }
-            let plan = StagePlan {
-                batch,
-                workers,
-                gate,
-                dial,
-            };
-            anneal.make_beside(rt, part.min(left), &plan, shower)?;
-        }
+        By::Alone(part) => anneal.make_alone(rt, part.min(left), &plan, shower)?,
+        By::Rest => anneal.make_alone(rt, left, &plan, shower)?,
+        By::Crew(_, part) => anneal.make_beside(rt, part.min(left), &plan, shower)?,
     }
     Ok(())
 }

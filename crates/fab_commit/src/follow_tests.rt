@@ -6,8 +6,8 @@ ghost use Rattle.std.specs.Thread.{IsSync};
 use crate::crew_tests::hold;
 use crate::in_time::in_time;
 use fab_board::follow_crew::{beside, retire};
-use fab_board::follow_lead::{Lead, new_crew};
-use fab_board::{Board, Boarding, ClaimSeat, Follow, Naming, Opened, Origin, Plan, Sheet};
+use fab_board::follow_lead::{CrewParts, Lead, new_crew};
+use fab_board::{Board, Boarding, Follow, Naming, Opened, Origin, Plan, Sheet};
 use std::alloc::{AllocError, Global};
 use std::marker::{Brand, Model};
 use std::sync::Wait;
@@ -130,14 +130,6 @@ impl<'a> Follow<Step, u64> for Counted<'a> {
     }
 }
 
-// What a crew is made of.
-struct CrewParts<S> {
-    board: Board,
-    claims: Vec<ClaimSeat>,
-    first: S,
-    others: Vec<S>,
-}
-
 // What a crew of so many late workers is made of.
 fn found<'a>(
     alloc: Global,
@@ -161,6 +153,7 @@ fn found<'a>(
         claims,
         first: Counted::new(watch, false),
         others,
+        units: Plan::single(1),
     })
 }
 
@@ -275,21 +268,7 @@ fn posted_by<
     requires many { length founded.claims.items ≡ length founded.others.items }
     requires may { (s : S) (e : Step) → S.may s e }
 {
-    let CrewParts {
-        board,
-        claims,
-        first,
-        others,
-    } = founded;
-    let (crew, lead) = new_crew::<S, Step, u64, J>(
-        alloc,
-        opened,
-        board,
-        claims,
-        first,
-        others,
-        Plan::single(1),
-    )?;
+    let (crew, lead) = new_crew::<S, Step, u64, J>(alloc, opened, founded)?;
     let sheet = lead.sheet(alloc)?;
     let mut owner_end = OwnerEnd { lead, sheet };
     beside(

@@ -1,5 +1,6 @@
-//! Annealing: moves are judged and committed, and lead to a placement. `run` is what a run of the program executes. `model` is
-//! executed by tests alone: contracts speak of it, and another scheduler can be built on it. `laws` are theorems for callers.
+//! Annealing: moves are judged and committed, and lead to a placement. `run` is what runs execute, those of the program and those by single
+//! turns. `model` is executed by tests alone: contracts speak of it, and another scheduler can be built on it. `laws` are theorems for
+//! callers.
 #![tactic(auto)]
 
 #[cfg(test)]

@@ -43,16 +43,16 @@ fn make_part<K: Keeping, G: Gate, R: Threads + Wait + Sync>(
     if left == 0 || batch < 1 || 4096 < batch {
         return Err(Fail::from("no moves to make"));
     }
-    if way.crewed == 0 || number % way.crewed != 0 {
-        anneal.make_alone(rt, way.part.min(left), batch, gate, dial, shower)?;
-        return Ok(());
-    }
     let plan = StagePlan {
         batch,
         workers: 3,
         gate,
         dial,
     };
+    if way.crewed == 0 || number % way.crewed != 0 {
+        anneal.make_alone(rt, way.part.min(left), &plan, shower)?;
+        return Ok(());
+    }
     anneal.make_beside(rt, way.part.min(left), &plan, shower)?;
     Ok(())
 }

@@ -67,6 +67,29 @@ pub fn decide<C: WireCost, W: Words>(view: &View<'_, C, W>, k: u64) -> Decision
     weigh(view, proposal, word)
 }
 
+impl<'a, C, W> View<'a, C, W> {
+    /// What these words propose, as [`propose`](crate::propose) says. Allocates nothing.
+    #[inline(always)]
+    pub fn propose(&self, words: [u32; 4]) -> Proposal
+        requires legal { IsLegal self.now.design.now self.now.grid.now self.now.fixed.now
+            self.now.placement.now.sites }
+        ensures value { result ≡
+            proposal self.now.design.now self.now.grid.now self.now.fixed.now
+            self.now.placement.now.sites self.now.range words }
+        ensures lawful { (s : Swap) → result ≡ proposes s →
+            IsSwapOf self.now.grid.now self.now.placement.now.sites s }
+    {
+        propose(
+            self.design,
+            self.grid,
+            self.fixed,
+            self.placement,
+            self.range,
+            words,
+        )
+    }
+}
+
 /// What a move proposes, and the word that decides whether it is accepted.
 #[inline(always)]
 fn proposed<C: WireCost, W: Words>(view: &View<'_, C, W>, k: u64) -> (Proposal, u32)
@@ -80,14 +103,7 @@ fn proposed<C: WireCost, W: Words>(view: &View<'_, C, W>, k: u64) -> (Proposal, 
     ensures word { result.1 ≡ slice_index (W.moves view.now.words.now k) 3 }
 {
     let words = view.words.move_words(k);
-    let proposal = propose(
-        view.design,
-        view.grid,
-        view.fixed,
-        view.placement,
-        view.range,
-        words,
-    );
+    let proposal = view.propose(words);
     (proposal, words[3])
 }
 

@@ -3,10 +3,9 @@ use Rattle.std.proofs.Common.{◌≡◌, ℕ, ◌+◌, ◌-◌, ◌++◌, Bool, 
 use Rattle.std.specs.declared.alloc.AllocError.{AllocError}
 use Rattle.fab_dial.specs.declared.readings.Reading.{Reading}
 use Rattle.fab_commit.specs.Serial.{accepted_among, from, moves_left}
-use Rattle.fab_commit.specs.Run.Alone.{IsMadeAlone}
+use Rattle.fab_commit.specs.Run.Alone.{IsMade, IsMadeByTurns}
 use Rattle.fab_commit.specs.Run.ByTurns.{LeadsByTurns}
 use Rattle.fab_commit.specs.Run.Commits.{AnnealOf, run_of}
-use Rattle.fab_commit.specs.Run.Uncounted.{IsMade}
 use Rattle.fab_run.specs.Shown.{EndsShown, LeadsShown, LeadsShownWithin}
 use Rattle.fab_run.specs.Stages.{AreCountedOn}
 
@@ -31,12 +30,12 @@ alone_accepted moves batch count a b (Ok v) old new made =
     made.accepted ∙ ap (λ n. a.accepted ++ accepted_among (run_of moves a) a.standing n) all
 alone_accepted moves batch count a b (Err e) old new made = tt
 
-pub alone_counted : {W A : Type 0} (moves : W → ℕ → List ℕ) (again : Bool) (batch count : ℕ) (a b : AnnealOf W) (answer : Result A AllocError) (old new : List Reading) → (again ≡ true → IsMadeAlone moves batch count a b answer old new)
+pub alone_counted : {W A : Type 0} (moves : W → ℕ → List ℕ) (again : Bool) (batch count : ℕ) (a b : AnnealOf W) (answer : Result A AllocError) (old new : List Reading) → (again ≡ true → IsMadeByTurns moves batch count a b answer old new)
     → OnOk answer (again ≡ true → AreCountedOn (run_of moves a) batch a b)
 alone_counted moves again batch count a b (Ok v) old new made = λ e. record { on = (made e).counted }
 alone_counted moves again batch count a b (Err e) old new made = tt
 
-pub alone_turns : {W A : Type 0} (moves : W → ℕ → List ℕ) (again : Bool) (batch count : ℕ) (a b : AnnealOf W) (answer : Result A AllocError) (old new : List Reading) → (again ≡ true → IsMadeAlone moves batch count a b answer old new)
+pub alone_turns : {W A : Type 0} (moves : W → ℕ → List ℕ) (again : Bool) (batch count : ℕ) (a b : AnnealOf W) (answer : Result A AllocError) (old new : List Reading) → (again ≡ true → IsMadeByTurns moves batch count a b answer old new)
     → count ≡ moves_left (run_of moves a) a.standing → OnOk answer (again ≡ true → LeadsByTurns (run_of moves a) batch a b)
 alone_turns moves again batch count a b (Ok v) old new made whole = λ e. (made e).by_turns whole
 alone_turns moves again batch count a b (Err e) old new made whole = tt

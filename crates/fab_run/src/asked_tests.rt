@@ -5,7 +5,9 @@ ghost use Rattle.fab_sched.specs.Annealing.{IsLawful};
 use crate::piece::unwatched;
 use crate::run_tests::{ARCH, INPUTS, OPTIONS, SEVEN, SHORT, writer_with};
 use crate::setting::read_setting;
-use crate::stages::{Pace, anneal_all, crew_size, is_judged_ahead, make_part, make_rest};
+use crate::stages::{
+    Environment, Pace, anneal_all, crew_size, is_judged_ahead, make_part, make_rest,
+};
 use crate::watched_tests::Quiet;
 use crate::{Inputs, Moves, Options, RunFault};
 use fab_board::{Gate, NoGate};
@@ -51,13 +53,15 @@ fn run_with<V: Words + Send + Sync + Drop, G: Gate, R: AllocGlobal + Threads + W
     let (dial, mut shower) = unwatched(rt, alloc)?;
     let mut report = writer_with(alloc, 10_000);
     let mut costs = Vec::new(alloc);
-    anneal_all(
+    let environment = Environment {
         rt,
-        alloc,
+        gate,
+        dial: &dial,
+    };
+    anneal_all(
+        &environment,
         &mut anneal,
         &pace,
-        gate,
-        &dial,
         &mut shower,
         &mut report,
         &mut costs,
@@ -237,12 +241,12 @@ pub(crate) fn ring_of(net: &[u8]) -> Inputs<'_> {
 // How many moves a stage has, how many workers are asked for and help, from which move on threads are counted, and how many come at least.
 const CREWS: &[(u64, u64, u64, u64, u64)] = &[
     (5000, 3, 3, 5000, 3),
-    (100_000, 4, 2, 100_000, 2),
+    (1_000_000, 4, 2, 1_000_000, 2),
     (5000, 3, 3, 0, 1),
     (5000, 1, 1, 5000, 1),
     (5000, 4, 1, 5000, 1),
     (4999, 3, 3, 4999, 1),
-    (99_999, 4, 2, 99_999, 1),
+    (999_999, 4, 2, 999_999, 1),
 ];
 
 // Three workers judge the first batch of the frozen stage, all at once; two of four where two help. The owner may have taken moves of it
@@ -278,14 +282,14 @@ const WAYS: &[(bool, u64, usize, u64, u64, u64, bool)] = &[
     (false, 1000, 200, 3, 5000, 16, true),
     (false, 1000, 200, 3, 4999, 16, false),
     (false, 1000, 200, 3, 5000, 15, false),
-    (false, 1000, 200, 2, 100_000, 16, true),
-    (false, 1000, 200, 2, 99_999, 16, false),
-    (false, 1000, 200, 1, 100_000, 16, false),
+    (false, 1000, 200, 2, 1_000_000, 16, true),
+    (false, 1000, 200, 2, 999_999, 16, false),
+    (false, 1000, 200, 1, 1_000_000, 16, false),
     (true, 200_000, 200, 3, 5000, 16, true),
     (false, 1001, 2_499, 64, 5000, 16, false),
     (false, 150_000, 2_500, 3, 5000, 16, true),
-    (false, 150_000, 2_500, 2, 100_000, 16, true),
-    (false, 150_001, 65_535, 64, 100_000, 16, false),
+    (false, 150_000, 2_500, 2, 1_000_000, 16, true),
+    (false, 150_001, 65_535, 64, 1_000_000, 16, false),
 ];
 
 // So many workers are asked for, and so many of them find a processor.

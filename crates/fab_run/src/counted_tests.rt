@@ -5,7 +5,8 @@ use crate::narrow::Narrow;
 use crate::piece_tests::SEVEN_AT_13;
 use crate::run_tests::{INPUTS, OPTIONS, SEVEN, SHORT, push_all, push_ending, writer_with};
 use crate::{
-    CountedOutcome, Inputs, Options, RunFault, fault_line, place_run_counted, resume_run_counted,
+    CountedOutcome, Inputs, Options, Restart, RunFault, fault_line, place_run_counted,
+    resume_run_counted,
 };
 use fab_text::Counted;
 use std::alloc::{AllocError, Global};
@@ -57,16 +58,13 @@ fn counted_on(
     let alloc = rt.alloc();
     let mut report = writer_with(alloc, 10_000);
     let mut place = writer_with(alloc, 10_000);
-    let answer = resume_run_counted(
-        rt,
-        &SEVEN,
-        SEVEN_AT_13,
+    let restart = Restart {
+        point: SEVEN_AT_13,
         batch,
-        4,
-        None,
-        &mut report,
-        &mut place,
-    );
+        workers: 4,
+        stop: None,
+    };
+    let answer = resume_run_counted(rt, &SEVEN, &restart, &mut report, &mut place);
     told_of(alloc, &SEVEN, report, place, answer)
 }
 

@@ -19,7 +19,7 @@ use crate::piece::{Piece, run_piece, unwatched};
 use crate::report::head_lines;
 use crate::run_answer::{Ended, outcome_of};
 use crate::setting::read_setting;
-use crate::stages::{Pace, helpers_of};
+use crate::stages::{Environment, Pace, helpers_of};
 use fab_arch::Grid;
 use fab_board::{Gate, NoGate};
 use fab_commit::{Anneal, Keeping, KeepsNumbers};
@@ -106,16 +106,14 @@ pub(crate) fn place_ended<
     W: Sink,
     P: Sink,
 >(
-    rt: &R,
+    environment: &Environment<'_, R, G>,
     inputs: &Inputs,
     options: &Options,
-    gate: &G,
-    dial: &Dial,
     shower: &mut Shower,
     report: &mut W,
     place: &mut P,
 ) -> Result<Ended, RunFault>
-    requires own { shower.old.dial ≡ dial.now }
+    requires own { shower.old.dial ≡ environment.now.dial.now }
     ensures headline { IfOk result (λ out.
         Answers K.numbers out (λ a.
         IsPlaced (AskFor (texts_of inputs.now) options.now) (texts_of inputs.now) a
@@ -144,26 +142,25 @@ pub(crate) fn place_ended<
         shower.old.shown shower.new.shown) }
     ensures dial { shower.new.dial ≡ shower.old.dial }
 {
-    let alloc = rt.alloc();
+    let alloc = environment.rt.alloc();
     let (design, grid, pins, schedule) = read_setting(alloc, inputs, options)?;
     let pace = Pace {
         moves: schedule.moves(),
         batch: options.batch,
         workers: options.workers,
-        helpers: helpers_of(rt, options.workers),
+        helpers: helpers_of(environment.rt, options.workers),
         side: u64::from(grid.nx().max(grid.ny())),
         stop: options.stop,
     };
     let (anneal, head) = begin::<K>(alloc, &design, &grid, pins, schedule, options.seed)?;
     let piece = Piece {
+        inputs,
         design: &design,
         grid: &grid,
         head,
         pace,
     };
-    run_piece(
-        rt, anneal, inputs, &piece, gate, dial, shower, report, place,
-    )
+    run_piece(environment, anneal, &piece, shower, report, place)
 }
 
 /// Places the design of a run as `place_run` does, and shows its progress on the dial: the moves made, how many of them were accepted,
@@ -221,8 +218,14 @@ pub fn place_run_shown<G: Gate, R: AllocGlobal + Threads + Wait + Sync, W: Sink,
         shower.old.shown shower.new.shown) }
     ensures dial { shower.new.dial ≡ shower.old.dial }
 {
+    let environment = Environment { rt, gate, dial };
     match place_ended::<KeepsNumbers, G, R, W, P>(
-        rt, inputs, options, gate, dial, shower, report, place,
+        &environment,
+        inputs,
+        options,
+        shower,
+        report,
+        place,
     ) {
         Ok(ended) => Ok(outcome_of(ended)),
         Err(fault) => Err(fault),

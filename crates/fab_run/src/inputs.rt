@@ -52,6 +52,19 @@ pub struct Options {
     pub stop: Option<u64>,
 }
 
+/// The checkpoint text that a run goes on from, and the numbers that it is given, as in [`Options`].
+#[derive(Clone, Copy, Debug)]
+pub struct Restart<'a> {
+    /// The checkpoint text.
+    pub point: &'a [u8],
+    /// How many moves a turn commits at most, 1 to 4,096.
+    pub batch: u64,
+    /// How many threads judge moves ahead at most, 1 to 64.
+    pub workers: u64,
+    /// After how many moves it stops, counted from the first move of the run.
+    pub stop: Option<u64>,
+}
+
 /// How a run ended.
 #[derive(Drop)]
 pub enum Ending {

@@ -42,11 +42,11 @@ mod stages;
 mod watched_tests;
 
 pub use check::check_run;
-pub use counted_runs::{place_run_counted, place_run_counted_shown, resume_run_counted};
+pub use counted_runs::{place_run_counted, resume_run_counted};
 pub use fab_commit::Point;
 pub use fault::{RunFault, fault_line};
 pub use fresh_run::{place_run, place_run_shown};
-pub use inputs::{CountedOutcome, Ending, Inputs, Moves, Options, Outcome};
+pub use inputs::{CountedOutcome, Ending, Inputs, Moves, Options, Outcome, Restart};
 pub use laws::{
     answers_are_told, calls_are_runs, chains_are_runs, readings_are_of_lawful_standings,
     standings_are_lawful, watchers_read_standings,

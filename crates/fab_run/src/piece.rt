@@ -21,7 +21,7 @@ use crate::fault::RunFault;
 use crate::inputs::{Ending, Inputs};
 use crate::report::final_line;
 use crate::run_answer::{Ended, ended_by};
-use crate::stages::{Pace, anneal_all};
+use crate::stages::{Environment, Pace, anneal_all};
 use fab_arch::Grid;
 use fab_board::Gate;
 use fab_commit::{Anneal, Keeping};
@@ -36,7 +36,9 @@ use std::thread::Threads;
 
 /// A requested piece, without the annealer that is to make it.
 #[derive(Drop)]
-pub(crate) struct Piece<'d, 'g> {
+pub(crate) struct Piece<'i, 't, 'd, 'g> {
+    /// The texts of the run, and the file names that its place text shows.
+    pub(crate) inputs: &'i Inputs<'t>,
     /// The design of the run.
     pub(crate) design: &'d Design,
     /// Its array.
@@ -166,18 +168,15 @@ fn finish_report<K: Keeping, W: Sink>(
 
 /// Makes the moves of a piece, and reports them. The gate is called around each judgement, but not one that is made
 /// again, and before each commit; a gate that does nothing may be left uncalled.
-fn anneal_reported<K: Keeping, G: Gate, W: Sink, P: Sink, R: Threads + Wait + Sync>(
-    rt: &R,
-    alloc: Global,
+fn anneal_reported<K: Keeping, G: Gate, W: Sink, P: Sink, R: AllocGlobal + Threads + Wait + Sync>(
+    environment: &Environment<'_, R, G>,
     mut anneal: Anneal<'_, StreamWords, K>,
-    piece: &Piece<'_, '_>,
-    gate: &G,
-    dial: &Dial,
+    piece: &Piece<'_, '_, '_, '_>,
     shower: &mut Shower,
     report: &mut W,
     place: &mut P,
 ) -> Result<Ended, RunFault>
-    requires own { shower.old.dial ≡ dial.now }
+    requires own { shower.old.dial ≡ environment.now.dial.now }
     requires fresh { IsNew anneal }
     requires moves { piece.now.pace.moves ≡ anneal.plan.moves }
     requires plan { IsLawful anneal.plan }
@@ -216,47 +215,38 @@ fn anneal_reported<K: Keeping, G: Gate, W: Sink, P: Sink, R: Threads + Wait + Sy
         (piece_of stream_moves anneal.entry piece.now.head.items piece.now.pace.stop)
         piece.now.pace.batch shower.old.shown shower.new.shown) }
 {
+    let alloc = environment.rt.alloc();
     let pace = piece.pace;
     let mut costs = write_head(alloc, anneal.cost(), &piece.head, report, place)?;
-    anneal_all(
-        rt,
-        alloc,
-        &mut anneal,
-        &pace,
-        gate,
-        dial,
-        shower,
-        report,
-        &mut costs,
-    )?;
+    anneal_all(environment, &mut anneal, &pace, shower, report, &mut costs)?;
     finish_report(alloc, anneal, costs, report)
 }
 
 /// Writes the place text of a run that is finished.
 fn write_placement<P: Sink>(
     alloc: Global,
-    inputs: &Inputs,
-    piece: &Piece<'_, '_>,
+    piece: &Piece<'_, '_, '_, '_>,
     outcome: &Ended,
     place: &mut P,
 ) -> Result<(), RunFault>
-    requires labels { are_labels inputs.now.labels.net.now inputs.now.labels.arch.now ≡ true }
+    requires labels { are_labels piece.now.inputs.now.labels.net.now
+        piece.now.inputs.now.labels.arch.now ≡ true }
     requires legal { IsLegal piece.now.design.now piece.now.grid.now []
         outcome.now.placement.sites }
     ensures whole { OnOk result
-        (IsPlaceOut (texts_of inputs.now) piece.now.design.now piece.now.grid.now
+        (IsPlaceOut (texts_of piece.now.inputs.now) piece.now.design.now piece.now.grid.now
         outcome.now.placement.sites outcome.now.ending (P.contents place.old)
         (P.contents place.new)) }
     ensures sound { OnOk result (P.failed place.new ≡ P.failed place.old) }
     ensures fault { IfErr result
-        (IsPlaceFault (texts_of inputs.now) piece.now.design.now piece.now.grid.now
+        (IsPlaceFault (texts_of piece.now.inputs.now) piece.now.design.now piece.now.grid.now
         outcome.now.placement.sites outcome.now.ending (P.contents place.old)
         (P.contents place.new) (P.failed place.old) (P.failed place.new)) }
 {
     match &outcome.ending {
         Ending::Stopped(_) => Ok(()),
         Ending::Finished => {
-            let labels = &inputs.labels;
+            let labels = &piece.inputs.labels;
             let placement = &outcome.placement;
             write_place(alloc, place, labels, piece.design, piece.grid, placement)?;
             Ok(())
@@ -275,28 +265,26 @@ pub(crate) fn run_piece<
     W: Sink,
     P: Sink,
 >(
-    rt: &R,
+    environment: &Environment<'_, R, G>,
     anneal: Anneal<'_, StreamWords, K>,
-    inputs: &Inputs,
-    piece: &Piece<'_, '_>,
-    gate: &G,
-    dial: &Dial,
+    piece: &Piece<'_, '_, '_, '_>,
     shower: &mut Shower,
     report: &mut W,
     place: &mut P,
 ) -> Result<Ended, RunFault>
-    requires own { shower.old.dial ≡ dial.now }
+    requires own { shower.old.dial ≡ environment.now.dial.now }
     requires fresh { IsNew anneal }
     requires design { piece.now.design.now ≡ anneal.design }
     requires grid { piece.now.grid.now ≡ anneal.grid }
-    requires labels { are_labels inputs.now.labels.net.now inputs.now.labels.arch.now ≡ true }
+    requires labels { are_labels piece.now.inputs.now.labels.net.now
+        piece.now.inputs.now.labels.arch.now ≡ true }
     requires moves { piece.now.pace.moves ≡ anneal.plan.moves }
     requires plan { IsLawful anneal.plan }
     requires limits { (1 ≤ piece.now.pace.batch) × (piece.now.pace.batch ≤ 4096) ×
         (1 ≤ piece.now.pace.workers) × (piece.now.pace.workers ≤ 64) }
     ensures made { IfOk result (λ out.
         Answers K.numbers out (λ a.
-        IsMade (texts_of inputs.now)
+        IsMade (texts_of piece.now.inputs.now)
         (piece_of stream_moves anneal.entry piece.now.head.items piece.now.pace.stop) a
         (W.contents report.old) (W.contents report.new) (P.contents place.old)
         (P.contents place.new))) }
@@ -319,7 +307,7 @@ pub(crate) fn run_piece<
         (piece_of stream_moves anneal.entry piece.now.head.items piece.now.pace.stop)
         (W.contents report.old) (W.contents report.new) (P.contents place.old)
         (P.contents place.new) ⊎
-        IsTextCut (texts_of inputs.now)
+        IsTextCut (texts_of piece.now.inputs.now)
         (piece_of stream_moves anneal.entry piece.now.head.items piece.now.pace.stop)
         (W.contents report.old) (W.contents report.new) (P.contents place.old)
         (P.contents place.new)) }
@@ -337,8 +325,7 @@ pub(crate) fn run_piece<
         (piece_of stream_moves anneal.entry piece.now.head.items piece.now.pace.stop)
         piece.now.pace.batch shower.old.shown shower.new.shown) }
 {
-    let alloc = rt.alloc();
-    let outcome = anneal_reported(rt, alloc, anneal, piece, gate, dial, shower, report, place)?;
-    write_placement(alloc, inputs, piece, &outcome, place)?;
+    let outcome = anneal_reported(environment, anneal, piece, shower, report, place)?;
+    write_placement(environment.rt.alloc(), piece, &outcome, place)?;
     Ok(outcome)
 }

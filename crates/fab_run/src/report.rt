@@ -5,6 +5,7 @@ ghost use Rattle.fab_run.specs.RunReport.{array_text, blocks_line, design_text, 
 
 use fab_arch::Grid;
 use fab_net::Design;
+use fab_sched::Stage;
 use fab_text::{push_fixed3, push_fixed4, push_number};
 use std::alloc::{AllocError, Global};
 
@@ -58,23 +59,23 @@ fn push_array(lines: &mut Vec<u8>, grid: &Grid) -> Result<(), AllocError>
     Ok(())
 }
 
-/// The line of a stage that ended: its index, its temperature `t` in ten-thousandths, its range in thousandths, the moves of a stage, how
-/// many of them were accepted, and the cost at its end in ten-thousandths.
+/// The line of a stage that ended: its index, its temperature in ten-thousandths, its range in thousandths, the moves of a stage, how many
+/// of them were accepted, and the cost at its end in ten-thousandths.
 pub(crate) fn stage_line(
     alloc: Global,
-    index: u64,
-    t: u64,
-    range: u64,
+    stage: &Stage,
     moves: u64,
     accepted: u64,
     cost: u64,
 ) -> Result<Vec<u8>, AllocError>
-    ensures { IfOk result (λ v. v.items ≡ stage_text index t range moves accepted cost) }
+    ensures { IfOk result (λ v.
+        v.items ≡
+        stage_text stage.now.index stage.now.t stage.now.range moves accepted cost) }
 {
     let mut line = Vec::new(alloc);
-    push_stage(&mut line, index, t)?;
+    push_stage(&mut line, stage.index, stage.t)?;
     line.extend_from_slice(b" range ")?;
-    push_fixed3(&mut line, range)?;
+    push_fixed3(&mut line, stage.range)?;
     line.extend_from_slice(b" moves ")?;
     push_number(&mut line, moves)?;
     line.extend_from_slice(b" accepted ")?;

@@ -15,16 +15,16 @@ ghost use Rattle.fab_run.specs.declared.fault.RunFault.TheVariants.{NoMemory};
 
 use crate::designs::read_design;
 use crate::fault::RunFault;
-use crate::inputs::{Inputs, Outcome};
+use crate::inputs::{Inputs, Outcome, Restart};
 use crate::piece::{Piece, run_piece, unwatched};
 use crate::point_reading::point_for;
 use crate::run_answer::{Ended, outcome_of};
 use crate::setting::check_threads;
-use crate::stages::{Pace, helpers_of};
+use crate::stages::{Environment, Pace, helpers_of};
 use fab_arch::Grid;
 use fab_board::{Gate, NoGate};
 use fab_commit::{Anneal, Keeping, KeepsNumbers, Point};
-use fab_dial::{Dial, Shower};
+use fab_dial::Shower;
 use fab_file::{PlaceFault, are_labels};
 use fab_move::StreamWords;
 use fab_net::Design;
@@ -88,7 +88,8 @@ fn read_going(
     Ok((design, seed, grid, point))
 }
 
-/// Resumes a run as `resume_run_shown` does, and keeps what `K` says of the moves that it accepts.
+/// Resumes a run as `resume_run` does, shows its progress on the dial, as `place_run_shown` does, and keeps what `K` says of the moves
+/// that it accepts.
 pub(crate) fn resume_ended<
     K: Keeping,
     G: Gate,
@@ -96,32 +97,37 @@ pub(crate) fn resume_ended<
     W: Sink,
     P: Sink,
 >(
-    rt: &R,
+    environment: &Environment<'_, R, G>,
     inputs: &Inputs,
-    point: &[u8],
-    batch: u64,
-    workers: u64,
-    stop: Option<u64>,
-    gate: &G,
-    dial: &Dial,
+    restart: &Restart<'_>,
     shower: &mut Shower,
     report: &mut W,
     place: &mut P,
 ) -> Result<Ended, RunFault>
-    requires own { shower.old.dial ≡ dial.now }
+    requires own { shower.old.dial ≡ environment.now.dial.now }
     ensures headline { IfOk result (λ out.
         Answers K.numbers out (λ a.
-        IsPlaced (AskToGoOn (texts_of inputs.now) point.now batch workers stop)
+        IsPlaced
+        (AskToGoOn (texts_of inputs.now) restart.now.point.now restart.now.batch
+        restart.now.workers restart.now.stop)
         (texts_of inputs.now) a (W.contents report.old) (W.contents report.new)
         (P.contents place.old) (P.contents place.new))) }
     ensures redone { IfOk result (λ out.
-        (p : PieceAsked) × AskToGoOn (texts_of inputs.now) point.now batch workers stop p ×
-        (K.again ≡ true → AreRedone p batch out.redone)) }
-    ensures only { (s : Going) → IsGoing (texts_of inputs.now) point.now batch workers s →
+        (p : PieceAsked) ×
+        AskToGoOn (texts_of inputs.now) restart.now.point.now restart.now.batch
+        restart.now.workers restart.now.stop p ×
+        (K.again ≡ true → AreRedone p restart.now.batch out.redone)) }
+    ensures only { (s : Going) →
+        IsGoing (texts_of inputs.now) restart.now.point.now restart.now.batch
+        restart.now.workers s →
         IfErr result (λ e. ¬ IsRefusal e) }
-    ensures fault { IfErr result (IsGoingFault (texts_of inputs.now) point.now batch workers) }
+    ensures fault { IfErr result
+        (IsGoingFault (texts_of inputs.now) restart.now.point.now restart.now.batch
+        restart.now.workers) }
     ensures cut_short { IfErr result
-        (IsCutShort (AskToGoOn (texts_of inputs.now) point.now batch workers stop)
+        (IsCutShort
+        (AskToGoOn (texts_of inputs.now) restart.now.point.now restart.now.batch
+        restart.now.workers restart.now.stop)
         (texts_of inputs.now) P.may_be_unready (W.contents report.old) (W.contents report.new)
         (P.contents place.old) (P.contents place.new)) }
     ensures sound { OnOk result ((W.failed report.new ≡ W.failed report.old) ×
@@ -130,85 +136,39 @@ pub(crate) fn resume_ended<
         (W.failed report.new ≡ report_failed_with e (W.failed report.old)) ×
         (P.failed place.new ≡ place_failed_with e (P.failed place.old))) }
     ensures shown { OnOk result
-        (HaveShown (AskToGoOn (texts_of inputs.now) point.now batch workers stop) batch
+        (HaveShown
+        (AskToGoOn (texts_of inputs.now) restart.now.point.now restart.now.batch
+        restart.now.workers restart.now.stop) restart.now.batch
         shower.old.shown shower.new.shown) }
     ensures shown_short { IfErr result
-        (IsShownShort (AskToGoOn (texts_of inputs.now) point.now batch workers stop) batch
+        (IsShownShort
+        (AskToGoOn (texts_of inputs.now) restart.now.point.now restart.now.batch
+        restart.now.workers restart.now.stop) restart.now.batch
         shower.old.shown shower.new.shown) }
     ensures dial { shower.new.dial ≡ shower.old.dial }
 {
-    let alloc = rt.alloc();
-    let (design, seed, grid, point) = read_going(alloc, inputs, point, batch, workers)?;
+    let alloc = environment.rt.alloc();
+    let (batch, workers) = (restart.batch, restart.workers);
+    let (design, seed, grid, point) = read_going(alloc, inputs, restart.point, batch, workers)?;
     let pace = Pace {
         moves: point.schedule.moves(),
         batch,
         workers,
-        helpers: helpers_of(rt, workers),
+        helpers: helpers_of(environment.rt, workers),
         side: u64::from(grid.nx().max(grid.ny())),
-        stop,
+        stop: restart.stop,
     };
     let words = StreamWords::new(seed);
     let numbered = Anneal::from_point(alloc, &design, &grid, point, words)?;
     let anneal = numbered.keeping::<K>();
     let piece = Piece {
+        inputs,
         design: &design,
         grid: &grid,
         head: Vec::new(alloc),
         pace,
     };
-    run_piece(
-        rt, anneal, inputs, &piece, gate, dial, shower, report, place,
-    )
-}
-
-/// Resumes a run as `resume_run` does, and shows its progress on the dial, as `place_run_shown` does.
-pub(crate) fn resume_run_shown<G: Gate, R: AllocGlobal + Threads + Wait + Sync, W: Sink, P: Sink>(
-    rt: &R,
-    inputs: &Inputs,
-    point: &[u8],
-    batch: u64,
-    workers: u64,
-    stop: Option<u64>,
-    gate: &G,
-    dial: &Dial,
-    shower: &mut Shower,
-    report: &mut W,
-    place: &mut P,
-) -> Result<Outcome, RunFault>
-    requires own { shower.old.dial ≡ dial.now }
-    ensures headline { IfOk result (λ out.
-        IsPlaced (AskToGoOn (texts_of inputs.now) point.now batch workers stop)
-        (texts_of inputs.now) (answer_of out) (W.contents report.old) (W.contents report.new)
-        (P.contents place.old) (P.contents place.new)) }
-    ensures redone { IfOk result (λ out.
-        (p : PieceAsked) × AskToGoOn (texts_of inputs.now) point.now batch workers stop p ×
-        AreRedone p batch out.redone) }
-    ensures only { (s : Going) → IsGoing (texts_of inputs.now) point.now batch workers s →
-        IfErr result (λ e. ¬ IsRefusal e) }
-    ensures fault { IfErr result (IsGoingFault (texts_of inputs.now) point.now batch workers) }
-    ensures cut_short { IfErr result
-        (IsCutShort (AskToGoOn (texts_of inputs.now) point.now batch workers stop)
-        (texts_of inputs.now) P.may_be_unready (W.contents report.old) (W.contents report.new)
-        (P.contents place.old) (P.contents place.new)) }
-    ensures sound { OnOk result ((W.failed report.new ≡ W.failed report.old) ×
-        (P.failed place.new ≡ P.failed place.old)) }
-    ensures failed { IfErr result (λ e.
-        (W.failed report.new ≡ report_failed_with e (W.failed report.old)) ×
-        (P.failed place.new ≡ place_failed_with e (P.failed place.old))) }
-    ensures shown { OnOk result
-        (HaveShown (AskToGoOn (texts_of inputs.now) point.now batch workers stop) batch
-        shower.old.shown shower.new.shown) }
-    ensures shown_short { IfErr result
-        (IsShownShort (AskToGoOn (texts_of inputs.now) point.now batch workers stop) batch
-        shower.old.shown shower.new.shown) }
-    ensures dial { shower.new.dial ≡ shower.old.dial }
-{
-    match resume_ended::<KeepsNumbers, G, R, W, P>(
-        rt, inputs, point, batch, workers, stop, gate, dial, shower, report, place,
-    ) {
-        Ok(ended) => Ok(outcome_of(ended)),
-        Err(fault) => Err(fault),
-    }
+    run_piece(environment, anneal, &piece, shower, report, place)
 }
 
 /// Resumes a run from a checkpoint text, and makes its moves up to the last one or to the stop. It answers and writes what annealing one
@@ -255,17 +215,26 @@ pub fn resume_run<R: AllocGlobal + Threads + Wait + Sync, W: Sink, P: Sink>(
         (P.failed place.new ≡ place_failed_with e (P.failed place.old))) }
 {
     let (dial, mut shower) = unwatched(rt, rt.alloc())?;
-    resume_run_shown(
-        rt,
-        inputs,
+    let restart = Restart {
         point,
         batch,
         workers,
         stop,
-        &NoGate,
-        &dial,
+    };
+    let environment = Environment {
+        rt,
+        gate: &NoGate,
+        dial: &dial,
+    };
+    match resume_ended::<KeepsNumbers, NoGate, R, W, P>(
+        &environment,
+        inputs,
+        &restart,
         &mut shower,
         report,
         place,
-    )
+    ) {
+        Ok(ended) => Ok(outcome_of(ended)),
+        Err(fault) => Err(fault),
+    }
 }

@@ -3,10 +3,9 @@
 ghost use Rattle.std.specs.Prelude.{◌≡◌, ℕ, ◌+◌, ◌-◌, ◌<◌, ◌≤◌, ◌++◌, true, Some, OnOk, OnErr, IfOk, IfErr, MatchOption};
 ghost use Rattle.fab_sched.specs.Annealing.{IsLawful};
 ghost use Rattle.fab_commit.specs.Serial.{accepted_among, from, moves_left, stage_of};
-ghost use Rattle.fab_commit.specs.Run.Alone.{IsMadeAlone};
+ghost use Rattle.fab_commit.specs.Run.Alone.{IsMade, IsMadeByTurns};
 ghost use Rattle.fab_commit.specs.Run.ByTurns.{LeadsByTurns};
 ghost use Rattle.fab_commit.specs.Run.Commits.{IsSameRun, run_of};
-ghost use Rattle.fab_commit.specs.Run.Uncounted.{IsMade};
 ghost use Rattle.fab_commit.specs.Run.Readings.{readings};
 ghost use Rattle.fab_run.specs.Piece.{stage_costs, stage_lines};
 ghost use Rattle.fab_run.specs.Placed.{IsReportFault};
@@ -21,10 +20,18 @@ use fab_dial::{Dial, Shower};
 use fab_sched::Stage;
 use fab_site::Words;
 use fab_text::{Sink, write_whole};
-use std::alloc::{AllocError, Global};
+use std::alloc::AllocError;
 use std::sync::Wait;
 use std::thread;
 use std::thread::Threads;
+
+/// What a run is made in: the system, the gate of its judgements and commits, and the dial that shows how far it has come.
+#[derive(Clone, Copy)]
+pub(crate) struct Environment<'g, R: Wait, G: Gate> {
+    pub(crate) rt: &'g R,
+    pub(crate) gate: &'g G,
+    pub(crate) dial: &'g Dial,
+}
 
 /// How a piece of a run is made.
 #[derive(Clone, Copy)]
@@ -73,8 +80,8 @@ pub(crate) fn helpers_of<R: Threads>(rt: &R, workers: u64) -> u64 {
 /// The fewest moves of a stage for which a crew pays if three or more workers help: founding it takes the time of some thousands of moves.
 const FEWEST_MOVES: u64 = 5_000;
 
-/// The same if two help: such a crew takes longer to found, and saves less.
-const FEWEST_MOVES_OF_TWO: u64 = 100_000;
+/// The same if two help: such a crew saves less of each move, and needs a longer stage to make up for its founding.
+const FEWEST_MOVES_OF_TWO: u64 = 1_000_000;
 
 /// The smallest batch for which a crew pays: with a smaller one, handing over takes as much time as judging.
 const LEAST_BATCH: u64 = 16;
@@ -82,13 +89,17 @@ const LEAST_BATCH: u64 = 16;
 /// The fewest blocks for which a crew pays before the stages are cold, too.
 const MIDDLE_DESIGN: usize = 2_500;
 
+/// The greatest range of such a stage, in thousandths of the array's longer side.
+const MIDDLE_RANGE: u64 = 750;
+
 /// The least range of a stage, in thousandths. A stage has it where few moves of the stages before were accepted.
 const LEAST_RANGE: u64 = 1000;
 
 /// Whether a crew judges this stage's moves ahead; else the owner judges each when its turn comes. A crew saves time if two or more workers
 /// get a processor of their own and few moves are accepted. The range shows the latter: it shrinks while fewer than 44 of 100 are. Only the
-/// standing, the options and the machine decide, so a resumed run decides as the unbroken one on the same machine. The bounds were measured
-/// by bench/stages.py. A gate that does something sees who judges; with such a gate a crew judges all moves.
+/// standing, the design, the options and the machine decide, so a resumed run decides as the unbroken one on the same machine. The bounds
+/// were chosen by bench/stages.py (docs/PERFORMANCE.md). A gate that does something sees who judges; with such a gate a crew judges all
+/// moves.
 pub(crate) fn is_judged_ahead(
     stage: &Stage,
     blocks: usize,
@@ -107,7 +118,7 @@ pub(crate) fn is_judged_ahead(
         return false;
     }
     let is_cold = stage.frozen || stage.range <= LEAST_RANGE;
-    let is_cooler = stage.range <= pace.side.saturating_mul(750);
+    let is_cooler = stage.range <= pace.side.saturating_mul(MIDDLE_RANGE);
     is_cold || is_cooler && blocks >= MIDDLE_DESIGN
 }
 
@@ -143,14 +154,14 @@ fn make_moves<V: Words + Send + Sync + Drop, K: Keeping, G: Gate, R: Threads + W
     ensures made { IsMade V.moves plan.now.batch count anneal.old anneal.new result shower.old.shown
         shower.new.shown }
     ensures counted { K.again ≡ true →
-        IsMadeAlone V.moves plan.now.batch count anneal.old anneal.new result shower.old.shown
+        IsMadeByTurns V.moves plan.now.batch count anneal.old anneal.new result shower.old.shown
         shower.new.shown }
     ensures dial { shower.new.dial ≡ shower.old.dial }
 {
     if ahead && count > 0 {
         return anneal.make_beside(rt, count, plan, shower);
     }
-    anneal.make_alone(rt, count, plan.batch, plan.gate, plan.dial, shower)
+    anneal.make_alone(rt, count, plan, shower)
 }
 
 /// Makes the next `count` moves of the running stage, fewer than are left in it, as [`make_moves`] does.
@@ -232,22 +243,28 @@ pub(crate) fn make_rest<
     make_moves(rt, anneal, left, ahead, plan, shower)
 }
 
+/// The running stage, how many moves a stage has, and whether a crew judges them ahead.
+#[derive(Drop)]
+struct Running {
+    stage: Stage,
+    moves: u64,
+    ahead: bool,
+}
+
 /// Makes the moves that are left in the running stage, in turns of one batch, and appends its cost to `costs`. Returns the report's line
 /// of the stage.
 fn end_stage<V: Words + Send + Sync + Drop, K: Keeping, G: Gate, R: Threads + Wait + Sync>(
     rt: &R,
-    alloc: Global,
     anneal: &mut Anneal<'_, V, K>,
-    stage: Stage,
-    moves: u64,
-    ahead: bool,
+    running: &Running,
     plan: &StagePlan<'_, G>,
     shower: &mut Shower,
     costs: &mut Vec<u64>,
 ) -> Result<Vec<u8>, AllocError>
-    requires stage { Some stage ≡ stage_of (run_of V.moves anneal.old) anneal.old.standing }
-    requires moves { moves ≡ anneal.old.plan.moves }
-    requires some { 1 ≤ moves }
+    requires stage { Some running.now.stage ≡
+        stage_of (run_of V.moves anneal.old) anneal.old.standing }
+    requires moves { running.now.moves ≡ anneal.old.plan.moves }
+    requires some { 1 ≤ running.now.moves }
     requires own { shower.old.dial ≡ plan.now.dial.now }
     requires limits { (1 ≤ plan.now.batch) × (plan.now.batch ≤ 4096) × (1 ≤ plan.now.workers) ×
         (plan.now.workers ≤ 64) }
@@ -285,21 +302,18 @@ fn end_stage<V: Words + Send + Sync + Drop, K: Keeping, G: Gate, R: Threads + Wa
 {
     let before = anneal.total();
     let _begun = anneal.done();
-    let left = moves - stage.done;
-    make_rest(rt, anneal, left, ahead, plan, shower)?;
+    let Running {
+        stage,
+        moves,
+        ahead,
+    } = running;
+    let left = *moves - stage.done;
+    make_rest(rt, anneal, left, *ahead, plan, shower)?;
     let _made = anneal.done();
     let cost = anneal.cost();
     let accepted = stage.accepted + (anneal.total() - before);
     costs.push(cost)?;
-    stage_line(
-        alloc,
-        stage.index,
-        stage.t,
-        stage.range,
-        moves,
-        accepted,
-        cost,
-    )
+    stage_line(*costs.allocator(), stage, *moves, accepted, cost)
 }
 
 /// Makes the moves of a piece, up to its stop or to the last move, and writes the line of each stage as it ends.
@@ -310,19 +324,16 @@ pub(crate) fn anneal_all<
     W: Sink,
     R: Threads + Wait + Sync,
 >(
-    rt: &R,
-    alloc: Global,
+    environment: &Environment<'_, R, G>,
     anneal: &mut Anneal<'_, V, K>,
     pace: &Pace,
-    gate: &G,
-    dial: &Dial,
     shower: &mut Shower,
     report: &mut W,
     costs: &mut Vec<u64>,
 ) -> Result<(), RunFault>
     requires moves { pace.now.moves ≡ anneal.old.plan.moves }
     requires plan { IsLawful anneal.old.plan }
-    requires own { shower.old.dial ≡ dial.now }
+    requires own { shower.old.dial ≡ environment.now.dial.now }
     requires limits { (1 ≤ pace.now.batch) × (pace.now.batch ≤ 4096) × (1 ≤ pace.now.workers) ×
         (pace.now.workers ≤ 64) }
     ensures same { IsSameRun anneal.old anneal.new }
@@ -344,7 +355,7 @@ pub(crate) fn anneal_all<
         (AreShownBegun (run_of V.moves anneal.old) anneal.old.standing pace.now.stop pace.now.batch
         shower.old.shown shower.new.shown) }
 {
-    let moves = pace.moves;
+    let Environment { rt, gate, dial } = *environment;
     let does_nothing = gate.does_nothing();
     let blocks = anneal.placement().blocks();
     let plan = StagePlan {
@@ -355,11 +366,16 @@ pub(crate) fn anneal_all<
     };
     while let Some(stage) = anneal.stage() {
         let ahead = is_judged_ahead(&stage, blocks, pace, does_nothing);
-        if let Some(rest) = moves_before(pace.stop, anneal.done(), moves - stage.done) {
+        if let Some(rest) = moves_before(pace.stop, anneal.done(), pace.moves - stage.done) {
             make_part(rt, anneal, rest, ahead, &plan, shower)?;
             return Ok(());
         }
-        let line = end_stage(rt, alloc, anneal, stage, moves, ahead, &plan, shower, costs)?;
+        let running = Running {
+            stage,
+            moves: pace.moves,
+            ahead,
+        };
+        let line = end_stage(rt, anneal, &running, &plan, shower, costs)?;
         write_whole(report, &line)?;
     }
     Ok(())

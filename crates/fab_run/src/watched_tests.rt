@@ -5,11 +5,13 @@ use crate::asked_tests::{TWO_STAGES, ring, ring_of};
 use crate::fresh_run::annealer;
 use crate::piece::unwatched;
 use crate::point_tests::SECOND;
-use crate::resumed_run::resume_run_shown;
+use crate::resumed_run::resume_ended;
 use crate::run_tests::{INPUTS, OPTIONS, PLACE, REPORT, SEVEN, SHORT, run_narrow, writer_with};
 use crate::setting::read_setting;
-use crate::{Inputs, Moves, Options, RunFault, place_run_shown};
+use crate::stages::Environment;
+use crate::{Inputs, Moves, Options, Restart, RunFault, place_run_shown};
 use fab_board::{Gate, NoGate};
+use fab_commit::KeepsNumbers;
 use fab_dial::{Dial, Reading, Shower, Watcher};
 use std::alloc::{AllocError, Global};
 use std::process::Abort;
@@ -275,15 +277,21 @@ fn last_resumed<R: AllocGlobal + Threads + Wait + Sync>(
     let (dial, mut shower, watchers) = Dial::new(rt, alloc, 0, after(5))?;
     let mut report = writer_with(alloc, 10_000);
     let mut place = writer_with(alloc, 10_000);
-    resume_run_shown(
-        rt,
-        &INPUTS,
-        SECOND,
-        4,
-        2,
+    let restart = Restart {
+        point: SECOND,
+        batch: 4,
+        workers: 2,
         stop,
-        &NoGate,
-        &dial,
+    };
+    let environment = Environment {
+        rt,
+        gate: &NoGate,
+        dial: &dial,
+    };
+    resume_ended::<KeepsNumbers, NoGate, R, _, _>(
+        &environment,
+        &INPUTS,
+        &restart,
         &mut shower,
         &mut report,
         &mut place,

@@ -192,8 +192,8 @@ impl Schedule {
         self.moves
     }
 
-    /// The temperature of stage `x` in ten-thousandths, 0 for the frozen stage. `None` after the frozen stage, and for a
-    /// schedule whose temperatures depend on acceptance.
+    /// The temperature of stage `x` in ten-thousandths, 0 for the frozen stage. `None` after the frozen stage, and for a schedule whose
+    /// temperatures depend on acceptance. A run steps by [`Schedule::next_stage`]; this serves checkpoints of the first version.
     pub fn temperature(&self, x: u64) -> Option<u64>
         ensures { result ≡ heat_at self.now x }
     {

@@ -5,6 +5,7 @@ mod arguments;
 mod check_command;
 #[cfg(test)]
 mod desk;
+mod environment;
 mod example;
 mod files;
 mod flags;

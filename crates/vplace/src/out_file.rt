@@ -6,6 +6,7 @@ ghost use Rattle.std.specs.Option.{ForSome};
 ghost use Rattle.vplace.specs.Leaving.{IsShutFor, OutPlan, no_plan, plan_of};
 ghost use Rattle.vplace.specs.declared.files.WriteFault.TheVariants.{Unwritable};
 
+use crate::environment::Environment;
 use crate::files::{NamedFiles, WriteFault};
 use crate::forecast::Forecast;
 use crate::messages::OutRole;
@@ -57,15 +58,17 @@ pub struct OutFile<'a, F: NamedFiles, N: Planned> {
 
 impl<'a, F: NamedFiles, N: Planned> OutFile<'a, F, N> {
     /// No bytes yet, and no place.
-    pub fn new(files: &'a F, alloc: Global, names: &OutNames<'a>, forecast: Forecast) -> Self
-        requires { plan_of names.now forecast (F.shut files.now) ≡ N.plan }
+    pub fn new<R: AllocGlobal>(environment: &Environment<'a, R, F>, forecast: Forecast) -> Self
+        requires { plan_of environment.now.names forecast (F.shut environment.now.files.now) ≡
+            N.plan }
         ensures text { result.text.items ≡ [] }
         ensures failures { result.failures ≡ 0 }
     {
+        let alloc = environment.rt.alloc();
         OutFile {
-            files,
+            files: environment.files,
             alloc,
-            names: *names,
+            names: environment.names,
             forecast,
             text: Vec::new(alloc),
             out: None,

@@ -21,6 +21,7 @@ ghost use Rattle.vplace.specs.Placing.{AreNamed, AreUnread, DidPlace, GivesPads,
 ghost use Rattle.vplace.specs.declared.requests.WordFault.{WordFault as WordFaultOf};
 ghost use Rattle.vplace.specs.declared.messages.OutRole.{OutRole as OutRoleOf};
 
+use crate::environment::Environment;
 use crate::files::NamedFiles;
 use crate::forecast::{Forecast, forecast_for, schedule_by};
 use crate::kept::{Kept, forecast_by};
@@ -187,16 +188,15 @@ fn run_place<R: AllocGlobal + Threads + Wait + Sync, O: Sink, P: Sink>(
 
 /// Places the design of a run of which `kept` is known, and writes the report.
 fn place_kept<R: AllocGlobal + Threads + Wait + Sync, F: NamedFiles, O: Sink, E: Sink, N: Planned>(
-    rt: &R,
+    environment: &Environment<'_, R, F>,
     inputs: &Inputs,
     options: &Options,
     kept: &Option<Kept>,
-    files: &F,
-    names: &OutNames,
     out: &mut O,
     err: &mut E,
 ) -> Result<Left<F::Outlet>, Status>
-    requires plan { plan_of names.now (forecast_in kept.now) (F.shut files.now) ≡ N.plan }
+    requires plan { plan_of environment.now.names (forecast_in kept.now)
+        (F.shut environment.now.files.now) ≡ N.plan }
     requires none { kept.now ≡ None → options.now.stop ≡ None }
     requires kept { (s : Setting) → IsSetting (texts_of inputs.now) options.now s →
         IfSome kept.now (λ k.
@@ -206,9 +206,10 @@ fn place_kept<R: AllocGlobal + Threads + Wait + Sync, F: NamedFiles, O: Sink, E:
         (O.contents out.old) (O.contents out.new) left.place.items
         (option_map (λ bytes. bytes.items) left.point)) }
     ensures at_out { IfOk result (λ left.
-        IfSome left.out (λ outlet. F.name_of outlet ≡ names.now.out.now)) }
+        IfSome left.out (λ outlet. F.name_of outlet ≡ environment.now.names.out.now)) }
     ensures at_save { IfOk result (λ left.
-        IfSome left.save (λ outlet. Some (F.name_of outlet) ≡ option_copied names.now.save)) }
+        IfSome left.save (λ outlet.
+        Some (F.name_of outlet) ≡ option_copied environment.now.names.save)) }
     ensures refused { IfErr result (λ status.
         IsRefused status →
         IsToldRefusal (IsRunFault (texts_of inputs.now) options.now) inputs.now.net.now status
@@ -242,20 +243,18 @@ fn place_kept<R: AllocGlobal + Threads + Wait + Sync, F: NamedFiles, O: Sink, E:
         (E.failed err.new)) }
     ensures open { IfErr result (λ status. status ≢ Status.Done) }
 {
-    let alloc = rt.alloc();
-    let mut place: OutFile<'_, F, N> = OutFile::new(files, alloc, names, forecast_by(kept));
-    let told = run_place(rt, inputs, options, kept, out, &mut place);
+    let alloc = environment.rt.alloc();
+    let mut place: OutFile<'_, F, N> = OutFile::new(environment, forecast_by(kept));
+    let told = run_place(environment.rt, inputs, options, kept, out, &mut place);
     left_by(alloc, told, place, inputs.net, err)
 }
 
 /// Places the design of a run whose texts have all been read, and writes the report. Returns what the run leaves, and the places that were
 /// reserved before the first move at the names that it may need.
 pub fn place_texts<R: AllocGlobal + Threads + Wait + Sync, F: NamedFiles, O: Sink, E: Sink>(
-    rt: &R,
+    environment: &Environment<'_, R, F>,
     inputs: &Inputs,
     options: &Options,
-    files: &F,
-    names: &OutNames,
     out: &mut O,
     err: &mut E,
 ) -> Result<Left<F::Outlet>, Status>
@@ -266,9 +265,10 @@ pub fn place_texts<R: AllocGlobal + Threads + Wait + Sync, F: NamedFiles, O: Sin
         (option_map (λ bytes. bytes.items) left.point)) }
     // A place that was reserved is one at the name of its file.
     ensures at_out { IfOk result (λ left.
-        IfSome left.out (λ outlet. F.name_of outlet ≡ names.now.out.now)) }
+        IfSome left.out (λ outlet. F.name_of outlet ≡ environment.now.names.out.now)) }
     ensures at_save { IfOk result (λ left.
-        IfSome left.save (λ outlet. Some (F.name_of outlet) ≡ option_copied names.now.save)) }
+        IfSome left.save (λ outlet.
+        Some (F.name_of outlet) ≡ option_copied environment.now.names.save)) }
     // A refusal is that of the first check that fails, and its line is printed.
     ensures refused { IfErr result (λ status.
         IsRefused status →
@@ -292,8 +292,8 @@ pub fn place_texts<R: AllocGlobal + Threads + Wait + Sync, F: NamedFiles, O: Sin
         (((O.failed out.new ≡ grown (O.failed out.old)) ×
         IsSaid report_line (E.contents err.old) (E.contents err.new) (E.failed err.old)
         (E.failed err.new)) ⊎
-        IsTriedInVain (IsForecast s.plan 0 options.now.stop) names.now.out.now
-        (option_copied names.now.save) (F.shut files.now)
+        IsTriedInVain (IsForecast s.plan 0 options.now.stop) environment.now.names.out.now
+        (option_copied environment.now.names.save) (F.shut environment.now.files.now)
         (λ line.
         IsSaid line (E.contents err.old) (E.contents err.new) (E.failed err.old)
         (E.failed err.new)))) }
@@ -309,11 +309,9 @@ pub fn place_texts<R: AllocGlobal + Threads + Wait + Sync, F: NamedFiles, O: Sin
         (E.failed err.new)) }
     ensures open { IfErr result (λ status. status ≢ Status.Done) }
 {
-    let alloc = rt.alloc();
+    let alloc = environment.rt.alloc();
     match keep(alloc, inputs, options) {
-        Ok(kept) => place_kept::<R, F, O, E, Brand>(
-            rt, inputs, options, &kept, files, names, out, err,
-        ),
+        Ok(kept) => place_kept::<R, F, O, E, Brand>(environment, inputs, options, &kept, out, err),
         Err(fault) => Err(messages::run_fault(alloc, err, &fault, inputs.net)),
     }
 }
@@ -395,17 +393,21 @@ pub fn place_files<R: AllocGlobal + Threads + Wait + Sync, F: NamedFiles, O: Sin
         out: words.out.as_slice(),
         save: words.save.as_deref(),
     };
-    let labels = Labels {
-        net: words.net.as_slice(),
-        arch: words.arch.as_slice(),
-    };
     let inputs = Inputs {
+        labels: Labels {
+            net: words.net.as_slice(),
+            arch: words.arch.as_slice(),
+        },
         arch: read.arch.as_slice(),
         net: read.net.as_slice(),
         pads: read.pads.as_deref(),
-        labels,
     };
-    match place_texts(rt, &inputs, &options, &*files, &names, out, err) {
+    let environment = Environment {
+        rt,
+        files: &*files,
+        names,
+    };
+    match place_texts(&environment, &inputs, &options, out, err) {
         Ok(left) => leave(alloc, files, &names, left, err),
         Err(status) => status,
     }

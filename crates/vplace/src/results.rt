@@ -142,23 +142,29 @@ pub fn arch_and_design(alloc: Global, inputs: &Inputs) -> Result<(Arch, Design),
     Ok((arch, design))
 }
 
-/// Puts the text of a file of this role at its name. `outlet` is the place that was reserved there, if one was.
+/// The file that a run leaves.
+#[derive(Clone, Copy, Debug)]
+struct LeftFile<'a> {
+    role: OutRole,
+    name: &'a [u8],
+    text: &'a [u8],
+}
+
+/// Puts the text of a file at its name. `outlet` is the place that was reserved there, if one was.
 fn put_text<F: NamedFiles, E: Sink>(
     alloc: Global,
     files: &mut F,
-    role: OutRole,
-    name: &[u8],
+    file: &LeftFile,
     outlet: Option<F::Outlet>,
-    text: &[u8],
     err: &mut E,
 ) -> Status
-    requires { IfSome outlet (λ outlet. F.name_of outlet ≡ name.now) }
+    requires { IfSome outlet (λ outlet. F.name_of outlet ≡ file.now.name.now) }
     ensures put { result ≡ Status.Done →
-        Puts (F.held files.old) (F.held files.new) name.now text.now }
+        Puts (F.held files.old) (F.held files.new) file.now.name.now file.now.text.now }
     ensures kept { result ≢ Status.Done → F.held files.new ≡ F.held files.old }
-    ensures device { result ≡ Status.Device → IsShut (F.shut files.old) name.now ×
-        IsSaid (unwritable_line role) (E.contents err.old) (E.contents err.new) (E.failed err.old)
-        (E.failed err.new) }
+    ensures device { result ≡ Status.Device → IsShut (F.shut files.old) file.now.name.now ×
+        IsSaid (unwritable_line file.now.role) (E.contents err.old) (E.contents err.new)
+        (E.failed err.old) (E.failed err.new) }
     ensures memory { result ≡ Status.NoMemory →
         IsSaid no_memory_line (E.contents err.old) (E.contents err.new) (E.failed err.old)
         (E.failed err.new) }
@@ -171,15 +177,15 @@ fn put_text<F: NamedFiles, E: Sink>(
 {
     let outlet = match outlet {
         Some(outlet) => Ok(outlet),
-        None => files.reserve(alloc, name),
+        None => files.reserve(alloc, file.name),
     };
     let put = match outlet {
-        Ok(outlet) => files.put(outlet, text),
+        Ok(outlet) => files.put(outlet, file.text),
         Err(fault) => Err(fault),
     };
     match put {
         Ok(()) => Status::Done,
-        Err(WriteFault::Unwritable) => messages::unwritable(err, role),
+        Err(WriteFault::Unwritable) => messages::unwritable(err, file.role),
         Err(WriteFault::NoMemory) => messages::no_memory(err),
     }
 }
@@ -228,27 +234,21 @@ pub fn leave<F: NamedFiles, E: Sink>(
     match point {
         Some(point) => {
             release(&*files, out);
-            put_text(
-                alloc,
-                files,
-                OutRole::Point,
-                names.of_point(),
-                save,
-                point.as_slice(),
-                err,
-            )
+            let file = LeftFile {
+                role: OutRole::Point,
+                name: names.of_point(),
+                text: point.as_slice(),
+            };
+            put_text(alloc, files, &file, save, err)
         }
         None => {
             release(&*files, save);
-            put_text(
-                alloc,
-                files,
-                OutRole::Place,
-                names.out,
-                out,
-                place.as_slice(),
-                err,
-            )
+            let file = LeftFile {
+                role: OutRole::Place,
+                name: names.out,
+                text: place.as_slice(),
+            };
+            put_text(alloc, files, &file, out, err)
         }
     }
 }

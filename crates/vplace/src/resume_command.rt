@@ -22,6 +22,7 @@ ghost use Rattle.vplace.specs.Resuming.{AreNamedToResume, AreUnreadToResume, Did
 ghost use Rattle.vplace.specs.declared.requests.WordFault.{WordFault as WordFaultOf};
 ghost use Rattle.vplace.specs.declared.messages.OutRole.{OutRole as OutRoleOf};
 
+use crate::environment::Environment;
 use crate::files::NamedFiles;
 use crate::forecast::{forecast_for, moves_made};
 use crate::kept::{Kept, forecast_by};
@@ -34,7 +35,7 @@ use crate::requests::{ResumeWords, stop_of};
 use crate::results::{Left, arch_and_design, leave, left_by};
 use crate::status::Status;
 use fab_file::Labels;
-use fab_run::{CountedOutcome, Ending, Inputs, RunFault, read_point, resume_run_counted};
+use fab_run::{CountedOutcome, Ending, Inputs, Restart, RunFault, read_point, resume_run_counted};
 use fab_text::Sink;
 use std::alloc::Global;
 use std::marker::Brand;
@@ -47,15 +48,6 @@ struct Read {
     arch: Vec<u8>,
     net: Vec<u8>,
     point: Vec<u8>,
-}
-
-/// The checkpoint that a run goes on from, and the numbers that it is given.
-#[derive(Clone, Copy, Debug)]
-pub struct Restart<'a> {
-    pub point: &'a [u8],
-    pub batch: u64,
-    pub workers: u64,
-    pub stop: Option<u64>,
 }
 
 /// Reads all files of a resumed run, in the order architecture, netlist, checkpoint.
@@ -158,16 +150,7 @@ fn run_on<R: AllocGlobal + Threads + Wait + Sync, O: Sink, P: Sink>(
     ensures failed { IfErr result (λ e.
         O.failed out.new ≡ report_failed_with e (O.failed out.old)) }
 {
-    let CountedOutcome { ending, .. } = resume_run_counted(
-        rt,
-        inputs,
-        restart.point,
-        restart.batch,
-        restart.workers,
-        restart.stop,
-        out,
-        place,
-    )?;
+    let CountedOutcome { ending, .. } = resume_run_counted(rt, inputs, restart, out, place)?;
     match ending {
         Ending::Finished => Ok(None),
         Ending::Stopped(point) => match kept {
@@ -179,16 +162,15 @@ fn run_on<R: AllocGlobal + Threads + Wait + Sync, O: Sink, P: Sink>(
 
 /// Resumes a run of which `kept` is known, and writes the report.
 fn resume_kept<R: AllocGlobal + Threads + Wait + Sync, F: NamedFiles, O: Sink, E: Sink, N: Planned>(
-    rt: &R,
+    environment: &Environment<'_, R, F>,
     inputs: &Inputs,
     restart: &Restart,
     kept: &Option<Kept>,
-    files: &F,
-    names: &OutNames,
     out: &mut O,
     err: &mut E,
 ) -> Result<Left<F::Outlet>, Status>
-    requires plan { plan_of names.now (forecast_in kept.now) (F.shut files.now) ≡ N.plan }
+    requires plan { plan_of environment.now.names (forecast_in kept.now)
+        (F.shut environment.now.files.now) ≡ N.plan }
     requires none { kept.now ≡ None → restart.now.stop ≡ None }
     requires kept { (s : Going) → HasPoint (texts_of inputs.now) restart.now.point.now s →
         IfSome kept.now (λ k. (k.seed ≡ s.seed) × (k.design ≡ s.design) × (k.grid ≡ s.grid)) }
@@ -198,9 +180,10 @@ fn resume_kept<R: AllocGlobal + Threads + Wait + Sync, F: NamedFiles, O: Sink, E
         restart.now.workers restart.now.stop) (texts_of inputs.now) s.seed (O.contents out.old)
         (O.contents out.new) left.place.items (option_map (λ bytes. bytes.items) left.point)) }
     ensures at_out { IfOk result (λ left.
-        IfSome left.out (λ outlet. F.name_of outlet ≡ names.now.out.now)) }
+        IfSome left.out (λ outlet. F.name_of outlet ≡ environment.now.names.out.now)) }
     ensures at_save { IfOk result (λ left.
-        IfSome left.save (λ outlet. Some (F.name_of outlet) ≡ option_copied names.now.save)) }
+        IfSome left.save (λ outlet.
+        Some (F.name_of outlet) ≡ option_copied environment.now.names.save)) }
     ensures refused { IfErr result (λ status.
         IsRefused status →
         IsToldRefusal
@@ -239,20 +222,18 @@ fn resume_kept<R: AllocGlobal + Threads + Wait + Sync, F: NamedFiles, O: Sink, E
         (E.failed err.new)) }
     ensures open { IfErr result (λ status. status ≢ Status.Done) }
 {
-    let alloc = rt.alloc();
-    let mut place: OutFile<'_, F, N> = OutFile::new(files, alloc, names, forecast_by(kept));
-    let told = run_on(rt, inputs, restart, kept, out, &mut place);
+    let alloc = environment.rt.alloc();
+    let mut place: OutFile<'_, F, N> = OutFile::new(environment, forecast_by(kept));
+    let told = run_on(environment.rt, inputs, restart, kept, out, &mut place);
     left_by(alloc, told, place, inputs.net, err)
 }
 
 /// Resumes a run whose texts have all been read, and writes the report. Returns what the run leaves, and the places that were reserved
 /// before the first move at the names that it may need.
 pub fn resume_texts<R: AllocGlobal + Threads + Wait + Sync, F: NamedFiles, O: Sink, E: Sink>(
-    rt: &R,
+    environment: &Environment<'_, R, F>,
     inputs: &Inputs,
     restart: &Restart,
-    files: &F,
-    names: &OutNames,
     out: &mut O,
     err: &mut E,
 ) -> Result<Left<F::Outlet>, Status>
@@ -265,9 +246,10 @@ pub fn resume_texts<R: AllocGlobal + Threads + Wait + Sync, F: NamedFiles, O: Si
         (O.contents out.new) left.place.items (option_map (λ bytes. bytes.items) left.point)) }
     // A place that was reserved is one at the name of its file.
     ensures at_out { IfOk result (λ left.
-        IfSome left.out (λ outlet. F.name_of outlet ≡ names.now.out.now)) }
+        IfSome left.out (λ outlet. F.name_of outlet ≡ environment.now.names.out.now)) }
     ensures at_save { IfOk result (λ left.
-        IfSome left.save (λ outlet. Some (F.name_of outlet) ≡ option_copied names.now.save)) }
+        IfSome left.save (λ outlet.
+        Some (F.name_of outlet) ≡ option_copied environment.now.names.save)) }
     // A refusal is that of the first check that fails, and its line is printed.
     ensures refused { IfErr result (λ status.
         IsRefused status →
@@ -297,7 +279,8 @@ pub fn resume_texts<R: AllocGlobal + Threads + Wait + Sync, F: NamedFiles, O: Si
         IsSaid report_line (E.contents err.old) (E.contents err.new) (E.failed err.old)
         (E.failed err.new)) ⊎
         IsTriedInVain (IsForecast s.point.schedule (done_at s.point) restart.now.stop)
-        names.now.out.now (option_copied names.now.save) (F.shut files.now)
+        environment.now.names.out.now (option_copied environment.now.names.save)
+        (F.shut environment.now.files.now)
         (λ line.
         IsSaid line (E.contents err.old) (E.contents err.new) (E.failed err.old)
         (E.failed err.new)))) }
@@ -313,11 +296,9 @@ pub fn resume_texts<R: AllocGlobal + Threads + Wait + Sync, F: NamedFiles, O: Si
         (E.failed err.new)) }
     ensures open { IfErr result (λ status. status ≢ Status.Done) }
 {
-    let alloc = rt.alloc();
+    let alloc = environment.rt.alloc();
     match keep(alloc, inputs, restart) {
-        Ok(kept) => resume_kept::<R, F, O, E, Brand>(
-            rt, inputs, restart, &kept, files, names, out, err,
-        ),
+        Ok(kept) => resume_kept::<R, F, O, E, Brand>(environment, inputs, restart, &kept, out, err),
         Err(fault) => Err(messages::run_fault(alloc, err, &fault, inputs.net)),
     }
 }
@@ -407,15 +388,14 @@ pub fn resume_files<R: AllocGlobal + Threads + Wait + Sync, F: NamedFiles, O: Si
         out: words.out.as_slice(),
         save: words.save.as_deref(),
     };
-    let labels = Labels {
-        net: words.net.as_slice(),
-        arch: words.arch.as_slice(),
-    };
     let inputs = Inputs {
+        labels: Labels {
+            net: words.net.as_slice(),
+            arch: words.arch.as_slice(),
+        },
         arch: read.arch.as_slice(),
         net: read.net.as_slice(),
         pads: None,
-        labels,
     };
     let restart = Restart {
         point: read.point.as_slice(),
@@ -423,7 +403,12 @@ pub fn resume_files<R: AllocGlobal + Threads + Wait + Sync, F: NamedFiles, O: Si
         workers: words.workers,
         stop,
     };
-    match resume_texts(rt, &inputs, &restart, &*files, &names, out, err) {
+    let environment = Environment {
+        rt,
+        files: &*files,
+        names,
+    };
+    match resume_texts(&environment, &inputs, &restart, out, err) {
         Ok(left) => leave(alloc, files, &names, left, err),
         Err(status) => status,
     }

@@ -8,7 +8,7 @@ use Rattle.fab_commit.specs.declared.run.owner.Owner.{Owner}
 use Rattle.fab_commit.specs.declared.run.pipeline.Pipeline.{Pipeline}
 use Rattle.fab_commit.specs.declared.run.state.Given.{Given}
 use Rattle.fab_commit.specs.Serial.{Run, Standing, from, moves_left}
-use Rattle.fab_commit.specs.Run.Alone.{AreMadeAlone, HaveEnded, IsAlone, IsUnjudged, IsMadeAlone, redone_in, unjudged, with_shorter}
+use Rattle.fab_commit.specs.Run.Alone.{AreMadeAlone, HaveEnded, IsAlone, IsUnjudged, IsMadeByTurns, redone_in, unjudged, with_shorter}
 use Rattle.fab_commit.specs.Run.ByTurns.{IsByTurns}
 use Rattle.fab_commit.specs.Run.Commits.{AnnealOf, run_for, standing_of, world_of}
 use Rattle.fab_commit.specs.Run.Owners.{verdict_of}
@@ -80,7 +80,7 @@ counted_part r batch t o now due count a x pos stage here again h by =
 pub made_alone : {W A : Type 0} (moves : W → ℕ → List ℕ) (given : Given W) (z : Standing) (batch count : ℕ) (s now : Pipeline) (t : LastTurn) (ahead due : Ahead) (answer : Result A AllocError) (old new : List Reading) → IsBehind (run_for moves given) t s
     → z.done ≤ s.owner.state.done → standing_of s.owner.state ≡ from (run_for moves given) z (s.owner.state.done - z.done)
     → IsAlone (run_for moves given) t s.owner ahead → AreMadeAlone (run_for moves given) batch count s.owner ahead now.owner due answer old new → IsUnjudged now due
-    → IsMadeAlone moves batch count (seen moves given z s) (seen moves given z now) answer old new
+    → IsMadeByTurns moves batch count (seen moves given z s) (seen moves given z now) answer old new
 made_alone moves given z batch count s now t ahead due (Ok v) old new b after here alone made f =
     let r = run_for moves given in
     let x = standing_of s.owner.state in
@@ -91,11 +91,18 @@ made_alone moves given z batch count s now t ahead due (Ok v) old new b after he
     let done = h.done in
     let some : count ≡ now.owner.state.done - s.owner.state.done = omega (arith, done) in
     record {
-      same = record { design = refl; grid = refl; fixed = refl; plan = refl; words = refl };
-      stands = h.there ∙ ap (from r x) some;
-      accepted = accepted_later r z x now.owner.state.done after (omega (arith, done)) here;
-      ok = done;
-      within = (omega (arith, done), omega (arith, done));
+      made = record {
+        same = record { design = refl; grid = refl; fixed = refl; plan = refl; words = refl };
+        stands = h.there ∙ ap (from r x) some;
+        accepted = accepted_later r z x now.owner.state.done after (omega (arith, done)) here;
+        ok = done;
+        within = (omega (arith, done), omega (arith, done));
+        ahead = ap (map (verdict_of now.base)) f.ahead;
+        behind = (unjudged u, world_is r (unjudged u) now behind);
+        shown = made.shown;
+        ends = made.ends;
+        shown_cut = tt;
+      };
       turns_made = n;
       short = h.short;
       few = h.few;
@@ -103,8 +110,6 @@ made_alone moves given z batch count s now t ahead due (Ok v) old new b after he
       world = world_is r (unjudged u) now behind ∙ ap (λ (w : World). record w { verdicts = [] }) (worlds r t s (with_shorter n batch h.short) b);
       cut = tt;
       redone = counted_in r t s n batch h.short s.owner.redone now.owner.redone b h.redone;
-      ahead = ap (map (verdict_of now.base)) f.ahead;
-      behind = (unjudged u, world_is r (unjudged u) now behind);
       by_turns = λ w.
           let end = h.whole w in
           let plain : u ≡ last_turn r t (replicate n batch) = ap (λ k. last_turn r t (with_shorter n batch k)) end.0 in
@@ -113,9 +118,6 @@ made_alone moves given z batch count s now t ahead due (Ok v) old new b after he
           let again = h.redone in
           by_chain r batch n t (seen moves given z s) (seen moves given z now) (some_moves r t s b) b.stage (world_is r t s b) (world_is r (unjudged u) now behind ∙ ap (λ v. world_behind r (unjudged v)) plain ∙ ap (world_behind r) same) (omega (arith, again, zero));
       counted = λ x by. counted_part r batch t s.owner now.owner due count (seen moves given z s) x (some_moves r t s b) b.stage (world_is r t s b) refl h by;
-      shown = made.shown;
-      ends = made.ends;
-      shown_cut = tt;
     }
 made_alone moves given z batch count s now t ahead due (Err e) old new b after here alone made f =
     let r = run_for moves given in
@@ -131,11 +133,18 @@ made_alone moves given z batch count s now t ahead due (Err e) old new b after h
     let zero = none_redone r u in
     let again = h.redone in
     record {
-      same = record { design = refl; grid = refl; fixed = refl; plan = refl; words = refl };
-      stands = h.there ∙ ap (from r x) some;
-      accepted = accepted_later r z x now.owner.state.done after (omega (arith, done)) here;
-      ok = tt;
-      within = (omega (arith, done), omega (arith, done, few));
+      made = record {
+        same = record { design = refl; grid = refl; fixed = refl; plan = refl; words = refl };
+        stands = h.there ∙ ap (from r x) some;
+        accepted = accepted_later r z x now.owner.state.done after (omega (arith, done)) here;
+        ok = tt;
+        within = (omega (arith, done), omega (arith, done, few));
+        ahead = ap (map (verdict_of now.base)) f.ahead;
+        behind = (cut_turn r 0 u, world_is r (cut_turn r 0 u) now behind);
+        shown = tt;
+        ends = tt;
+        shown_cut = made.cut;
+      };
       turns_made = n;
       short = 0;
       few = omega arith;
@@ -143,11 +152,6 @@ made_alone moves given z batch count s now t ahead due (Err e) old new b after h
       world = tt;
       cut = world_is r (cut_turn r 0 u) now behind ∙ sym (cut_turns_lead_on r u 0 (some_moves r t s b) (last_of_a_stage r t n batch (some_moves r t s b) b.stage) (omega arith)).0 ∙ ap (turn_making r 0 0) (worlds r t s (replicate n batch) b);
       redone = counted_in r t s n batch 0 s.owner.redone now.owner.redone b (omega (arith, again, zero));
-      ahead = ap (map (verdict_of now.base)) f.ahead;
-      behind = (cut_turn r 0 u, world_is r (cut_turn r 0 u) now behind);
       by_turns = tt;
       counted = tt;
-      shown = tt;
-      ends = tt;
-      shown_cut = made.cut;
     }

@@ -8,14 +8,14 @@ use Rattle.fab_commit.specs.declared.run.state.Given.{Given}
 use Rattle.fab_commit.specs.declared.run.state.State.{State}
 use Rattle.fab_commit.specs.declared.run.stamps.Stamps.{Stamps}
 use Rattle.fab_commit.specs.Serial.{Run, Standing, accepted_among, after_move, from, judged_here, moves_left, numbers_if}
-use Rattle.fab_commit.specs.Run.Alone.{IsMadeAlone}
+use Rattle.fab_commit.specs.Run.Alone.{IsMade}
 use Rattle.fab_commit.specs.Run.Commits.{AnnealOf, IsSound, run_for, standing_of}
 use Rattle.fab_commit.specs.Run.Noted.{noted, noted_more}
 use Rattle.fab_commit.specs.Run.Owners.{verdict_of}
 use Rattle.fab_commit.specs.Run.Pipelines.{HasTurn, IsBehind}
 use Rattle.fab_commit.specs.Run.Since.{IsSince}
 use Rattle.fab_commit.specs.Run.StampTables.{AreStamps, IsTable}
-use Rattle.fab_commit.specs.Run.Uncounted.{AreMadeUncounted, IsFurther, IsIdle, IsMade}
+use Rattle.fab_commit.specs.Run.Uncounted.{AreMadeUncounted, IsFurther, IsIdle}
 use Rattle.fab_commit.specs.Model.TurnEvents.{LastTurn, IsOfAStage, no_turn}
 use Rattle.fab_commit.proofs.RunLemmas.Annealing.{world_is}
 use Rattle.fab_commit.proofs.RunLemmas.Folding.{from_add, goes_on, hot_at, not_ended, step_is}
@@ -161,18 +161,3 @@ made_uncounted moves given z batch count s now (Err e) old new after here made i
 pub since_further : {A : Type 0} (r : Run) (keeps : Bool) (before : ℕ) (x : Standing) (batch count : ℕ) (s now : State) (answer : Result A AllocError) (old new : List Reading) → AreMadeUncounted r batch count s now answer old new
     → IsSince r keeps before x s → IsSince r keeps before x now
 since_further r keeps before x batch count s now answer old new made since = since_made r keeps before x s now made.made made.further.done made.further.stands made.further.accepted since
-
--- moves that are counted are made, too
-pub made_of : {W A : Type 0} (moves : W → ℕ → List ℕ) (batch count : ℕ) (a b : AnnealOf W) (answer : Result A AllocError) (old new : List Reading) → IsMadeAlone moves batch count a b answer old new → IsMade moves batch count a b answer old new
-made_of moves batch count a b answer old new made = record {
-  same = made.same;
-  stands = made.stands;
-  accepted = made.accepted;
-  ok = made.ok;
-  within = made.within;
-  ahead = made.ahead;
-  behind = made.behind;
-  shown = made.shown;
-  ends = made.ends;
-  shown_cut = made.shown_cut;
-}

@@ -1,6 +1,6 @@
 -- Moves of a stage that an owner makes by turns, alone or beside a crew, as contracts see them (our own). The count of moves judged again is
 -- that of the turns of the batch in both cases, so one set of definitions serves both; their names are those of the owner alone.
-use Rattle.std.specs.Prelude.{ℕ, ◌≡◌, zero, suc, ◌+◌, ◌-◌, ◌<◌, ◌≤◌, nat_lt, Bool, List, [], ◌∷◌, ◌++◌, length, replicate, slice_index_or, Result, OnOk, OnErr}
+use Rattle.std.specs.Prelude.{ℕ, ◌≡◌, zero, suc, ◌+◌, ◌-◌, ◌<◌, ◌≤◌, nat_lt, Bool, List, [], ◌∷◌, ◌++◌, length, replicate, slice_index_or, Result, MatchResult, OnOk, OnErr}
 use Rattle.std.specs.List.{count_by, filter, list_any, range_with_len}
 use Rattle.std.specs.declared.alloc.AllocError.{AllocError}
 use Rattle.fab_dial.specs.declared.readings.Reading.{Reading}
@@ -66,6 +66,14 @@ pub record HasGone (r : Run) (t : LastTurn) (o : Owner) (made ahead : ℕ) (now 
   pub there : standing_of now.state ≡ from r (standing_of o.state) made
   pub accepted : noted now.state.accepted ≡ noted_more (noted o.state.accepted) (accepted_among r (standing_of o.state) made)
   pub redone : now.redone ≡ o.redone + count_by (is_redone_behind r t) (range_with_len (stands r t).done made)
+
+-- after whatever turn came a turn of at most `batch` moves, and the answer tells the moves after it that count as judged ahead; or memory ran
+-- out, and the turn made no move
+abbrev pub TurnsOnce : Run → ℕ → Owner → Ahead → Result Ahead AllocError → Owner → Type 0
+TurnsOnce r batch o ahead answer now =
+    MatchResult answer
+    (λ due. (t : LastTurn) → IsAlone r t o ahead → HasGone r t o (next_turn r batch t).made (next_turn r batch t).ahead now due)
+    (λ _. (t : LastTurn) → IsAlone r t o ahead → HasGone r t o 0 0 now (record { base = o.state.done; moves = 0 }))
 
 -- after turn t came `turns` turns of this batch, which made `made` moves
 pub record HaveGone (r : Run) (batch : ℕ) (t : LastTurn) (o : Owner) (turns made : ℕ) (now : Owner) (due : Ahead) : Type 0 where
@@ -136,7 +144,7 @@ redone_in r w (batch ∷ batches) = count_by is_redone_way (ways r w (turn_event
 
 -- an annealer made `count` moves of its stage, alone or beside a crew, in turns of this batch, of which the last may be shorter, and showed
 -- each turn; or memory ran out after some turns
-pub record IsMadeAlone {W A : Type 0} (moves : W → ℕ → List ℕ) (batch count : ℕ) (a b : AnnealOf W) (answer : Result A AllocError) (old new : List Reading) : Type 0 where
+pub record IsMade {W A : Type 0} (moves : W → ℕ → List ℕ) (batch count : ℕ) (a b : AnnealOf W) (answer : Result A AllocError) (old new : List Reading) : Type 0 where
   -- What the run is given stays the same.
   pub same : IsSameRun a b
   -- The moves are made as if one at a time.
@@ -144,6 +152,17 @@ pub record IsMadeAlone {W A : Type 0} (moves : W → ℕ → List ℕ) (batch co
   pub accepted : b.accepted ≡ a.accepted ++ accepted_among (run_of moves a) a.standing (b.standing.done - a.standing.done)
   pub ok : OnOk answer (b.standing.done ≡ a.standing.done + count)
   pub within : (a.standing.done ≤ b.standing.done) × (b.standing.done ≤ a.standing.done + count)
+  -- Nothing is judged ahead, and the swaps that are kept are those of a last turn.
+  pub ahead : b.ahead ≡ []
+  pub behind : (t : LastTurn) × (world_of b ≡ world_behind (run_of moves a) t)
+  -- Each turn is shown.
+  pub shown : OnOk answer (count ≡ moves_left (run_of moves a) a.standing → LeadsTo (run_of moves a) batch a.standing b.standing old new)
+  pub ends : OnOk answer (EndsAt (run_of moves a) batch a.standing b.standing old new)
+  pub shown_cut : OnErr answer (LeadsTo (run_of moves a) batch a.standing b.standing old new)
+
+-- they are also the moves of turns of a world, and the count of moves judged again is that of these turns
+pub record IsMadeByTurns {W A : Type 0} (moves : W → ℕ → List ℕ) (batch count : ℕ) (a b : AnnealOf W) (answer : Result A AllocError) (old new : List Reading) : Type 0 where
+  pub made : IsMade moves batch count a b answer old new
   -- They are turns of a world, whatever was judged ahead in it; if memory ran out, all are whole, and a turn comes after them that makes no
   -- move.
   pub turns_made : ℕ
@@ -154,14 +173,7 @@ pub record IsMadeAlone {W A : Type 0} (moves : W → ℕ → List ℕ) (batch co
   pub cut : OnErr answer (world_of b ≡ turn_making (run_of moves a) 0 0 (turns (run_of moves a) (world_of a) (replicate turns_made batch)))
   -- The count of moves judged again grows by those that these turns judge again.
   pub redone : b.redone ≡ a.redone + redone_in (run_of moves a) (world_of a) (replicate turns_made batch ++ short ∷ [])
-  -- Nothing is judged ahead, and the swaps that are kept are those of a last turn.
-  pub ahead : b.ahead ≡ []
-  pub behind : (t : LastTurn) × (world_of b ≡ world_behind (run_of moves a) t)
   -- If turns of this batch led to `a` from some standing, those to the end of the stage are more of them; and the moves judged again since that
   -- standing are those of one batch, even if the last turn is shorter.
   pub by_turns : OnOk answer (count ≡ moves_left (run_of moves a) a.standing → LeadsByTurns (run_of moves a) batch a b)
   pub counted : OnOk answer ((x : Standing) → IsByTurns (run_of moves a) x batch a → b.redone ≡ redone_in_run (run_of moves a) x batch (b.standing.done - x.done))
-  -- Each turn is shown.
-  pub shown : OnOk answer (count ≡ moves_left (run_of moves a) a.standing → LeadsTo (run_of moves a) batch a.standing b.standing old new)
-  pub ends : OnOk answer (EndsAt (run_of moves a) batch a.standing b.standing old new)
-  pub shown_cut : OnErr answer (LeadsTo (run_of moves a) batch a.standing b.standing old new)

@@ -1,13 +1,12 @@
 -- Moves of a stage, where the count of moves judged again is left open, as contracts see them (our own).
-use Rattle.std.specs.Prelude.{ℕ, ◌≡◌, ◌+◌, ◌-◌, ◌≤◌, ◌++◌, List, [], Result, OnOk, OnErr}
+use Rattle.std.specs.Prelude.{ℕ, ◌≡◌, ◌+◌, ◌-◌, ◌≤◌, List, [], Result, OnOk, OnErr}
 use Rattle.std.specs.declared.alloc.AllocError.{AllocError}
 use Rattle.fab_dial.specs.declared.readings.Reading.{Reading}
 use Rattle.fab_commit.specs.declared.run.pipeline.Pipeline.{Pipeline}
 use Rattle.fab_commit.specs.declared.run.state.State.{State}
 use Rattle.fab_commit.specs.Serial.{Run, accepted_among, from, moves_left}
 use Rattle.fab_commit.specs.Run.Alone.{EndsAt, LeadsTo}
-use Rattle.fab_commit.specs.Run.Commits.{AnnealOf, IsSameRun, IsSound, run_of, standing_of, world_of}
-use Rattle.fab_commit.specs.Model.TurnEvents.{LastTurn, world_behind}
+use Rattle.fab_commit.specs.Run.Commits.{IsSound, standing_of}
 use Rattle.fab_commit.specs.Run.Noted.{noted, noted_more}
 
 -- the state is n moves of its run further
@@ -33,21 +32,3 @@ pub record IsIdle (s now : Pipeline) : Type 0 where
   pub ahead : now.ahead.items ≡ []
   pub swaps : now.owner.swaps.items ≡ []
   pub redone : now.owner.redone ≡ s.owner.redone
-
--- an annealer made `count` moves of its stage in turns of this batch, of which the last may be shorter, and showed each turn; or memory ran
--- out after some turns
-pub record IsMade {W A : Type 0} (moves : W → ℕ → List ℕ) (batch count : ℕ) (a b : AnnealOf W) (answer : Result A AllocError) (old new : List Reading) : Type 0 where
-  -- What the run is given stays the same.
-  pub same : IsSameRun a b
-  -- The moves are made as if one at a time.
-  pub stands : b.standing ≡ from (run_of moves a) a.standing (b.standing.done - a.standing.done)
-  pub accepted : b.accepted ≡ a.accepted ++ accepted_among (run_of moves a) a.standing (b.standing.done - a.standing.done)
-  pub ok : OnOk answer (b.standing.done ≡ a.standing.done + count)
-  pub within : (a.standing.done ≤ b.standing.done) × (b.standing.done ≤ a.standing.done + count)
-  -- Nothing is judged ahead, and the swaps that are kept are those of a last turn.
-  pub ahead : b.ahead ≡ []
-  pub behind : (t : LastTurn) × (world_of b ≡ world_behind (run_of moves a) t)
-  -- Each turn is shown.
-  pub shown : OnOk answer (count ≡ moves_left (run_of moves a) a.standing → LeadsTo (run_of moves a) batch a.standing b.standing old new)
-  pub ends : OnOk answer (EndsAt (run_of moves a) batch a.standing b.standing old new)
-  pub shown_cut : OnErr answer (LeadsTo (run_of moves a) batch a.standing b.standing old new)

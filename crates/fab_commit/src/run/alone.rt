@@ -1,17 +1,17 @@
 //! Moves that the owner decides itself, each on the live placement. It counts those that turns of the batch would judge again.
 
-ghost use Rattle.std.specs.Prelude.{◌≡◌, ℕ, ◌+◌, ◌<◌, ◌≤◌, ◌++◌, [], ◌∷◌, false, length, Some, IfSome, MatchResult, OnOk};
+ghost use Rattle.std.specs.Prelude.{◌≡◌, ℕ, ◌+◌, ◌<◌, ◌≤◌, ◌++◌, [], ◌∷◌, false, length, Some, IfSome, OnOk};
 ghost use Rattle.std.specs.List.{count_by, range_with_len};
 ghost use Rattle.fab_sched.specs.Annealing.{IsLawful};
 ghost use Rattle.fab_site.specs.Placement.{IsSwapOf};
 ghost use Rattle.fab_move.specs.Judge.{IsDecision};
 ghost use Rattle.fab_commit.specs.Serial.{judged_here};
-ghost use Rattle.fab_commit.specs.Run.Alone.{AreOpen, AreWords, HasGone, IsAlone, is_touched_here};
+ghost use Rattle.fab_commit.specs.Run.Alone.{AreOpen, AreWords, HasGone, IsAlone, TurnsOnce, is_touched_here};
 ghost use Rattle.fab_commit.specs.Run.Commits.{IsSound, run_for, standing_of};
 ghost use Rattle.fab_commit.specs.Run.Owners.{HasMade, HasRoom, IsOwned, Leads};
 ghost use Rattle.fab_commit.specs.Run.Readings.{reading_at};
 ghost use Rattle.fab_commit.specs.Model.History.{is_redone};
-ghost use Rattle.fab_commit.specs.Model.TurnEvents.{LastTurn, next_turn};
+ghost use Rattle.fab_commit.specs.Model.TurnEvents.{LastTurn};
 
 use crate::run::kept_nets::LargeNets;
 use crate::run::owner::{Owner, stamp};
@@ -21,7 +21,7 @@ use crate::run::swaps::enter;
 use fab_board::Gate;
 use fab_cost::{EdgeBoxes, WireCost};
 use fab_dial::{Dial, Reading, Shower};
-use fab_move::{Decision, propose, weigh};
+use fab_move::{Decision, weigh};
 use fab_site::{Swap, Words};
 use std::alloc::AllocError;
 use std::sync::Wait;
@@ -54,14 +54,7 @@ pub(crate) fn decided_alone<W: Words>(
 {
     let state = &owner.state;
     let view = view_of(given, state);
-    let proposal = propose(
-        view.design,
-        view.grid,
-        view.fixed,
-        view.placement,
-        view.range,
-        words,
-    );
+    let proposal = view.propose(words);
     let nets = LargeNets::none();
     let again = owner
         .stamps
@@ -137,37 +130,36 @@ pub(crate) fn at_once<G: Gate>(gate: &G) -> usize
 }
 
 /// Makes the next moves of the running stage, each decided by the owner on the live placement, alone or beside a crew. They count as judged
-/// on the placement after `base` moves. `words` is room for the words of some moves, and `near` says whether a crew works. Allocates
+/// on the placement after `due.base` moves. `words` is room for the words of some moves, and `near` says whether a crew works. Allocates
 /// nothing.
 pub(crate) fn commit_alone<W: Words, G: Gate>(
     given: &Given<'_, W>,
     owner: &mut Owner,
-    moves: u64,
-    base: u64,
+    due: Ahead,
     near: bool,
     gate: &G,
     words: &mut [[u32; 4]; AT_ONCE],
 )
     requires plan { IsLawful given.now.schedule }
     requires owned { IsOwned (run_for W.moves given.now) owner.old }
-    requires room { HasRoom owner.old moves }
-    requires due { AreOpen (run_for W.moves given.now) owner.old base moves }
-    ensures made { HasMade (run_for W.moves given.now) owner.old moves owner.new }
-    ensures redone { (due : AreOpen (run_for W.moves given.now) owner.old base moves) →
+    requires room { HasRoom owner.old due.moves }
+    requires due { AreOpen (run_for W.moves given.now) owner.old due.base due.moves }
+    ensures made { HasMade (run_for W.moves given.now) owner.old due.moves owner.new }
+    ensures redone { (still : AreOpen (run_for W.moves given.now) owner.old due.base due.moves) →
         owner.new.redone ≡
         owner.old.redone +
-        count_by (is_redone (run_for W.moves given.now) due.start base)
-        (range_with_len owner.old.state.done moves) }
-    ensures room { (n : ℕ) → HasRoom owner.old (moves + n) → HasRoom owner.new n }
+        count_by (is_redone (run_for W.moves given.now) still.start due.base)
+        (range_with_len owner.old.state.done due.moves) }
+    ensures room { (n : ℕ) → HasRoom owner.old (due.moves + n) → HasRoom owner.new n }
 {
     let most = at_once(gate) as u64;
     let mut made = 0;
-    while made < moves {
-        let count = (moves - made).min(most);
+    while made < due.moves {
+        let count = (due.moves - made).min(most);
         let some = &mut words[..count as usize];
         gate.before_judge(owner.state.done);
         given.words.fill_words(owner.state.done, some);
-        commit_some(given, owner, &*some, base, near, gate);
+        commit_some(given, owner, &*some, due.base, near, gate);
         made += count;
     }
 }
@@ -184,15 +176,8 @@ pub(crate) fn turn_alone<W: Words, G: Gate>(
 ) -> Result<Ahead, AllocError>
     requires alone { (t : LastTurn) × IsAlone (run_for W.moves given.now) t owner.old ahead }
     requires batch { (1 ≤ batch) × (batch ≤ 4096) }
-    ensures ok { MatchResult result (λ due.
-        (t : LastTurn) → IsAlone (run_for W.moves given.now) t owner.old ahead →
-        HasGone (run_for W.moves given.now) t owner.old
-        (next_turn (run_for W.moves given.now) batch t).made
-        (next_turn (run_for W.moves given.now) batch t).ahead owner.new due)
-        (λ _.
-        (t : LastTurn) → IsAlone (run_for W.moves given.now) t owner.old ahead →
-        HasGone (run_for W.moves given.now) t owner.old 0 0 owner.new
-        (record { base = owner.old.state.done; moves = 0 })) }
+    ensures ok { TurnsOnce (run_for W.moves given.now) batch owner.old ahead result
+        owner.new }
     ensures leads { OnOk result
         (Leads given.now.grid.now owner.old.state.placement.sites owner.new.swaps.items
         owner.new.state.placement.sites) }
@@ -203,8 +188,16 @@ pub(crate) fn turn_alone<W: Words, G: Gate>(
     owner.swaps.clear();
     reserve(owner, moves)?;
     let kept = ahead.moves.min(moves);
-    commit_alone(given, owner, kept, ahead.base, false, gate, words);
-    commit_alone(given, owner, moves - kept, start, false, gate, words);
+    let first = Ahead {
+        base: ahead.base,
+        moves: kept,
+    };
+    commit_alone(given, owner, first, false, gate, words);
+    let rest = Ahead {
+        base: start,
+        moves: moves - kept,
+    };
+    commit_alone(given, owner, rest, false, gate, words);
     Ok(Ahead {
         base: start,
         moves: batch.min(left - moves),

@@ -8,12 +8,11 @@ ghost use Rattle.fab_site.specs.Placement.{IsLegal};
 ghost use Rattle.fab_move.specs.Judge.{says};
 ghost use Rattle.fab_commit.specs.declared.model.judged.JudgedMove.{JudgedMove};
 ghost use Rattle.fab_commit.specs.Serial.{IsStanding, at_start, from, moves_left, stage_of};
-ghost use Rattle.fab_commit.specs.Run.Alone.{IsMadeAlone};
+ghost use Rattle.fab_commit.specs.Run.Alone.{IsMade, IsMadeByTurns};
 ghost use Rattle.fab_commit.specs.Run.Commits.{IsSound, run, run_for, run_of, standing_of, turn_of};
 ghost use Rattle.fab_commit.specs.Run.Noted.{noted};
 ghost use Rattle.fab_commit.specs.Run.Points.{IsPoint, TellsPoint, going_on, standing_at};
 ghost use Rattle.fab_commit.specs.Run.Readings.{reading_at};
-ghost use Rattle.fab_commit.specs.Run.Uncounted.{IsMade};
 
 use crate::run::behind::Behind;
 use crate::run::beside::{StagePlan, finish_beside};
@@ -373,35 +372,11 @@ impl<'a, W: Words + Drop, K: Keeping> Anneal<'a, W, K> {
 }
 
 impl<'a, W: Words + Drop, K: Keeping> Anneal<'a, W, K> {
-    /// Makes the moves that are left in the running stage, of which there are some, as [`Anneal::make_alone`] does.
-    pub fn finish_stage_alone<G: Gate, R: Wait>(
-        &mut self,
-        rt: &R,
-        batch: u64,
-        gate: &G,
-        dial: &Dial,
-        shower: &mut Shower,
-    ) -> Result<(), AllocError>
-        requires some { 0 < moves_left (run_of W.moves self.old) self.old.standing }
-        requires batch { (1 ≤ batch) × (batch ≤ 4096) }
-        requires own { shower.old.dial ≡ dial.now }
-        ensures made { IsMade W.moves batch (moves_left (run_of W.moves self.old) self.old.standing)
-            self.old self.new result shower.old.shown shower.new.shown }
-        ensures counted { K.again ≡ true →
-            IsMadeAlone W.moves batch (moves_left (run_of W.moves self.old) self.old.standing)
-            self.old self.new result shower.old.shown shower.new.shown }
-        ensures uncounted { K.again ≡ false → self.new.redone ≡ self.old.redone }
-        ensures dial { shower.new.dial ≡ shower.old.dial }
-    {
-        let left = moves_left(&self.given.schedule, &self.pipeline.owner.state);
-        self.make_alone(rt, left, batch, gate, dial, shower)
-    }
-
     /// Makes the next `count` moves of the running stage, of which some are left, and at least so many. The calling thread judges each when
-    /// its turn comes, on the live placement; no move is judged ahead. The moves are those of turns of `batch` moves, from 1 to 4,096, of
+    /// its turn comes, on the live placement; no move is judged ahead. The moves are those of turns of the plan's batch, from 1 to 4,096 moves, of
     /// which the last may be shorter. Each turn shows on the dial how far the run has come. The judgements ahead of these turns would have
     /// been spoilt as often: where moves judged again are counted, `redone` grows by as many as they would have judged again, though
-    /// nothing is judged twice. By contract the shower is one of this dial.
+    /// nothing is judged twice. The plan's workers are not asked. By contract the shower is one of the plan's dial.
     ///
     /// The gate is called before and after the judgement of each move, and before its commit, all by the calling thread. So a gate that
     /// waits in one call for another waits for ever here. If the gate says that it does nothing, the words of some moves are asked for
@@ -413,38 +388,36 @@ impl<'a, W: Words + Drop, K: Keeping> Anneal<'a, W, K> {
         &mut self,
         rt: &R,
         count: u64,
-        batch: u64,
-        gate: &G,
-        dial: &Dial,
+        plan: &StagePlan<'_, G>,
         shower: &mut Shower,
     ) -> Result<(), AllocError>
         requires some { (count ≤ moves_left (run_of W.moves self.old) self.old.standing) ×
             (0 < moves_left (run_of W.moves self.old) self.old.standing) }
-        requires batch { (1 ≤ batch) × (batch ≤ 4096) }
-        requires own { shower.old.dial ≡ dial.now }
-        ensures made { IsMade W.moves batch count self.old self.new result shower.old.shown
+        requires batch { (1 ≤ plan.now.batch) × (plan.now.batch ≤ 4096) }
+        requires own { shower.old.dial ≡ plan.now.dial.now }
+        ensures made { IsMade W.moves plan.now.batch count self.old self.new result shower.old.shown
             shower.new.shown }
         ensures counted { K.again ≡ true →
-            IsMadeAlone W.moves batch count self.old self.new result shower.old.shown
+            IsMadeByTurns W.moves plan.now.batch count self.old self.new result shower.old.shown
             shower.new.shown }
         ensures uncounted { K.again ≡ false → self.new.redone ≡ self.old.redone }
         ensures dial { shower.new.dial ≡ shower.old.dial }
     {
         let given: &Given<'_, W> = &self.given;
-        let plan = MovesPlan {
-            batch,
+        let moves = MovesPlan {
+            rt,
+            batch: plan.batch,
             count,
-            gate,
-            dial,
+            gate: plan.gate,
+            dial: plan.dial,
         };
         if !K::tells_redone() {
-            return finish_uncounted(rt, given, &mut self.pipeline, &plan, shower);
+            return finish_uncounted(given, &mut self.pipeline, &moves, shower);
         }
         finish_alone::<W, G, Behind<'_, '_, W, G>, Brand, R>(
-            rt,
             given,
             &mut self.pipeline,
-            &plan,
+            &moves,
             shower,
         )
     }
@@ -473,7 +446,7 @@ impl<'a, W: Words + Send + Sync + Drop, K: Keeping> Anneal<'a, W, K> {
         requires batch { (1 ≤ plan.now.batch) × (plan.now.batch ≤ 4096) }
         requires workers { (1 ≤ plan.now.workers) × (plan.now.workers ≤ 64) }
         requires own { shower.old.dial ≡ plan.now.dial.now }
-        ensures made { IsMadeAlone W.moves plan.now.batch count self.old self.new result
+        ensures made { IsMadeByTurns W.moves plan.now.batch count self.old self.new result
             shower.old.shown shower.new.shown }
         ensures dial { shower.new.dial ≡ shower.old.dial }
     {

@@ -78,13 +78,15 @@ pub trait Pursue: Follow<Post, Foreseen> {
     /// The standing that it has followed to.
     ghost standing: { Self → Standing };
 
-    ghost follows: { (s : Self) (e : IsPost) → MayBeFollowed (run s) (standing s) e → Self.may s e };
+    ghost follows: { (s : Self) (e : IsPost) →
+        MayBeFollowed (run s) (standing s) e → Self.may s e };
 
     ghost stays: { (s : Self) (e : IsPost) → run (Self.after s e) ≡ run s };
 
     ghost goes: { (s : Self) (e : IsPost) → standing (Self.after s e) ≡ after_post (standing s) e };
 
-    ghost answers: { (s : Self) (k : ℕ) (v : Sight) → Self.answer s k v → IsForeseen (run s) (standing s) k v };
+    ghost answers: { (s : Self) (k : ℕ) (v : Sight) → Self.answer s k v →
+        IsForeseen (run s) (standing s) k v };
 }
 
 /// Applies a post to a state.

@@ -18,8 +18,8 @@ use crate::run::post::Post;
 use crate::run::stage::{MovesPlan, finish, finish_alone, refuse};
 use crate::run::state::{Given, State, copy_of};
 use fab_board::follow_crew::{beside, close_board};
-use fab_board::follow_lead::new_crew;
-use fab_board::{Board, Boarding, ClaimSeat, Gate, Naming, Opened, Origin, Plan};
+use fab_board::follow_lead::{CrewParts, new_crew};
+use fab_board::{Board, Boarding, Gate, Naming, Opened, Origin, Plan};
 use fab_dial::{Dial, Shower};
 use fab_site::Words;
 use std::alloc::AllocError;
@@ -40,22 +40,12 @@ pub struct StagePlan<'g, G: Gate> {
     pub dial: &'g Dial,
 }
 
-/// What a crew is made of: a claim board with the seats of its workers, and a state for the owner and one for each worker.
-pub(crate) struct CrewParts<S> {
-    pub(crate) board: Board,
-    pub(crate) claims: Vec<ClaimSeat>,
-    pub(crate) first: S,
-    pub(crate) others: Vec<S>,
-    pub(crate) units: Plan,
-}
-
 /// Makes the plan's moves of the running stage where there is no memory for a crew. With a gate that does nothing the owner makes them
 /// alone. Another gate may wait in one call for another, for ever if one thread makes all calls, so with it this makes no move.
 fn without_crew<W: Words, G: Gate, S: Pursue, J: Naming + Boarding + Origin<S>, R: Wait>(
-    rt: &R,
     given: &Given<'_, W>,
     state: &mut Pipeline,
-    plan: &MovesPlan<'_, G>,
+    plan: &MovesPlan<'_, R, G>,
     shower: &mut Shower,
 ) -> Result<(), AllocError>
     requires behind { HasTurn (run_for W.moves given.now) state.old }
@@ -72,7 +62,7 @@ fn without_crew<W: Words, G: Gate, S: Pursue, J: Naming + Boarding + Origin<S>, 
     ensures dial { shower.new.dial ≡ shower.old.dial }
 {
     if plan.gate.does_nothing() {
-        finish_alone::<W, G, S, J, R>(rt, given, state, plan, shower)
+        finish_alone::<W, G, S, J, R>(given, state, plan, shower)
     } else {
         refuse(given, state, plan, shower)
     }
@@ -86,12 +76,11 @@ fn made_beside<
     J: Naming + Boarding + Origin<S> + Send + Sync,
     R: Threads + Wait + Sync,
 >(
-    rt: &R,
     opened: Opened<Post>,
     parts: CrewParts<S>,
     given: &Given<'_, W>,
     state: &mut Pipeline,
-    plan: &MovesPlan<'_, G>,
+    plan: &MovesPlan<'_, R, G>,
     shower: &mut Shower,
 ) -> Result<(), AllocError>
     requires book { opened ≡ J.book }
@@ -115,21 +104,12 @@ fn made_beside<
         due result shower.old.shown shower.new.shown }
     ensures dial { shower.new.dial ≡ shower.old.dial }
 {
-    let CrewParts {
-        board,
-        claims,
-        first,
-        others,
-        units,
-    } = parts;
     let alloc = given.alloc;
-    let Ok((crew, lead)) = new_crew::<S, Post, Foreseen, J>(
-        alloc, opened, board, claims, first, others, units,
-    ) else {
-        return without_crew::<W, G, S, J, R>(rt, given, state, plan, shower);
+    let Ok((crew, lead)) = new_crew::<S, Post, Foreseen, J>(alloc, opened, parts) else {
+        return without_crew::<W, G, S, J, R>(given, state, plan, shower);
     };
     let Ok(mut followers) = Followers::new(alloc, lead) else {
-        return without_crew::<W, G, S, J, R>(rt, given, state, plan, shower);
+        return without_crew::<W, G, S, J, R>(given, state, plan, shower);
     };
     // A gate that does something may hold a commit until a later move is judged, so with it the crew judges all.
     if plan.gate.does_nothing() {
@@ -137,7 +117,7 @@ fn made_beside<
     }
     let mut followers = Some(followers);
     let made = beside(
-        rt,
+        plan.rt,
         &crew,
         &mut followers,
         &mut |f: &mut Option<Followers<S, J>>| -> Result<(), AllocError>
@@ -161,7 +141,7 @@ fn made_beside<
                 }) state.exit.now.owner due
                 result shower.entry.now.shown shower.exit.now.shown }
             ensures dial { shower.exit.now.dial ≡ shower.entry.now.dial }
-        { finish(rt, given, state, f, plan, shower) },
+        { finish(given, state, f, plan, shower) },
     );
     drop(followers);
     close_board(crew);
@@ -261,6 +241,7 @@ pub(crate) fn finish_beside<
 {
     let lent: &Given<'a, W> = given;
     let moves = MovesPlan {
+        rt,
         batch: plan.batch,
         count,
         gate: plan.gate,
@@ -273,12 +254,9 @@ pub(crate) fn finish_beside<
         plan.workers,
         plan.gate,
     ) else {
-        return without_crew::<W, G, Behind<'a, 'g, W, G>, Brand, R>(
-            rt, lent, state, &moves, shower,
-        );
+        return without_crew::<W, G, Behind<'a, 'g, W, G>, Brand, R>(lent, state, &moves, shower);
     };
     made_beside::<W, G, Behind<'a, 'g, W, G>, Brand, R>(
-        rt,
         Opened::new(),
         parts,
         lent,

@@ -15,8 +15,8 @@ ghost use Rattle.fab_commit.specs.Model.TurnEvents.{LastTurn};
 
 use crate::run::alone::{AT_ONCE, Ahead};
 use crate::run::behind::{Behind, Pursue};
-use crate::run::beside::{CrewParts, crew_parts};
-use crate::run::followed::{Followers, commit_followed, post_of};
+use crate::run::beside::crew_parts;
+use crate::run::followed::{Followers, TurnPlan, commit_followed, post_of};
 use crate::run::foreseen::Foreseen;
 use crate::run::owner::commit_each;
 use crate::run::pipeline::{Pipeline, idle_turn, refused_turn, reserve};
@@ -24,7 +24,7 @@ use crate::run::post::{MoveRange, Post};
 use crate::run::state::{Given, State, moves_left};
 use crate::run::verdicts::verdicts_by;
 use fab_board::follow_crew::{beside, close_board};
-use fab_board::follow_lead::new_crew;
+use fab_board::follow_lead::{CrewParts, new_crew};
 use fab_board::{Boarding, Gate, Naming, Opened, Origin};
 use fab_move::Verdict;
 use fab_site::Words;
@@ -126,12 +126,11 @@ struct Size {
 /// Makes the next moves of the running stage beside a crew, which stands where the owner does. It judges those that were not judged ahead,
 /// and the moves after them. Returns the verdicts on these.
 fn make_moves<W: Words, G: Gate, S: Pursue, J: Naming + Boarding + Origin<S>, R: Wait>(
-    rt: &R,
     given: &Given<'_, W>,
     state: &mut Pipeline,
     size: Size,
     followers: &mut Followers<S, J>,
-    gate: &G,
+    plan: &TurnPlan<'_, R, G>,
 ) -> Result<Vec<Verdict>, AllocError>
     requires plan { IsLawful given.now.schedule }
     requires owned { IsOwned (run_for W.moves given.now) state.old.owner }
@@ -172,53 +171,43 @@ fn make_moves<W: Words, G: Gate, S: Pursue, J: Naming + Boarding + Origin<S>, R:
         first: start + size.moves,
         moves: size.next,
     };
-    let Some(last) = ask_both(rt, given, &state.owner.state, followers, due, next) else {
+    let Some(last) = ask_both(plan.rt, given, &state.owner.state, followers, due, next) else {
         return Err(AllocError);
     };
-    commit_each(given, &mut state.owner, &state.ahead, state.base, gate);
+    commit_each(given, &mut state.owner, &state.ahead, state.base, plan.gate);
     let here = Ahead {
         base: start,
         moves: due.moves,
     };
     let mut words = [[0u32; 4]; AT_ONCE];
-    commit_followed(
-        rt,
-        given,
-        &mut state.owner,
-        followers,
-        here,
-        gate,
-        &mut words,
-    );
-    judged_ahead(rt, given, followers, last, next)
+    commit_followed(given, &mut state.owner, followers, here, plan, &mut words);
+    judged_ahead(plan.rt, given, followers, last, next)
 }
 
 /// Makes a turn beside a crew, which stands where the owner does. If memory runs out, the moves that it committed stay, and nothing is
 /// judged ahead.
 fn make_turn<W: Words, G: Gate, S: Pursue, J: Naming + Boarding + Origin<S>, R: Wait>(
-    rt: &R,
     given: &Given<'_, W>,
     state: &mut Pipeline,
-    batch: u64,
     followers: &mut Followers<S, J>,
-    gate: &G,
+    plan: &TurnPlan<'_, R, G>,
 ) -> Result<(), AllocError>
     requires behind { (t : LastTurn) × IsBehind (run_for W.moves given.now) t state.old }
-    requires limits { batch ≤ 4096 }
+    requires limits { plan.now.batch ≤ 4096 }
     requires tied { IsTied S.run S.standing S.after J.start followers.old.0
         (run_for W.moves given.now) (standing_of state.old.owner.state) }
-    ensures turned { TurnsOn (run_for W.moves given.now) batch state.old state.new result }
+    ensures turned { TurnsOn (run_for W.moves given.now) plan.now.batch state.old state.new result }
 {
     let start = state.owner.state.done;
     let left = moves_left(&given.schedule, &state.owner.state);
-    let moves = batch.min(left);
+    let moves = plan.batch.min(left);
     state.owner.swaps.clear();
     state.ahead.truncate(moves as usize);
     let size = Size {
         moves,
-        next: batch.min(left - moves),
+        next: plan.batch.min(left - moves),
     };
-    let judged = make_moves(rt, given, state, size, followers, gate);
+    let judged = make_moves(given, state, size, followers, plan);
     state.base = start;
     state.ahead.clear();
     match judged {
@@ -239,13 +228,11 @@ fn turned_by<
     J: Naming + Boarding + Origin<S> + Send + Sync,
     R: Threads + Wait + Sync,
 >(
-    rt: &R,
     opened: Opened<Post>,
     parts: CrewParts<S>,
     given: &Given<'_, W>,
     state: &mut Pipeline,
-    batch: u64,
-    gate: &G,
+    plan: &TurnPlan<'_, R, G>,
 ) -> Result<(), AllocError>
     requires book { opened ≡ J.book }
     requires board { parts.board.name ≡ J.board }
@@ -257,37 +244,29 @@ fn turned_by<
     requires stands { S.standing parts.first ≡ standing_of state.old.owner.state }
     requires behind { (t : LastTurn) × IsBehind (run_for W.moves given.now) t state.old }
     requires going { state.old.owner.state.ended ≡ false }
-    requires limits { batch ≤ 4096 }
-    ensures turned { TurnsOn (run_for W.moves given.now) batch state.old state.new result }
+    requires limits { plan.now.batch ≤ 4096 }
+    ensures turned { TurnsOn (run_for W.moves given.now) plan.now.batch state.old state.new result }
 {
-    let CrewParts {
-        board,
-        claims,
-        first,
-        others,
-        units,
-    } = parts;
     let alloc = given.alloc;
-    let Ok((crew, lead)) = new_crew::<S, Post, Foreseen, J>(
-        alloc, opened, board, claims, first, others, units,
-    ) else {
-        return refused_turn(given, state, batch);
+    let Ok((crew, lead)) = new_crew::<S, Post, Foreseen, J>(alloc, opened, parts) else {
+        return refused_turn(given, state, plan.batch);
     };
     let Ok(mut followers) = Followers::new(alloc, lead) else {
-        return refused_turn(given, state, batch);
+        return refused_turn(given, state, plan.batch);
     };
     let turned = beside(
-        rt,
+        plan.rt,
         &crew,
         &mut followers,
         &mut |f: &mut Followers<S, J>| -> Result<(), AllocError>
-            requires { IsSync R.row × (batch ≤ 4096) ×
+            requires { IsSync R.row × (plan.now.batch ≤ 4096) ×
                 ((t : LastTurn) × IsBehind (run_for W.moves given.now) t state.now) ×
                 IsTied S.run S.standing S.after J.start f.old.0 (run_for W.moves given.now)
                 (standing_of state.now.owner.state) }
-            ensures turned { TurnsOn (run_for W.moves given.entry.now) batch state.entry.now
+            ensures turned { TurnsOn (run_for W.moves given.entry.now) plan.entry.now.batch
+                state.entry.now
                 state.exit.now result }
-        { make_turn(rt, given, state, batch, f, gate) },
+        { make_turn(given, state, f, plan) },
     );
     drop(followers);
     close_board(crew);
@@ -318,13 +297,6 @@ pub(crate) fn turn_beside<'a, 'g, W: Words + Send + Sync + Drop, G: Gate, R: Thr
     let Ok(parts) = crew_parts(given, &state.owner.state, batch, workers, gate) else {
         return refused_turn(lent, state, batch);
     };
-    turned_by::<W, G, Behind<'a, 'g, W, G>, Brand, R>(
-        rt,
-        Opened::new(),
-        parts,
-        lent,
-        state,
-        batch,
-        gate,
-    )
+    let plan = TurnPlan { rt, batch, gate };
+    turned_by::<W, G, Behind<'a, 'g, W, G>, Brand, R>(Opened::new(), parts, lent, state, &plan)
 }

@@ -1,6 +1,6 @@
 //! Stages whose moves a crew judges ahead: each worker follows the owner on a state of its own.
 
-ghost use Rattle.std.specs.Prelude.{◌≡◌, ℕ, ◌+◌, ◌<◌, ◌≤◌, ◌++◌, ◌∷◌, [], List, false, true, length, slice_index, Some, Option, IfOk, IfSome, MatchResult, OnOk};
+ghost use Rattle.std.specs.Prelude.{◌≡◌, ℕ, ◌+◌, ◌<◌, ◌≤◌, [], List, false, true, length, slice_index, Some, Option, IfOk, IfSome, OnOk};
 ghost use Rattle.std.specs.List.{count_by, range_with_len};
 ghost use Rattle.fab_sched.specs.Annealing.{IsLawful};
 ghost use Rattle.fab_arch.specs.declared.array.Site.{Site};
@@ -11,14 +11,14 @@ ghost use Rattle.fab_cost.specs.Cost.{cost_of};
 ghost use Rattle.fab_cost.specs.Swapping.{CountedStandsFor};
 ghost use Rattle.fab_move.specs.Judge.{IsDecision};
 ghost use Rattle.fab_commit.specs.Serial.{Run, Standing, judged_here};
-ghost use Rattle.fab_commit.specs.Run.Alone.{AreOpen, HasGone, IsAlone, is_touched_here};
+ghost use Rattle.fab_commit.specs.Run.Alone.{AreOpen, IsAlone, TurnsOnce, is_touched_here};
 ghost use Rattle.fab_commit.specs.Run.Behind.{MayBeFollowed, after_post};
 ghost use Rattle.fab_commit.specs.Run.Commits.{IsSound, run_for, standing_of};
 ghost use Rattle.fab_commit.specs.Run.Owners.{HasMade, HasRoom, IsOwned, Leads};
 ghost use Rattle.fab_commit.specs.Run.Foreseen.{AreForeseen, AreRejected, IsForeseen, IsStill};
 ghost use Rattle.fab_commit.specs.Run.Followed.{IsTied};
 ghost use Rattle.fab_commit.specs.Model.History.{is_redone};
-ghost use Rattle.fab_commit.specs.Model.TurnEvents.{LastTurn, next_turn};
+ghost use Rattle.fab_commit.specs.Model.TurnEvents.{LastTurn};
 
 use crate::run::alone::{AT_ONCE, Ahead, commit_alone};
 use crate::run::behind::Pursue;
@@ -37,6 +37,17 @@ use std::alloc::{AllocError, Global};
 use std::marker::Model;
 use std::mem;
 use std::sync::Wait;
+
+/// How a turn is made.
+#[derive(Drop)]
+pub(crate) struct TurnPlan<'g, R: Wait, G: Gate> {
+    /// The system, whose threads wait for each other.
+    pub(crate) rt: &'g R,
+    /// How many moves it has at most.
+    pub(crate) batch: u64,
+    /// The gate of the judgements and the commits.
+    pub(crate) gate: &'g G,
+}
 
 /// The owner's end of a crew that follows it, and the sheet that it reads. Contracts see what was posted, and the posts on which this
 /// turn's answers are judged.
@@ -305,12 +316,11 @@ fn commit_foreseen<W: Words, G: Gate>(
 /// that are left to the owner, or one, if its answer is missing. Returns how many it made. Allocates nothing of its own.
 #[inline(always)]
 fn commit_next<W: Words, G: Gate, S: Pursue, J: Naming + Boarding + Origin<S>, R: Wait>(
-    rt: &R,
     given: &Given<'_, W>,
     owner: &mut Owner,
     followers: &mut Followers<S, J>,
     ahead: Ahead,
-    gate: &G,
+    plan: &TurnPlan<'_, R, G>,
     words: &mut [[u32; 4]; AT_ONCE],
 ) -> u64
     requires plan { IsLawful given.now.schedule }
@@ -331,17 +341,21 @@ fn commit_next<W: Words, G: Gate, S: Pursue, J: Naming + Boarding + Origin<S>, R
     ensures room { (n : ℕ) → HasRoom owner.old (result + n) → HasRoom owner.new n }
 {
     let number = owner.state.done;
-    let left = followers.look(rt, number).min(ahead.moves);
+    let left = followers.look(plan.rt, number).min(ahead.moves);
     if left == 0 {
         let foreseen = followers.foreseen_from(number, ahead.moves);
         let count = foreseen.len() as u64;
         if count > 0 {
-            commit_foreseen(given, owner, foreseen, ahead.base, gate);
+            commit_foreseen(given, owner, foreseen, ahead.base, plan.gate);
             return count;
         }
     }
     let moves = left.max(1);
-    commit_alone(given, owner, moves, ahead.base, true, gate, words);
+    let own = Ahead {
+        base: ahead.base,
+        moves,
+    };
+    commit_alone(given, owner, own, true, plan.gate, words);
     moves
 }
 
@@ -354,12 +368,11 @@ pub(crate) fn commit_followed<
     J: Naming + Boarding + Origin<S>,
     R: Wait,
 >(
-    rt: &R,
     given: &Given<'_, W>,
     owner: &mut Owner,
     followers: &mut Followers<S, J>,
     ahead: Ahead,
-    gate: &G,
+    plan: &TurnPlan<'_, R, G>,
     words: &mut [[u32; 4]; AT_ONCE],
 )
     requires plan { IsLawful given.now.schedule }
@@ -383,19 +396,18 @@ pub(crate) fn commit_followed<
             base: ahead.base,
             moves: ahead.moves - made,
         };
-        made += commit_next(rt, given, owner, followers, rest, gate, words);
+        made += commit_next(given, owner, followers, rest, plan, words);
     }
 }
 
 /// Makes the next moves of the running stage, beside the crew if there is one. They count as judged on the placement after `ahead.base`
 /// moves. `words` is room for the words of some moves.
 fn commit_by<W: Words, G: Gate, S: Pursue, J: Naming + Boarding + Origin<S>, R: Wait>(
-    rt: &R,
     given: &Given<'_, W>,
     owner: &mut Owner,
     followers: &mut Option<Followers<S, J>>,
     ahead: Ahead,
-    gate: &G,
+    plan: &TurnPlan<'_, R, G>,
     words: &mut [[u32; 4]; AT_ONCE],
 )
     requires plan { IsLawful given.now.schedule }
@@ -414,18 +426,9 @@ fn commit_by<W: Words, G: Gate, S: Pursue, J: Naming + Boarding + Origin<S>, R: 
     ensures room { (n : ℕ) → HasRoom owner.old (ahead.moves + n) → HasRoom owner.new n }
 {
     match followers {
-        Some(crew) => commit_followed(rt, given, owner, crew, ahead, gate, words),
-        None => commit_alone(given, owner, ahead.moves, ahead.base, false, gate, words),
+        Some(crew) => commit_followed(given, owner, crew, ahead, plan, words),
+        None => commit_alone(given, owner, ahead, false, plan.gate, words),
     }
-}
-
-/// How a turn is made.
-#[derive(Drop)]
-pub(crate) struct TurnPlan<'g, G: Gate> {
-    /// How many moves it has at most.
-    pub(crate) batch: u64,
-    /// The gate of the judgements and the commits.
-    pub(crate) gate: &'g G,
 }
 
 /// What the owner made since its last post, and which moves it asks for.
@@ -499,12 +502,11 @@ pub(crate) fn turn_followed<
     J: Naming + Boarding + Origin<S>,
     R: Wait,
 >(
-    rt: &R,
     given: &Given<'_, W>,
     owner: &mut Owner,
     followers: &mut Option<Followers<S, J>>,
     ahead: Ahead,
-    plan: &TurnPlan<'_, G>,
+    plan: &TurnPlan<'_, R, G>,
     words: &mut [[u32; 4]; AT_ONCE],
 ) -> Result<Ahead, AllocError>
     requires alone { (t : LastTurn) × IsAlone (run_for W.moves given.now) t owner.old ahead ×
@@ -513,15 +515,8 @@ pub(crate) fn turn_followed<
         Leads given.now.grid.now t.start.sites owner.old.swaps.items
         owner.old.state.placement.sites }
     requires batch { (1 ≤ plan.now.batch) × (plan.now.batch ≤ 4096) }
-    ensures ok { MatchResult result (λ due.
-        (t : LastTurn) → IsAlone (run_for W.moves given.now) t owner.old ahead →
-        HasGone (run_for W.moves given.now) t owner.old
-        (next_turn (run_for W.moves given.now) plan.now.batch t).made
-        (next_turn (run_for W.moves given.now) plan.now.batch t).ahead owner.new due)
-        (λ _.
-        (t : LastTurn) → IsAlone (run_for W.moves given.now) t owner.old ahead →
-        HasGone (run_for W.moves given.now) t owner.old 0 0 owner.new
-        (record { base = owner.old.state.done; moves = 0 })) }
+    ensures ok { TurnsOnce (run_for W.moves given.now) plan.now.batch owner.old ahead result
+        owner.new }
     ensures leads { OnOk result
         (Leads given.now.grid.now owner.old.state.placement.sites owner.new.swaps.items
         owner.new.state.placement.sites) }
@@ -538,21 +533,17 @@ pub(crate) fn turn_followed<
         first: start + moves,
         moves: plan.batch.min(left - moves),
     };
-    post_or_let_go(rt, followers, post_of(&owner.state, swaps, next));
+    post_or_let_go(plan.rt, followers, post_of(&owner.state, swaps, next));
     let kept = Ahead {
         base: ahead.base,
         moves: ahead.moves.min(moves),
     };
-    commit_by(rt, given, owner, followers, kept, plan.gate, words);
-    commit_alone(
-        given,
-        owner,
-        moves - kept.moves,
-        start,
-        true,
-        plan.gate,
-        words,
-    );
+    commit_by(given, owner, followers, kept, plan, words);
+    let rest = Ahead {
+        base: start,
+        moves: moves - kept.moves,
+    };
+    commit_alone(given, owner, rest, true, plan.gate, words);
     Ok(Ahead {
         base: start,
         moves: next.moves,
@@ -568,12 +559,11 @@ pub(crate) fn begin_followed<
     J: Naming + Boarding + Origin<S>,
     R: Wait,
 >(
-    rt: &R,
     given: &Given<'_, W>,
     owner: &mut Owner,
     followers: &mut Option<Followers<S, J>>,
     ahead: Ahead,
-    plan: &TurnPlan<'_, G>,
+    plan: &TurnPlan<'_, R, G>,
     words: &mut [[u32; 4]; AT_ONCE],
 ) -> Result<Ahead, AllocError>
     requires alone { (t : LastTurn) × IsAlone (run_for W.moves given.now) t owner.old ahead ×
@@ -581,15 +571,8 @@ pub(crate) fn begin_followed<
         IsTied S.run S.standing S.after J.start f.0 (run_for W.moves given.now)
         (standing_of owner.old.state)) }
     requires batch { (1 ≤ plan.now.batch) × (plan.now.batch ≤ 4096) }
-    ensures ok { MatchResult result (λ due.
-        (t : LastTurn) → IsAlone (run_for W.moves given.now) t owner.old ahead →
-        HasGone (run_for W.moves given.now) t owner.old
-        (next_turn (run_for W.moves given.now) plan.now.batch t).made
-        (next_turn (run_for W.moves given.now) plan.now.batch t).ahead owner.new due)
-        (λ _.
-        (t : LastTurn) → IsAlone (run_for W.moves given.now) t owner.old ahead →
-        HasGone (run_for W.moves given.now) t owner.old 0 0 owner.new
-        (record { base = owner.old.state.done; moves = 0 })) }
+    ensures ok { TurnsOnce (run_for W.moves given.now) plan.now.batch owner.old ahead result
+        owner.new }
     ensures leads { OnOk result
         (Leads given.now.grid.now owner.old.state.placement.sites owner.new.swaps.items
         owner.new.state.placement.sites) }
@@ -612,15 +595,19 @@ pub(crate) fn begin_followed<
         moves: plan.batch.min(left - moves),
     };
     let none = fresh_list(given.alloc, followers);
-    post_or_let_go(rt, followers, post_of(&owner.state, none, now));
+    post_or_let_go(plan.rt, followers, post_of(&owner.state, none, now));
     let none = fresh_list(given.alloc, followers);
-    post_or_let_go(rt, followers, post_of(&owner.state, none, next));
-    commit_alone(given, owner, kept, ahead.base, true, plan.gate, words);
+    post_or_let_go(plan.rt, followers, post_of(&owner.state, none, next));
+    let first = Ahead {
+        base: ahead.base,
+        moves: kept,
+    };
+    commit_alone(given, owner, first, true, plan.gate, words);
     let rest = Ahead {
         base: start,
         moves: now.moves,
     };
-    commit_by(rt, given, owner, followers, rest, plan.gate, words);
+    commit_by(given, owner, followers, rest, plan, words);
     Ok(Ahead {
         base: start,
         moves: next.moves,

@@ -6,7 +6,7 @@ ghost use Rattle.fab_commit.specs.Run.Foreseen.{AreRejected, IsForeseen, decisio
 
 use crate::run::kept_nets::LargeNets;
 use crate::run::state::{Given, State, view_of};
-use fab_move::{Decision, Proposal, accepts, propose};
+use fab_move::{Decision, Proposal, accepts};
 use fab_site::Words;
 
 /// The judgement of a move on the placement of somebody who follows the owner. It rests on what its proposal names. What the owner reads of
@@ -97,14 +97,7 @@ pub(crate) fn foresee<W: Words>(
 {
     let _number = number;
     let view = view_of(given, state);
-    let proposal = propose(
-        view.design,
-        view.grid,
-        view.fixed,
-        view.placement,
-        view.range,
-        words,
-    );
+    let proposal = view.propose(words);
     match proposal {
         Proposal::Nothing => without_swap(proposal, words),
         Proposal::Void(_, _) => without_swap(proposal, words),

@@ -3,7 +3,7 @@
 ghost use Rattle.std.specs.Prelude.{◌≡◌, ℕ, ◌+◌, ◌-◌, ◌<◌, ◌≤◌, ◌++◌, [], ◌∷◌, true, false, length, IfOk, IfSome, MatchResult, OnOk, OnErr};
 ghost use Rattle.fab_commit.specs.declared.run.alone.Ahead.{Ahead as IsAhead};
 ghost use Rattle.fab_commit.specs.Serial.{from, moves_left};
-ghost use Rattle.fab_commit.specs.Run.Alone.{AreMadeAlone, HasGone, HaveGone, HaveStopped, IsAlone, IsUnjudged, LeadsTo};
+ghost use Rattle.fab_commit.specs.Run.Alone.{AreMadeAlone, HasGone, HaveGone, HaveStopped, IsAlone, IsUnjudged, LeadsTo, TurnsOnce};
 ghost use Rattle.fab_commit.specs.Run.Commits.{run_for, standing_of};
 ghost use Rattle.fab_commit.specs.Run.Followed.{IsBeside, IsTied};
 ghost use Rattle.fab_commit.specs.Run.Owners.{Leads};
@@ -25,7 +25,9 @@ use std::sync::Wait;
 
 /// How moves of a stage are made.
 #[derive(Drop)]
-pub(crate) struct MovesPlan<'g, G: Gate> {
+pub(crate) struct MovesPlan<'g, R: Wait, G: Gate> {
+    /// The system, whose threads wait for each other.
+    pub(crate) rt: &'g R,
     /// How many moves a turn has at most.
     pub(crate) batch: u64,
     /// How many moves are made.
@@ -50,11 +52,10 @@ struct Course {
 /// Makes a turn of at most a batch of moves, beside the crew if there is one. Returns the moves after it that count as judged ahead. An
 /// error means that memory ran out; then no move was made.
 fn turn_of<W: Words, G: Gate, S: Pursue, J: Naming + Boarding + Origin<S>, R: Wait>(
-    rt: &R,
     given: &Given<'_, W>,
     owner: &mut Owner,
     followers: &mut Option<Followers<S, J>>,
-    plan: &TurnPlan<'_, G>,
+    plan: &TurnPlan<'_, R, G>,
     course: &mut Course,
 ) -> Result<Ahead, AllocError>
     requires alone { (t : LastTurn) ×
@@ -62,15 +63,8 @@ fn turn_of<W: Words, G: Gate, S: Pursue, J: Naming + Boarding + Origin<S>, R: Wa
         IsBeside S.run S.standing S.after J.start (run_for W.moves given.now) t owner.old
         course.old.begun followers.old }
     requires batch { (1 ≤ plan.now.batch) × (plan.now.batch ≤ 4096) }
-    ensures ok { MatchResult result (λ due.
-        (t : LastTurn) → IsAlone (run_for W.moves given.now) t owner.old course.old.ahead →
-        HasGone (run_for W.moves given.now) t owner.old
-        (next_turn (run_for W.moves given.now) plan.now.batch t).made
-        (next_turn (run_for W.moves given.now) plan.now.batch t).ahead owner.new due)
-        (λ _.
-        (t : LastTurn) → IsAlone (run_for W.moves given.now) t owner.old course.old.ahead →
-        HasGone (run_for W.moves given.now) t owner.old 0 0 owner.new
-        (record { base = owner.old.state.done; moves = 0 })) }
+    ensures ok { TurnsOnce (run_for W.moves given.now) plan.now.batch owner.old course.old.ahead
+        result owner.new }
     ensures leads { OnOk result
         (Leads given.now.grid.now owner.old.state.placement.sites owner.new.swaps.items
         owner.new.state.placement.sites) }
@@ -84,19 +78,17 @@ fn turn_of<W: Words, G: Gate, S: Pursue, J: Naming + Boarding + Origin<S>, R: Wa
         return turn_alone(given, owner, ahead, plan.batch, plan.gate, words);
     }
     if course.begun {
-        return turn_followed(rt, given, owner, followers, ahead, plan, words);
+        return turn_followed(given, owner, followers, ahead, plan, words);
     }
-    begin_followed(rt, given, owner, followers, ahead, plan, words)
+    begin_followed(given, owner, followers, ahead, plan, words)
 }
 
-/// Makes a turn of at most `batch` moves, and shows how far the run has come. An error means that memory ran out; then no move was made.
+/// Makes a turn of at most a batch of moves, and shows how far the run has come. An error means that memory ran out; then no move was made.
 fn one_turn<W: Words, G: Gate, S: Pursue, J: Naming + Boarding + Origin<S>, R: Wait>(
-    rt: &R,
     given: &Given<'_, W>,
     state: &mut Pipeline,
     followers: &mut Option<Followers<S, J>>,
-    plan: &MovesPlan<'_, G>,
-    batch: u64,
+    plan: &MovesPlan<'_, R, G>,
     course: &mut Course,
     shower: &mut Shower,
 ) -> Result<(), AllocError>
@@ -104,13 +96,13 @@ fn one_turn<W: Words, G: Gate, S: Pursue, J: Naming + Boarding + Origin<S>, R: W
         IsAlone (run_for W.moves given.now) t state.old.owner course.old.ahead ×
         IsBeside S.run S.standing S.after J.start (run_for W.moves given.now) t state.old.owner
         course.old.begun followers.old }
-    requires batch { (1 ≤ batch) × (batch ≤ 4096) }
+    requires batch { (1 ≤ plan.now.batch) × (plan.now.batch ≤ 4096) }
     requires own { shower.old.dial ≡ plan.now.dial.now }
     ensures ok { MatchResult result (λ _.
         (t : LastTurn) → IsAlone (run_for W.moves given.now) t state.old.owner course.old.ahead →
         HasGone (run_for W.moves given.now) t state.old.owner
-        (next_turn (run_for W.moves given.now) batch t).made
-        (next_turn (run_for W.moves given.now) batch t).ahead state.new.owner course.new.ahead)
+        (next_turn (run_for W.moves given.now) plan.now.batch t).made
+        (next_turn (run_for W.moves given.now) plan.now.batch t).ahead state.new.owner course.new.ahead)
         (λ _.
         (t : LastTurn) →
         IsAlone (run_for W.moves given.now) t state.old.owner course.old.ahead →
@@ -119,7 +111,7 @@ fn one_turn<W: Words, G: Gate, S: Pursue, J: Naming + Boarding + Origin<S>, R: W
     ensures beside { OnOk result ((t : LastTurn) →
         IsAlone (run_for W.moves given.now) t state.old.owner course.old.ahead →
         IsBeside S.run S.standing S.after J.start (run_for W.moves given.now)
-        (next_turn (run_for W.moves given.now) batch t) state.new.owner course.new.begun
+        (next_turn (run_for W.moves given.now) plan.now.batch t) state.new.owner course.new.begun
         followers.new) }
     ensures none { OnErr result (course.new.ahead.moves ≡ 0) }
     ensures dial { shower.new.dial ≡ shower.old.dial }
@@ -131,10 +123,11 @@ fn one_turn<W: Words, G: Gate, S: Pursue, J: Naming + Boarding + Origin<S>, R: W
 {
     let before = state.owner.state.done;
     let each = TurnPlan {
-        batch,
+        rt: plan.rt,
+        batch: plan.batch,
         gate: plan.gate,
     };
-    match turn_of(rt, given, &mut state.owner, followers, &each, course) {
+    match turn_of(given, &mut state.owner, followers, &each, course) {
         Ok(next) => course.ahead = next,
         Err(error) => {
             course.ahead = Ahead {
@@ -145,7 +138,7 @@ fn one_turn<W: Words, G: Gate, S: Pursue, J: Naming + Boarding + Origin<S>, R: W
         }
     }
     course.begun = true;
-    show_state(rt, given, &state.owner.state, plan.dial, shower);
+    show_state(plan.rt, given, &state.owner.state, plan.dial, shower);
     Ok(())
 }
 
@@ -162,11 +155,10 @@ fn goes_on(rest: u64, batch: u64, count: u64, left: u64) -> bool
 /// Makes moves of the running stage by turns of whole batches. Returns how many of the plan's moves are left, fewer than a batch; none if
 /// the stage ends with them. If memory runs out, the turns that were made stay.
 fn whole_turns<W: Words, G: Gate, S: Pursue, J: Naming + Boarding + Origin<S>, R: Wait>(
-    rt: &R,
     given: &Given<'_, W>,
     state: &mut Pipeline,
     followers: &mut Option<Followers<S, J>>,
-    plan: &MovesPlan<'_, G>,
+    plan: &MovesPlan<'_, R, G>,
     course: &mut Course,
     shower: &mut Shower,
 ) -> Result<u64, AllocError>
@@ -216,9 +208,7 @@ fn whole_turns<W: Words, G: Gate, S: Pursue, J: Naming + Boarding + Origin<S>, R
     let mut rest = plan.count;
     'turns: while goes_on(rest, plan.batch, plan.count, left) {
         let before = state.owner.state.done;
-        one_turn(
-            rt, given, state, followers, plan, plan.batch, course, shower,
-        )?;
+        one_turn(given, state, followers, plan, course, shower)?;
         rest -= state.owner.state.done - before;
     }
     Ok(rest)
@@ -227,11 +217,10 @@ fn whole_turns<W: Words, G: Gate, S: Pursue, J: Naming + Boarding + Origin<S>, R
 /// Makes the plan's moves of the running stage by turns of one batch, of which the last may be shorter. Then nothing counts as judged
 /// ahead. If memory runs out, the turns that were made stay.
 fn make_count<W: Words, G: Gate, S: Pursue, J: Naming + Boarding + Origin<S>, R: Wait>(
-    rt: &R,
     given: &Given<'_, W>,
     state: &mut Pipeline,
     followers: &mut Option<Followers<S, J>>,
-    plan: &MovesPlan<'_, G>,
+    plan: &MovesPlan<'_, R, G>,
     course: &mut Course,
     shower: &mut Shower,
 ) -> Result<(), AllocError>
@@ -249,12 +238,19 @@ fn make_count<W: Words, G: Gate, S: Pursue, J: Naming + Boarding + Origin<S>, R:
         shower.new.shown }
     ensures dial { shower.new.dial ≡ shower.old.dial }
 {
-    let rest = whole_turns(rt, given, state, followers, plan, course, shower)?;
+    let rest = whole_turns(given, state, followers, plan, course, shower)?;
     if rest == 0 {
         course.ahead.moves = 0;
         return Ok(());
     }
-    one_turn(rt, given, state, followers, plan, rest, course, shower)?;
+    let last = MovesPlan {
+        rt: plan.rt,
+        batch: rest,
+        count: rest,
+        gate: plan.gate,
+        dial: plan.dial,
+    };
+    one_turn(given, state, followers, &last, course, shower)?;
     course.ahead.moves = 0;
     Ok(())
 }
@@ -262,11 +258,10 @@ fn make_count<W: Words, G: Gate, S: Pursue, J: Naming + Boarding + Origin<S>, R:
 /// Makes the plan's moves of the running stage by turns, beside a crew that stands where the owner does, if there is one. If memory runs
 /// out, the turns that were made stay. In either case nothing is judged ahead then.
 pub(crate) fn finish<W: Words, G: Gate, S: Pursue, J: Naming + Boarding + Origin<S>, R: Wait>(
-    rt: &R,
     given: &Given<'_, W>,
     state: &mut Pipeline,
     followers: &mut Option<Followers<S, J>>,
-    plan: &MovesPlan<'_, G>,
+    plan: &MovesPlan<'_, R, G>,
     shower: &mut Shower,
 ) -> Result<(), AllocError>
     requires behind { HasTurn (run_for W.moves given.now) state.old }
@@ -293,17 +288,17 @@ pub(crate) fn finish<W: Words, G: Gate, S: Pursue, J: Naming + Boarding + Origin
         begun: false,
         words: [[0u32; 4]; AT_ONCE],
     };
-    let made = make_count(rt, given, state, followers, plan, &mut course, shower);
+    let made = make_count(given, state, followers, plan, &mut course, shower);
     state.base = course.ahead.base;
     state.ahead.clear();
     made
 }
 
 /// Ends a call for which memory ran out before its first move. Nothing is judged ahead then.
-pub(crate) fn refuse<W: Words, G: Gate>(
+pub(crate) fn refuse<W: Words, G: Gate, R: Wait>(
     given: &Given<'_, W>,
     state: &mut Pipeline,
-    plan: &MovesPlan<'_, G>,
+    plan: &MovesPlan<'_, R, G>,
     _shower: &Shower,
 ) -> Result<(), AllocError>
     requires behind { HasTurn (run_for W.moves given.now) state.old }
@@ -326,10 +321,9 @@ pub(crate) fn refuse<W: Words, G: Gate>(
 /// Makes the plan's moves of the running stage, each judged by the owner, by turns. `S` and `J` are the types of a crew; none is made. If
 /// memory runs out, the turns that were made stay. In either case nothing is judged ahead then.
 pub(crate) fn finish_alone<W: Words, G: Gate, S: Pursue, J: Naming + Boarding + Origin<S>, R: Wait>(
-    rt: &R,
     given: &Given<'_, W>,
     state: &mut Pipeline,
-    plan: &MovesPlan<'_, G>,
+    plan: &MovesPlan<'_, R, G>,
     shower: &mut Shower,
 ) -> Result<(), AllocError>
     requires behind { HasTurn (run_for W.moves given.now) state.old }
@@ -346,5 +340,5 @@ pub(crate) fn finish_alone<W: Words, G: Gate, S: Pursue, J: Naming + Boarding + 
     ensures dial { shower.new.dial ≡ shower.old.dial }
 {
     let mut nobody: Option<Followers<S, J>> = None;
-    finish(rt, given, state, &mut nobody, plan, shower)
+    finish(given, state, &mut nobody, plan, shower)
 }

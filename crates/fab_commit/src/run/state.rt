@@ -12,7 +12,7 @@ ghost use Rattle.fab_commit.specs.Run.Commits.{IsAdvanced, IsSound, heat_of, run
 use crate::run::numbers::note;
 use fab_arch::Grid;
 use fab_cost::{EdgeBoxes, WireCost};
-use fab_move::{Decision, Verdict, View, decide, judge, propose, weigh};
+use fab_move::{Decision, Verdict, View, decide, judge, weigh};
 use fab_net::Design;
 use fab_sched::{Schedule, Stage};
 use fab_site::{Fixed, Placement, Swap, Words};
@@ -294,14 +294,7 @@ pub(crate) fn decide_by<W: Words>(
 {
     let _number = number;
     let view = view_of(given, state);
-    let proposal = propose(
-        view.design,
-        view.grid,
-        view.fixed,
-        view.placement,
-        view.range,
-        words,
-    );
+    let proposal = view.propose(words);
     weigh(&view, proposal, words[3])
 }
 

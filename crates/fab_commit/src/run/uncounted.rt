@@ -88,11 +88,10 @@ fn make_uncounted<W: Words, G: Gate>(
 
 /// Makes a turn of so many moves, and shows how far the run has come. An error means that memory ran out; then no move was made.
 fn turn_uncounted<W: Words, G: Gate, R: Wait>(
-    rt: &R,
     given: &Given<'_, W>,
     state: &mut State,
     moves: u64,
-    plan: &MovesPlan<'_, G>,
+    plan: &MovesPlan<'_, R, G>,
     shower: &mut Shower,
     ready: &mut Ready,
 ) -> Result<(), AllocError>
@@ -111,17 +110,16 @@ fn turn_uncounted<W: Words, G: Gate, R: Wait>(
 {
     reserve_numbers(&mut state.accepted, moves as usize)?;
     make_uncounted(given, state, moves, plan.gate, ready);
-    show_state(rt, given, &*state, plan.dial, shower);
+    show_state(plan.rt, given, &*state, plan.dial, shower);
     Ok(())
 }
 
 /// Makes the plan's moves of the running stage by turns, of which the last may be shorter. If memory runs out, the turns that were made
 /// stay.
 fn turns_uncounted<W: Words, G: Gate, R: Wait>(
-    rt: &R,
     given: &Given<'_, W>,
     state: &mut State,
-    plan: &MovesPlan<'_, G>,
+    plan: &MovesPlan<'_, R, G>,
     shower: &mut Shower,
     ready: &mut Ready,
 ) -> Result<(), AllocError>
@@ -139,7 +137,7 @@ fn turns_uncounted<W: Words, G: Gate, R: Wait>(
     let mut rest = plan.count;
     'turns: while rest > 0 {
         let moves = plan.batch.min(rest);
-        turn_uncounted(rt, given, state, moves, plan, shower, ready)?;
+        turn_uncounted(given, state, moves, plan, shower, ready)?;
         rest -= moves;
     }
     Ok(())
@@ -148,10 +146,9 @@ fn turns_uncounted<W: Words, G: Gate, R: Wait>(
 /// Makes the plan's moves of the running stage, each judged by the owner, by turns, of which the last may be shorter. If memory runs out,
 /// the turns that were made stay. In either case nothing is judged ahead then, and the count of moves judged again stays the same.
 pub(crate) fn finish_uncounted<W: Words, G: Gate, R: Wait>(
-    rt: &R,
     given: &Given<'_, W>,
     state: &mut Pipeline,
-    plan: &MovesPlan<'_, G>,
+    plan: &MovesPlan<'_, R, G>,
     shower: &mut Shower,
 ) -> Result<(), AllocError>
     requires behind { HasTurn (run_for W.moves given.now) state.old }
@@ -170,7 +167,7 @@ pub(crate) fn finish_uncounted<W: Words, G: Gate, R: Wait>(
         words: [[0u32; 4]; AT_ONCE],
         read: state.read,
     };
-    let made = turns_uncounted(rt, given, &mut state.owner.state, plan, shower, &mut ready);
+    let made = turns_uncounted(given, &mut state.owner.state, plan, shower, &mut ready);
     state.read = ready.read;
     state.owner.swaps.clear();
     state.ahead.clear();

@@ -6,5 +6,5 @@ pub returns-clause-each : goal.returns-clause-each
 returns-clause-each g c =
     let parts = c.in_ok-parts.parts in
     if_ok _ _ c.judged_by.result
-    (λ v h k d l. subst (λ b. g.B.Judging.gives b (c.args.first + k) (get_or v.items k d)) c.in_ok-parts.ensures.first (given_by g.B.Judging.gives parts.first (c.args.first + k) (get_or v.items k d) (h k d l)))
+    (λ v h k d l. subst (λ b. g.B.Judging.gives b (c.args.ask.first + k) (get_or v.items k d)) c.in_ok-parts.ensures.first (given_by g.B.Judging.gives parts.first (c.args.ask.first + k) (get_or v.items k d) (h k d l)))
     c.judged_by.ensures.each

@@ -26,7 +26,7 @@ returns-in_err-write_placement-clause-cut g c =
 pub returns-in_err-write_placement-clause-place_cut : goal.returns-in_err-write_placement-clause-place_cut
 returns-in_err-write_placement-clause-place_cut g c =
     let p = piece_of stream_moves c.args.anneal c.args.piece.now.head.items c.args.piece.now.pace.stop in
-    let t = texts_of c.args.inputs.now in
+    let t = texts_of c.args.piece.now.inputs.now in
     let out = c.in_ok-outcome.outcome in
     let e = err_from_is_err_and c.from_residual-in_err-write_placement.result c.from_residual-in_err-write_placement.ensures.1 in
     rw (e.1, e.2) (λ q. inr (text_cut t p (answer_with out c.in_ok-outcome.ensures.annealed.0) c.args.piece.now.design.now c.args.piece.now.grid.now

@@ -10,8 +10,8 @@ pub make_rest-requires-clause-left : goal.make_rest-requires-clause-left
 make_rest-requires-clause-left g c κs within =
     let r = run_of g.V.Words.moves c.args.anneal.now in
     let x = c.args.anneal.now.standing in
-    let left = left_is r x c.args.stage c.args.moves c.requires.stage c.requires.moves in
-    let some = left_there r x c.args.stage c.requires.stage (subst (λ m. 1 ≤ m) c.requires.moves c.requires.some) in
+    let left = left_is r x c.args.running.now.stage c.args.running.now.moves c.requires.stage c.requires.moves in
+    let some = left_there r x c.args.running.now.stage c.requires.stage (subst (λ m. 1 ≤ m) c.requires.moves c.requires.some) in
     (left, omega (arith, left, some))
 
 pub overflow_sub-accepted : goal.overflow_sub-accepted
@@ -19,7 +19,7 @@ overflow_sub-accepted g c =
     let r = run_of g.V.Words.moves c.args.anneal.now in
     let x = c.args.anneal.now.standing in
     let there = c.in_ok-make_rest.ensures.stands in
-    let grows : x.total ≤ c.make_rest.new.anneal.standing.total = subst (λ s. x.total ≤ s.total) (sym there) (total_grows r x (c.args.moves - c.args.stage.done)) in
+    let grows : x.total ≤ c.make_rest.new.anneal.standing.total = subst (λ s. x.total ≤ s.total) (sym there) (total_grows r x (c.args.running.now.moves - c.args.running.now.stage.done)) in
     let before = c.total-before.ensures in
     let after = c.total.ensures in
     grind (arith, grows, before, after)
@@ -31,11 +31,11 @@ returns-clause-costs g c =
     let y = c.make_rest.new.anneal.standing in
     let same = c.make_rest.ensures.same in
     let em = c.requires.moves in
-    let n : c.args.moves - c.args.stage.done ≡ moves_left r x = left_is r x c.args.stage c.args.moves c.requires.stage em in
+    let n : c.args.running.now.moves - c.args.running.now.stage.done ≡ moves_left r x = left_is r x c.args.running.now.stage c.args.running.now.moves c.requires.stage em in
     let there = c.in_ok-make_rest.ensures.stands ∙ ap (from r x) n in
     let cost : c.cost-cost.result ≡ cost_at r y = c.cost-cost.ensures ∙ (λ i. cost_of (same.design i) (same.grid i) y.sites) in
     let one : 1 ≤ r.plan.moves = subst (λ m. 1 ≤ m) em c.requires.some in
-    let fact = c.in_ok-push.ensures.items ∙ ap (λ l. c.args.costs.now.items ++ l) (told_cost r x y c.args.stage c.cost-cost.result c.requires.stage one there cost) in
+    let fact = c.in_ok-push.ensures.items ∙ ap (λ l. c.args.costs.now.items ++ l) (told_cost r x y c.args.running.now.stage c.cost-cost.result c.requires.stage one there cost) in
     search (rules, fact)
 
 pub returns-clause-line : goal.returns-clause-line
@@ -45,12 +45,12 @@ returns-clause-line g c =
     let y = c.make_rest.new.anneal.standing in
     let same = c.make_rest.ensures.same in
     let em = c.requires.moves in
-    let n : c.args.moves - c.args.stage.done ≡ moves_left r x = left_is r x c.args.stage c.args.moves c.requires.stage em in
+    let n : c.args.running.now.moves - c.args.running.now.stage.done ≡ moves_left r x = left_is r x c.args.running.now.stage c.args.running.now.moves c.requires.stage em in
     let there = c.in_ok-make_rest.ensures.stands ∙ ap (from r x) n in
     let cost : c.cost-cost.result ≡ cost_at r y = c.cost-cost.ensures ∙ (λ i. cost_of (same.design i) (same.grid i) y.sites) in
     let one : 1 ≤ r.plan.moves = subst (λ m. 1 ≤ m) em c.requires.some in
     let before = c.total-before.ensures in
     let after = c.total.ensures in
-    let accepted : c.args.stage.accepted + (c.total.result - c.total-before.result) ≡ c.args.stage.accepted + (y.total - x.total) = (λ i. c.args.stage.accepted + (after i - before i)) in
+    let accepted : c.args.running.now.stage.accepted + (c.total.result - c.total-before.result) ≡ c.args.running.now.stage.accepted + (y.total - x.total) = (λ i. c.args.running.now.stage.accepted + (after i - before i)) in
     subst (λ t. IfOk c.stage_line.result (λ v. v.items ≡ t))
-    (told_line r x y c.args.stage c.args.moves _ c.cost-cost.result c.requires.stage one there em accepted cost) c.stage_line.ensures
+    (told_line r x y c.args.running.now.stage c.args.running.now.moves _ c.cost-cost.result c.requires.stage one there em accepted cost) c.stage_line.ensures

@@ -13,5 +13,5 @@ returns-in-Ok-clause-device g c =
     let o = c.args.options.now in
     tried_told (IsSetting t o) (λ (s : Setting) f. IsForecast s.plan 0 o.stop f)
     ((g.O.Sink.failed c.place_kept.new.out ≡ grown (g.O.Sink.failed c.args.out.now)) × IsSaid report_line (g.E.Sink.contents c.args.err.now) (g.E.Sink.contents c.place_kept.new.err) (g.E.Sink.failed c.args.err.now) (g.E.Sink.failed c.place_kept.new.err))
-    (forecast_in c.in-Ok.kept) c.args.names.now.out.now (option_copied c.args.names.now.save) (g.F.NamedFiles.shut c.args.files.now) (λ line. IsSaid line (g.E.Sink.contents c.args.err.now) (g.E.Sink.contents c.place_kept.new.err) (g.E.Sink.failed c.args.err.now) (g.E.Sink.failed c.place_kept.new.err))
+    (forecast_in c.in-Ok.kept) c.args.environment.now.names.out.now (option_copied c.args.environment.now.names.save) (g.F.NamedFiles.shut c.args.environment.now.files.now) (λ line. IsSaid line (g.E.Sink.contents c.args.err.now) (g.E.Sink.contents c.place_kept.new.err) (g.E.Sink.failed c.args.err.now) (g.E.Sink.failed c.place_kept.new.err))
     c.place_kept.result (λ s k. (c.in-Ok.ensures.kept s k).0) c.place_kept.ensures.device

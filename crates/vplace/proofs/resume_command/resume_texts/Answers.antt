@@ -15,7 +15,7 @@ returns-in-Ok-clause-device g c =
     let r = c.args.restart.now in
     tried_told (IsGoing t r.point.now r.batch r.workers) (λ (s : Going) f. IsForecast s.point.schedule (done_at s.point) r.stop f)
     ((g.O.Sink.failed c.resume_kept.new.out ≡ grown (g.O.Sink.failed c.args.out.now)) × IsSaid report_line (g.E.Sink.contents c.args.err.now) (g.E.Sink.contents c.resume_kept.new.err) (g.E.Sink.failed c.args.err.now) (g.E.Sink.failed c.resume_kept.new.err))
-    (forecast_in c.in-Ok.kept) c.args.names.now.out.now (option_copied c.args.names.now.save) (g.F.NamedFiles.shut c.args.files.now) (λ line. IsSaid line (g.E.Sink.contents c.args.err.now) (g.E.Sink.contents c.resume_kept.new.err) (g.E.Sink.failed c.args.err.now) (g.E.Sink.failed c.resume_kept.new.err))
+    (forecast_in c.in-Ok.kept) c.args.environment.now.names.out.now (option_copied c.args.environment.now.names.save) (g.F.NamedFiles.shut c.args.environment.now.files.now) (λ line. IsSaid line (g.E.Sink.contents c.args.err.now) (g.E.Sink.contents c.resume_kept.new.err) (g.E.Sink.failed c.args.err.now) (g.E.Sink.failed c.resume_kept.new.err))
     c.resume_kept.result (λ s k. (c.in-Ok.ensures.kept s k.text).0) c.resume_kept.ensures.device
 
 pub returns-in-Err-clause-only : goal.returns-in-Err-clause-only

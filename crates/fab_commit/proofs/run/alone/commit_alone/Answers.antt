@@ -27,7 +27,7 @@ commit_some-requires-clause-room g c κs within =
     let count = c.min-count.ensures in
     let low = c.loop-made.invariant.low in
     let more = c.loop-made-test.true in
-    c.loop-made.invariant.room (length c.fill_words.new.out) (has_less c.args.owner.now c.args.moves (c.loop-made.made + length c.fill_words.new.out) (omega (arith, low, more, long, same, count)) c.requires.room)
+    c.loop-made.invariant.room (length c.fill_words.new.out) (has_less c.args.owner.now c.args.due.moves (c.loop-made.made + length c.fill_words.new.out) (omega (arith, low, more, long, same, count)) c.requires.room)
 
 pub commit_some-requires-clause-due : goal.commit_some-requires-clause-due
 commit_some-requires-clause-due g c κs within =
@@ -37,7 +37,7 @@ commit_some-requires-clause-due g c κs within =
     let count = c.min-count.ensures in
     let low = c.loop-made.invariant.low in
     let more = c.loop-made-test.true in
-    (open_later r c.args.owner.now c.loop-made.owner c.args.base c.args.moves c.loop-made.made (length c.fill_words.new.out) c.requires.due c.loop-made.invariant.has (omega (arith, low, more, long, same, count))).due
+    (open_later r c.args.owner.now c.loop-made.owner c.args.due.base c.args.due.moves c.loop-made.made (length c.fill_words.new.out) c.requires.due c.loop-made.invariant.has (omega (arith, low, more, long, same, count))).due
 
 pub loop-made-preserved : goal.loop-made-preserved
 loop-made-preserved g c =
@@ -60,13 +60,13 @@ loop-made-preserved g c =
       long = length-append c.fill_words.new.out (drop m c.loop-made.words) ∙ (let rest = length-drop m c.loop-made.words in omega (arith, all, array, rest, long, same));
       has = made_more r o mid now n m inv.has (subst (λ k. HasMade r mid k now) all c.commit_some.ensures.made);
       redone = λ due.
-          let next = open_later r o mid c.args.base c.args.moves n (length c.fill_words.new.out) due inv.has (omega (arith, low, more, long, same, count)) in
+          let next = open_later r o mid c.args.due.base c.args.due.moves n (length c.fill_words.new.out) due inv.has (omega (arith, low, more, long, same, count)) in
           let before = inv.redone due in
           let after = c.commit_some.ensures.redone next.due in
           let done = inv.has.done in
-          let p = is_redone r due.start c.args.base in
-          let part : count_by (is_redone r next.due.start c.args.base) (range_with_len mid.state.done (length c.fill_words.new.out)) ≡ count_by p (range_with_len (o.state.done + n) m) =
-          (λ i. count_by (is_redone r (next.is i) c.args.base) (range_with_len (done i) (all i))) in
+          let p = is_redone r due.start c.args.due.base in
+          let part : count_by (is_redone r next.due.start c.args.due.base) (range_with_len mid.state.done (length c.fill_words.new.out)) ≡ count_by p (range_with_len (o.state.done + n) m) =
+          (λ i. count_by (is_redone r (next.is i) c.args.due.base) (range_with_len (done i) (all i))) in
           let both = count_both p o.state.done n m in
           omega (arith, before, after, part, both);
       room = λ k h.
@@ -80,11 +80,11 @@ returns-clause-redone g c due =
     let r = run_for g.W.Words.moves c.args.given.now in
     let low = c.loop-made.invariant.low in
     let all = c.loop-made-test.false in
-    let n : c.loop-made.made ≡ c.args.moves = omega (arith, low, all) in
-    c.loop-made.invariant.redone due ∙ ap (λ k. o.redone + count_by (is_redone r due.start c.args.base) (range_with_len o.state.done k)) n
+    let n : c.loop-made.made ≡ c.args.due.moves = omega (arith, low, all) in
+    c.loop-made.invariant.redone due ∙ ap (λ k. o.redone + count_by (is_redone r due.start c.args.due.base) (range_with_len o.state.done k)) n
 
 pub returns-clause-room : goal.returns-clause-room
 returns-clause-room g c k h =
     let low = c.loop-made.invariant.low in
     let all = c.loop-made-test.false in
-    c.loop-made.invariant.room k (has_less c.args.owner.now (c.args.moves + k) (c.loop-made.made + k) (omega (arith, low, all)) h)
+    c.loop-made.invariant.room k (has_less c.args.owner.now (c.args.due.moves + k) (c.loop-made.made + k) (omega (arith, low, all)) h)

@@ -10,12 +10,12 @@ abbrev pub invariant-loop-made : goal.invariant-loop-made
 invariant-loop-made g l =
     let r = run_for g.W.Words.moves l.given in
     record {
-      low : l.made ≤ l.moves;
+      low : l.made ≤ l.due.moves;
       long : length l.words ≡ 32;
       has : HasMade r l.initial.owner l.made l.owner;
-      redone : (due : AreOpen r l.initial.owner l.base l.moves) → l.owner.redone ≡ l.initial.owner.redone + count_by (is_redone r due.start l.base) (range_with_len l.initial.owner.state.done l.made);
+      redone : (due : AreOpen r l.initial.owner l.due.base l.due.moves) → l.owner.redone ≡ l.initial.owner.redone + count_by (is_redone r due.start l.due.base) (range_with_len l.initial.owner.state.done l.made);
       room : (n : ℕ) → HasRoom l.initial.owner (l.made + n) → HasRoom l.owner n;
     }
 
 abbrev pub decreases-loop-made : goal.decreases-loop-made
-decreases-loop-made g l = l.moves - l.made
+decreases-loop-made g l = l.due.moves - l.made

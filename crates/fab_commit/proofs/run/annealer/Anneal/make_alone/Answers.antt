@@ -2,13 +2,13 @@ use Rattle.std.proofs.Common.{length, refl, subst}
 use Rattle.std.specs.Arc.{arc_value}
 use Rattle.fab_commit.specs.declared.run.alone.Ahead.{Ahead}
 use Rattle.fab_commit.specs.declared.run.state.Given.{Given}
-use Rattle.fab_commit.specs.Run.Alone.{AreMadeAlone, IsUnjudged, IsMadeAlone}
+use Rattle.fab_commit.specs.Run.Alone.{AreMadeAlone, IsMade, IsMadeByTurns, IsUnjudged}
 use Rattle.fab_commit.specs.Run.Commits.{run_for, standing_of}
 use Rattle.fab_commit.specs.Run.Pipelines.{HasTurn}
-use Rattle.fab_commit.specs.Run.Uncounted.{AreMadeUncounted, IsMade}
+use Rattle.fab_commit.specs.Run.Uncounted.{AreMadeUncounted}
 use Rattle.fab_commit.proofs.RunLemmas.Alone.{alone_behind}
 use Rattle.fab_commit.proofs.RunLemmas.Ended.{made_alone}
-use Rattle.fab_commit.proofs.RunLemmas.Further.{made_of, made_uncounted, since_further}
+use Rattle.fab_commit.proofs.RunLemmas.Further.{made_uncounted, since_further}
 use Rattle.fab_commit.proofs.RunLemmas.Since.{since_alone}
 use Rattle.fab_commit.proofs.RunLemmas.Turned.{seen}
 use Rattle.fab_commit.proofs.run.annealer.Anneal.make_alone.Goals as goal
@@ -22,7 +22,7 @@ invariant_of-self-2 g c =
     let now = c.finish_alone.new.state in
     let old = c.args.shower.now.shown in
     let new = c.finish_alone.new.shower.shown in
-    let batch = c.args.batch in
+    let batch = c.args.plan.now.batch in
     let count = c.args.count in
     let answer = c.finish_alone.result in
     let b = c.self.invariant.0 in
@@ -40,7 +40,7 @@ returns-clause-made g c =
     let now = c.finish_alone.new.state in
     let old = c.args.shower.now.shown in
     let new = c.finish_alone.new.shower.shown in
-    let batch = c.args.batch in
+    let batch = c.args.plan.now.batch in
     let count = c.args.count in
     let answer = c.finish_alone.result in
     let b = c.self.invariant.0 in
@@ -49,8 +49,7 @@ returns-clause-made g c =
     let ahead : Ahead = record { base = s.base; moves = length s.ahead.items } in
     let made = subst (λ (v : Given g.row.W.Denot). (due : Ahead) × IsUnjudged now due × AreMadeAlone (run_for moves v) batch count s.owner ahead now.owner due answer old new) c.deref-given.ensures c.finish_alone.ensures.made in
     subst (λ m. IsMade moves batch count m (seen moves given x now) answer old new) c.self.view_is
-    (made_of moves batch count (seen moves given x s) (seen moves given x now) answer old new
-    (made_alone moves given x batch count s now b.0 ahead made.0 answer old new b.1 since.after since.here (alone_behind (run_for moves given) b.0 s ahead b.1 refl refl) made.2 made.1))
+    (made_alone moves given x batch count s now b.0 ahead made.0 answer old new b.1 since.after since.here (alone_behind (run_for moves given) b.0 s ahead b.1 refl refl) made.2 made.1).made
 
 pub returns-clause-counted : goal.returns-clause-counted
 returns-clause-counted g c = λ e.
@@ -61,7 +60,7 @@ returns-clause-counted g c = λ e.
     let now = c.finish_alone.new.state in
     let old = c.args.shower.now.shown in
     let new = c.finish_alone.new.shower.shown in
-    let batch = c.args.batch in
+    let batch = c.args.plan.now.batch in
     let count = c.args.count in
     let answer = c.finish_alone.result in
     let b = c.self.invariant.0 in
@@ -69,7 +68,7 @@ returns-clause-counted g c = λ e.
     let x = standing_of a.began.value in
     let ahead : Ahead = record { base = s.base; moves = length s.ahead.items } in
     let made = subst (λ (v : Given g.row.W.Denot). (due : Ahead) × IsUnjudged now due × AreMadeAlone (run_for moves v) batch count s.owner ahead now.owner due answer old new) c.deref-given.ensures c.finish_alone.ensures.made in
-    subst (λ m. IsMadeAlone moves batch count m (seen moves given x now) answer old new) c.self.view_is
+    subst (λ m. IsMadeByTurns moves batch count m (seen moves given x now) answer old new) c.self.view_is
     (made_alone moves given x batch count s now b.0 ahead made.0 answer old new b.1 since.after since.here (alone_behind (run_for moves given) b.0 s ahead b.1 refl refl) made.2 made.1)
 
 pub invariant_of-self : goal.invariant_of-self
@@ -81,7 +80,7 @@ invariant_of-self g c =
     let now = c.finish_uncounted.new.state in
     let old = c.args.shower.now.shown in
     let new = c.finish_uncounted.new.shower.shown in
-    let batch = c.args.batch in
+    let batch = c.args.plan.now.batch in
     let count = c.args.count in
     let answer = c.finish_uncounted.result in
     let made = subst (λ (v : Given g.row.W.Denot). AreMadeUncounted (run_for moves v) batch count s.owner.state now.owner.state answer old new) c.deref-given.ensures c.finish_uncounted.ensures.made in
@@ -96,7 +95,7 @@ returns-then-not-tells_redone-clause-made g c =
     let now = c.finish_uncounted.new.state in
     let old = c.args.shower.now.shown in
     let new = c.finish_uncounted.new.shower.shown in
-    let batch = c.args.batch in
+    let batch = c.args.plan.now.batch in
     let count = c.args.count in
     let answer = c.finish_uncounted.result in
     let since = c.self.invariant.1 in

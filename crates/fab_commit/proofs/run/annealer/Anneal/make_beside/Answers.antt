@@ -1,7 +1,7 @@
 use Rattle.std.proofs.Common.{length, refl, subst}
 use Rattle.std.specs.Arc.{arc_value}
 use Rattle.fab_commit.specs.declared.run.alone.Ahead.{Ahead}
-use Rattle.fab_commit.specs.Run.Alone.{IsMadeAlone}
+use Rattle.fab_commit.specs.Run.Alone.{IsMadeByTurns}
 use Rattle.fab_commit.specs.Run.Commits.{run_for, standing_of}
 use Rattle.fab_commit.proofs.RunLemmas.Alone.{alone_behind}
 use Rattle.fab_commit.proofs.RunLemmas.Ended.{made_alone}
@@ -44,5 +44,5 @@ returns-clause-made g c =
     let x = standing_of a.began.value in
     let ahead : Ahead = record { base = s.base; moves = length s.ahead.items } in
     let made = c.finish_beside.ensures.made in
-    subst (λ m. IsMadeAlone moves batch count m (seen moves given x now) answer old new) c.self.view_is
+    subst (λ m. IsMadeByTurns moves batch count m (seen moves given x now) answer old new) c.self.view_is
     (made_alone moves given x batch count s now b.0 ahead made.0 answer old new b.1 since.after since.here (alone_behind (run_for moves given) b.0 s ahead b.1 refl refl) made.2 made.1)

@@ -2,7 +2,7 @@ use Rattle.std.proofs.Common.{false}
 use Rattle.fab_run.specs.Placed.{AskFor, IsPlaced}
 use Rattle.fab_run.specs.Setting.{texts_of}
 use Rattle.fab_run.proofs.Lifting.{by_count}
-use Rattle.fab_run.proofs.counted_runs.place_run_counted_shown.Goals as goal
+use Rattle.fab_run.proofs.counted_runs.place_run_counted.Goals as goal
 
 pub returns-in-Ok-clause-headline : goal.returns-in-Ok-clause-headline
 returns-in-Ok-clause-headline g c =

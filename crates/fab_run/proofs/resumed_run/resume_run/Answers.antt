@@ -3,7 +3,7 @@ use Rattle.fab_run.specs.Ends.{AreRedone}
 use Rattle.fab_run.specs.Placed.{AskToGoOn, IsPlaced}
 use Rattle.fab_run.specs.Setting.{texts_of}
 use Rattle.fab_run.proofs.Lifting.{with_numbers}
-use Rattle.fab_run.proofs.resumed_run.resume_run_shown.Goals as goal
+use Rattle.fab_run.proofs.resumed_run.resume_run.Goals as goal
 
 pub outcome_of-requires : goal.outcome_of-requires
 outcome_of-requires g c = record { kept = (_, c.in-Ok.ensures.headline.1.kept) }
