@@ -11,9 +11,9 @@ ghost use Rattle.fab_cost.specs.Cost.{box_on, net_box};
 ghost use Rattle.fab_cost.specs.Runs.{lanes_at, lanes_in, least_among, table_of};
 ghost use Rattle.fab_cost.specs.Swapping.{ComesBack};
 
-use crate::counted_box::comes_back;
 use crate::lanes::{joined, lanes_of, nowhere};
 use crate::net_box::NetBox;
+use crate::swapped_site::comes_back;
 use fab_arch::Grid;
 use fab_net::{BlockId, Design, NetId, Terminal};
 use fab_site::{Placement, Swap};

@@ -17,11 +17,11 @@ ghost use Rattle.fab_cost.specs.SwapViews.{IsPartOf, IsView, sites_after, sites_
 ghost use Rattle.fab_cost.specs.Swapping.{HaveBoxes, IsPart, blocks_of, cost_unless, has_block, times_other};
 
 use crate::block_nets::{PinCounts, is_left_out, net_of, own_pins, partner_pins, shares_with};
-use crate::edge_boxes::{NO_TALLY, Tally};
 use crate::edge_counts::{CountedBox, ends_after};
 use crate::lane_boxes::box_by_lanes;
 use crate::net_box::{NetBox, clipped};
 use crate::swap_view::{Part, SwapView};
+use crate::tally::{NO_TALLY, Tally};
 use fab_arch::{Grid, Site};
 use fab_net::{BlockId, Design, NetId, Terminal};
 use fab_site::{Placement, Swap};

@@ -19,13 +19,13 @@ ghost use Rattle.fab_cost.specs.Swapping.{AreRenewed, HaveBoxes, IsPart, blocks_
 
 use crate::block_nets::{PinCounts, is_left_out, net_of, own_pins, partner_pins, shares_with};
 use crate::counted_box::{counted_box, swapped_box};
-use crate::edge_boxes::{NO_TALLY, Tally, plus};
 use crate::edge_counts::{CountedBox, NOTHING};
 use crate::lanes::{edge_lanes_of, holds, inner_lanes_of, reach_of, surrounds};
 use crate::large_change::change_of_large_net;
 use crate::most_pins::most_pins;
 use crate::runs::{Runs, WIDE};
 use crate::swap_view::{Part, SwapView};
+use crate::tally::{NO_TALLY, Tally, plus};
 use fab_arch::Grid;
 use fab_net::{BlockId, Design, NetId};
 use fab_site::{Placement, Swap};

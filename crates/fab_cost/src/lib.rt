@@ -19,6 +19,8 @@ mod runs;
 mod sized_rows;
 mod small_nets;
 mod swap_view;
+mod swapped_site;
+mod tally;
 mod whole_boxes;
 pub mod wire;
 

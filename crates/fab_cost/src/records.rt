@@ -5,8 +5,8 @@ ghost use Rattle.std.specs.List.{All, sum_by};
 ghost use lib.Lanes.{sum_l};
 ghost use Rattle.fab_cost.specs.Runs.{AreLanes, AreWithin, least_among, least_of, seen_in, weight};
 
-use crate::edge_boxes::Tally;
 use crate::lanes::{joined, nowhere, total};
+use crate::tally::Tally;
 use std::simd::prelude::*;
 
 /// A net with few terminals, as one of its blocks sees it: the other blocks on it, filled up with the number past the last block, and

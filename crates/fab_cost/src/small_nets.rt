@@ -10,11 +10,11 @@ ghost use Rattle.fab_site.specs.Placement.{swapped, IsSwapOf};
 ghost use Rattle.fab_cost.specs.Runs.{AreSeen, HasRecords, IsStep, counted_over, few_all, few_cost, positions_in, table_from, table_of};
 ghost use Rattle.fab_cost.specs.Swapping.{Position, positions_after};
 
-use crate::edge_boxes::{Tally, plus};
 use crate::edge_counts::{CountedBox, Edges, NOTHING};
 use crate::lanes::{lanes_of, nowhere};
 use crate::records::{Moved, NO_BLOCK, change_of_records};
 use crate::runs::Runs;
+use crate::tally::{Tally, plus};
 use fab_arch::{Grid, Site};
 use fab_net::{BlockId, Design};
 use fab_site::{Placement, Swap};

@@ -18,6 +18,7 @@ use Rattle.fab_net.specs.ByNumber.{pin_of, net_entry, driver_entry, drives_its, 
 use Rattle.fab_net.specs.Faults.{first_span}
 use Rattle.fab_net.specs.Rows.{of_row, row_of, rows_of}
 use Rattle.fab_net.proofs.Naming.{itself, other_way, has_number, name_at_number}
+use Rattle.fab_net.proofs.Pushing.{any_push}
 
 any_kept : (p q : List ℕ → Bool) (xs : List (List ℕ)) → list_any p xs ≡ false → list_any p (filter q xs) ≡ false
 any_kept p q [] h = refl
@@ -139,18 +140,6 @@ span_by_number names r (p ∷ ps) d lt h =
     let rest = span_by_number names r ps d lt (All-tail (λ (p : Pin). p.net < length names) p ps h) in
     let same = by_number names r p.net d lt here in
     ap (λ s. cond (eqb p.net r) p.span s) rest ∙ ap (λ b. cond b p.span (first_span (map (pin_of names) ps) (get_or names r []))) (sym same)
-
-any_push : (p : List ℕ → Bool) (xs : List (List ℕ)) (y : List ℕ) → list_any p (xs ++ y ∷ []) ≡ (list_any p xs || p y)
-any_push p [] y = or_false (p y)
-  where
-    or_false : (b : Bool) → (b || false) ≡ (false || b)
-    or_false true = refl
-    or_false false = refl
-any_push p (x ∷ xs) y = ap (λ b. p x || b) (any_push p xs y) ∙ or_assoc (p x) (list_any p xs) (p y)
-  where
-    or_assoc : (a b c : Bool) → (a || (b || c)) ≡ ((a || b) || c)
-    or_assoc true b c = refl
-    or_assoc false b c = refl
 
 or_true : (b : Bool) → (b || true) ≡ true
 or_true true = refl

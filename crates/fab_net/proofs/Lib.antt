@@ -2,6 +2,7 @@ pub mod Distinct
 pub mod Naming
 pub mod Numbers
 pub mod Placing
+pub mod Pushing
 pub mod Stamps
 pub mod Sections
 pub mod Texts

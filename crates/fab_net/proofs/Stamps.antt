@@ -11,6 +11,7 @@ use Rattle.fab_net.specs.declared.netlist_types.NetId.{NetId}
 use Rattle.fab_net.specs.declared.netlist_types.Terminal.{Terminal}
 use Rattle.fab_net.specs.Rows.{of_row, item_of, row_of, rows_of}
 use Rattle.fab_net.specs.BlockNets.{is_at, net_id, net_where, touches, nets_on, block_nets}
+use Rattle.fab_net.proofs.Pushing.{any_push}
 
 -- what holds after the first `j` terminals
 pub record Stamping (blocks net : ℕ) (row : List Terminal) (j : ℕ) (before entries : List (ℕ × NetId)) (stamps : List ℕ) : Type 0 where
@@ -20,18 +21,6 @@ pub record Stamping (blocks net : ℕ) (row : List Terminal) (j : ℕ) (before e
   pub within : All (λ e. e.0 < blocks) entries
   pub few : length entries ≤ length before + j
   pub rows : (b : ℕ) → b < blocks → row_of entries b ≡ row_of before b ++ net_where net (take j row) b
-
-any_push : (p : Terminal → Bool) (xs : List Terminal) (y : Terminal) → list_any p (xs ++ y ∷ []) ≡ (list_any p xs || p y)
-any_push p [] y = or_false (p y)
-  where
-    or_false : (b : Bool) → (b || false) ≡ (false || b)
-    or_false true = refl
-    or_false false = refl
-any_push p (x ∷ xs) y = ap (λ b. p x || b) (any_push p xs y) ∙ or_assoc (p x) (list_any p xs) (p y)
-  where
-    or_assoc : (a b c : Bool) → (a || (b || c)) ≡ ((a || b) || c)
-    or_assoc true b c = refl
-    or_assoc false b c = refl
 
 pub one_more : (row : List Terminal) (j b : ℕ) (t : Terminal) → j < length row → t ≡ get_or row j t → list_any (is_at b) (take (j + 1) row) ≡ (list_any (is_at b) (take j row) || eqb t.block.0 b)
 one_more row j b t lt is = ap (list_any (is_at b)) (take_more row j t lt ∙ ap (λ x. take j row ++ x ∷ []) (sym is)) ∙ any_push (is_at b) (take j row) t

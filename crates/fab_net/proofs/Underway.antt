@@ -21,6 +21,7 @@ use Rattle.fab_net.specs.Faults.{open_section, without_pinlist, awaiting, missin
 use Rattle.fab_net.proofs.Naming.{has_number, other_way, first_names_push}
 use Rattle.fab_net.proofs.Sections.{IsInner, begun, grow, grown_by, late, ahead_inner, ahead_opens, sections_inner, sections_opens, grow_names, grow_len, one_more_pinlist, no_more_pinlist, pins_keep, pins_grow, pins_push}
 use Rattle.fab_net.proofs.Texts.{unless_true}
+use Rattle.fab_net.proofs.Pushing.{any_push}
 
 -- one more element, and one less
 
@@ -31,18 +32,6 @@ all_push P (y ∷ ys) x h k = (h.0, all_push P ys x h.1 k)
 all_pop : {X : Type 0} (P : X → Type 0) (xs : List X) (x : X) → AllByRecursion P (xs ++ x ∷ []) → AllByRecursion P xs × P x
 all_pop P [] x h = (tt, h.0)
 all_pop P (y ∷ ys) x h = let r = all_pop P ys x h.1 in ((h.0, r.0), r.1)
-
-any_push : (p : List ℕ → Bool) (xs : List (List ℕ)) (y : List ℕ) → list_any p (xs ++ y ∷ []) ≡ (list_any p xs || p y)
-any_push p [] y = or_false (p y)
-  where
-    or_false : (b : Bool) → (b || false) ≡ (false || b)
-    or_false true = refl
-    or_false false = refl
-any_push p (x ∷ xs) y = ap (λ b. p x || b) (any_push p xs y) ∙ or_assoc (p x) (list_any p xs) (p y)
-  where
-    or_assoc : (a b c : Bool) → (a || (b || c)) ≡ ((a || b) || c)
-    or_assoc true b c = refl
-    or_assoc false b c = refl
 
 or_none : (a b : Bool) → (a || b) ≡ false → (a ≡ false) × (b ≡ false)
 or_none true b h = absurd (false≢true (sym h))
