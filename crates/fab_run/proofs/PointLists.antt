@@ -19,7 +19,8 @@ use Rattle.fab_file.specs.declared.fault.PlaceFault.TheVariants as fault
 use Rattle.fab_file.specs.Place.{block_in, names_block, Places}
 use Rattle.fab_file.specs.PlaceFaults.{is_block, is_repeated, missing_fault}
 use Rattle.fab_file.specs.Taken.{LinesOf, end_fault, has_site, no_lines, take_fault, with_line}
-use Rattle.fab_file.proofs.Seats.{IsSeated, Seats, all_kept, any_push, no_seats, not_there, on, same_fault, takable, named_below}
+use Rattle.fab_net.proofs.Pushing.{any_push}
+use Rattle.fab_file.proofs.Seats.{IsSeated, Seats, all_kept, no_seats, not_there, on, same_fault, takable, named_below}
 use Rattle.fab_file.proofs.Underway.{with_line_is}
 use Rattle.fab_file.proofs.Legal.{got_back, legal, named_lines}
 use Rattle.fab_file.proofs.Back.{all_by_place}
