@@ -80,7 +80,7 @@ pub(crate) fn helpers_of<R: Threads>(rt: &R, workers: u64) -> u64 {
 /// The fewest moves of a stage for which a crew pays if three or more workers help: founding it takes the time of some thousands of moves.
 const FEWEST_MOVES: u64 = 5_000;
 
-/// The same if two help: such a crew saves less of each move, and needs a longer stage to make up for its founding.
+/// The same if two help: such a crew lost time in stages of 185,000 and of 300,000 moves, and saved a little in stages of a million.
 const FEWEST_MOVES_OF_TWO: u64 = 1_000_000;
 
 /// The smallest batch for which a crew pays: with a smaller one, handing over takes as much time as judging.
@@ -98,8 +98,7 @@ const LEAST_RANGE: u64 = 1000;
 /// Whether a crew judges this stage's moves ahead; else the owner judges each when its turn comes. A crew saves time if two or more workers
 /// get a processor of their own and few moves are accepted. The range shows the latter: it shrinks while fewer than 44 of 100 are. Only the
 /// standing, the design, the options and the machine decide, so a resumed run decides as the unbroken one on the same machine. The bounds
-/// were chosen by bench/stages.py (docs/PERFORMANCE.md). A gate that does something sees who judges; with such a gate a crew judges all
-/// moves.
+/// were measured on programs built with other bounds. A gate that does something sees who judges; with such a gate a crew judges all moves.
 pub(crate) fn is_judged_ahead(
     stage: &Stage,
     blocks: usize,

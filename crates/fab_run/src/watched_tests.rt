@@ -499,7 +499,7 @@ fn many_runs_end_with_short_stages_on_a_large_array(rt: HostRuntime) -> Result<(
     Ok(())
 }
 
-// The owner makes the first stage alone. Then a crew is founded for the frozen stage, and judges it whole or up to a stop.
+// The owner makes the first stage alone. Where three workers find a processor, a crew judges the frozen stage, whole or up to a stop.
 #[test]
 fn a_crew_judges_a_cold_stage_behind_a_long_one(rt: HostRuntime) -> Result<(), Fail> {
     let net = ring(rt.alloc(), 2_000)?;
@@ -512,7 +512,7 @@ fn a_crew_judges_a_cold_stage_behind_a_long_one(rt: HostRuntime) -> Result<(), F
             ..TWO_STAGES
         };
         let alone = run_narrow(&rt, &inputs, &options, (10_000, 2_000_000))?;
-        for workers in [2, 3] {
+        for workers in [3, 4] {
             let options = Options { workers, ..options };
             assert!(rt; run_narrow(&rt, &inputs, &options, (10_000, 2_000_000))? == alone);
         }

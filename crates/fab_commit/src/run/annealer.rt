@@ -373,10 +373,10 @@ impl<'a, W: Words + Drop, K: Keeping> Anneal<'a, W, K> {
 
 impl<'a, W: Words + Drop, K: Keeping> Anneal<'a, W, K> {
     /// Makes the next `count` moves of the running stage, of which some are left, and at least so many. The calling thread judges each when
-    /// its turn comes, on the live placement; no move is judged ahead. The moves are those of turns of the plan's batch, from 1 to 4,096 moves, of
-    /// which the last may be shorter. Each turn shows on the dial how far the run has come. The judgements ahead of these turns would have
-    /// been spoilt as often: where moves judged again are counted, `redone` grows by as many as they would have judged again, though
-    /// nothing is judged twice. The plan's workers are not asked. By contract the shower is one of the plan's dial.
+    /// its turn comes, on the live placement; no move is judged ahead. The moves are those of turns of the plan's batch, from 1 to 4,096
+    /// moves, of which the last may be shorter. Each turn shows on the dial how far the run has come. The judgements ahead of these turns
+    /// would have been spoilt as often: where moves judged again are counted, `redone` grows by as many as they would have judged again,
+    /// though nothing is judged twice. The plan's workers are not asked. By contract the shower is one of the plan's dial.
     ///
     /// The gate is called before and after the judgement of each move, and before its commit, all by the calling thread. So a gate that
     /// waits in one call for another waits for ever here. If the gate says that it does nothing, the words of some moves are asked for
