@@ -65,8 +65,10 @@ pub struct Shared<S: Follow<E, T>, E: Drop, T: Drop, J: Naming + Boarding + Orig
     claimed: PaddedAtomic,
     asleep: PaddedAtomic,
     owner_asleep: PaddedAtomic,
-    /// How many workers have begun, or are left out.
+    /// How many workers have begun or are left out, plus how many slept until then and are awake again.
     begun: PaddedAtomic,
+    /// How many workers fell asleep, or are about to, until all have begun.
+    slept: PaddedAtomic,
     stop: PaddedAtomic,
 }
 
@@ -259,24 +261,37 @@ impl<S: Follow<E, T>, E: Drop, T: Drop, J: Naming + Boarding + Origin<S>> Shared
         }
     }
 
-    /// Counts a worker that begins or is left out.
-    fn count_begun(&self) {
-        self.begun.add_one();
-        if self.begun.load() >= self.workers.len() as u64 {
+    /// Counts a worker that begins, is left out, or is awake again. Returns how many were counted before.
+    fn count_begun(&self) -> u64 {
+        let before = self.begun.word.fetch_add(1, Ordering::SeqCst);
+        if before.saturating_add(1) >= self.workers.len() as u64 {
             self.begun.word.wake_all();
         }
+        before
     }
 
-    /// Counts this worker, and sleeps until all have begun or are left out. Threads that are woken together get processors of their own; of
-    /// threads just started two often share one for some ten milliseconds.
-    fn begin_together<R: Wait>(&self, rt: &R) {
-        self.count_begun();
+    /// Sleeps until so many are counted.
+    fn sleep_until_begun<R: Wait>(&self, rt: &R, goal: u64) {
         for _ in rt.forever() {
             let begun = self.begun.load();
-            if begun >= self.workers.len() as u64 {
+            if begun >= goal {
                 return;
             }
             self.begun.word.park(rt, (begun % 4294967296) as u32);
+        }
+    }
+
+    /// Counts this worker, and sleeps until all have begun or are left out. The last one to begin sleeps until a sleeper is awake again.
+    /// A thread that is woken gets a processor of its own. A thread just started often shares one for some ten milliseconds, even that
+    /// of the owner.
+    fn begin_together<R: Wait>(&self, rt: &R) {
+        let all = self.workers.len() as u64;
+        if self.count_begun().saturating_add(1) < all {
+            self.slept.add_one();
+            self.sleep_until_begun(rt, all);
+            self.count_begun();
+        } else if self.slept.load() > 0 {
+            self.sleep_until_begun(rt, all.saturating_add(1));
         }
     }
 
@@ -555,6 +570,7 @@ pub(crate) fn new_shared<S: Follow<E, T>, E: Drop, T: Drop, J: Naming + Boarding
         asleep: PaddedAtomic::new(0),
         owner_asleep: PaddedAtomic::new(0),
         begun: PaddedAtomic::new(0),
+        slept: PaddedAtomic::new(0),
         stop: PaddedAtomic::new(0),
     })
 }
@@ -729,6 +745,7 @@ impl<S: Follow<E, T>, E: Drop, T: Drop, J: Naming + Boarding + Origin<S>> Shared
             asleep: _,
             owner_asleep: _,
             begun: _,
+            slept: _,
             stop: _,
         } = self;
         (crew_board, workers, room.into_inner())

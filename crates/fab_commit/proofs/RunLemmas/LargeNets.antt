@@ -1,15 +1,16 @@
 -- The nets with many terminals that are kept of a swap.
-use Rattle.std.proofs.Common.{◌≡◌, ℕ, ◌+◌, ◌<◌, ◌≤◌, true, false, List, [], ◌∷◌, ◌++◌, length, get_or, take, cond, Some, None, Option, refl, sym, ap, subst, ◌∙◌}
+use Rattle.std.proofs.Common.{◌≡◌, ℕ, zero, suc, ◌+◌, ◌<◌, ◌≤◌, Bool, true, false, List, [], ◌∷◌, ◌++◌, length, get_or, take, cond, Some, None, Option, refl, sym, ap, subst, ◌∙◌}
+use Rattle.std.specs.Prelude.{filter, map}
 use Rattle.std.proofs.lemmas.Bool.{false≢true}
-use Rattle.std.proofs.lemmas.List.{append-nil, append_assoc}
-use Rattle.std.proofs.lemmas.List.Elements.{filter_more}
+use Rattle.std.proofs.lemmas.List.{append-nil, append_assoc, length-map, take_more}
+use mathlib.Core.List.{map-append}
 use Rattle.fab_net.specs.declared.netlist_types.BlockId.{BlockId}
 use Rattle.fab_net.specs.declared.netlist_types.NetId.{NetId}
-use Rattle.fab_net.specs.Netlist.{Netlist}
+use Rattle.fab_net.specs.Netlist.{Netlist, nets_of}
 use Rattle.fab_site.specs.declared.placement_types.Swap.{Swap}
-use Rattle.fab_cost.specs.Runs.{is_large}
+use Rattle.fab_cost.specs.Runs.{AreLarge, is_large}
 use Rattle.fab_commit.specs.declared.run.kept_nets.LargeNets.{LargeNets}
-use Rattle.fab_commit.specs.Run.Foreseen.{AreAppended, AreKept, large_among, nets_on}
+use Rattle.fab_commit.specs.Run.Foreseen.{AreAppended, AreKept, large_among, nets_at, nets_on}
 
 -- if none are kept, nothing is said
 pub none_kept : (d : Netlist) (s : Swap) (n : LargeNets) → n.is_kept ≡ false → AreKept d s n
@@ -34,16 +35,42 @@ added_both a b c xs ys first then = record {
   nets = λ k. then.nets k ∙ ap (λ l. l ++ ys) (first.nets (then.were k)) ∙ append_assoc (take a.all a.nets) xs ys;
 }
 
--- one net more was looked at
-pub added_large : (d : Netlist) (a b c : LargeNets) (ns : List NetId) (i : ℕ) (z : NetId) → i < length ns → is_large d (get_or ns i z).0 ≡ true
-    → AreAppended a b (large_among d (take i ns)) → AreAppended b c (get_or ns i z ∷ []) → AreAppended a c (large_among d (take (i + 1) ns))
-added_large d a b c ns i z low many before now =
-    rw (filter_more (λ (n : NetId). is_large d n.0) ns i z low, many) (added_both a b c (large_among d (take i ns)) (get_or ns i z ∷ []) before now)
+-- the net at a place of a list
+abbrev net_at : List NetId → ℕ → NetId
+net_at ns i = get_or ns i (record { 0 = 0 })
 
-pub added_few : (d : Netlist) (a b : LargeNets) (ns : List NetId) (i : ℕ) (z : NetId) → i < length ns → is_large d (get_or ns i z).0 ≡ false
-    → AreAppended a b (large_among d (take i ns)) → AreAppended a b (large_among d (take (i + 1) ns))
-added_few d a b ns i z low few before =
-    rw (filter_more (λ (n : NetId). is_large d n.0) ns i z low, few) (rw (append-nil (large_among d (take i ns))) before)
+-- one net more was added
+pub added_at : (a b c : LargeNets) (ns : List NetId) (places : List ℕ) (i z : ℕ) → i < length places → AreAppended a b (nets_at ns (take i places)) → AreAppended b c (net_at ns (get_or places i z) ∷ []) → AreAppended a c (nets_at ns (take (i + 1) places))
+added_at a b c ns places i z low before now =
+    subst (AreAppended a c) (sym (ap (map (net_at ns)) (take_more places i z low) ∙ map-append (net_at ns) (take i places) (get_or places i z ∷ []))) (added_both a b c (nets_at ns (take i places)) (net_at ns (get_or places i z) ∷ []) before now)
+
+-- a net by its number
+abbrev net : ℕ → NetId
+net n = record { 0 = n }
+
+at_net : (ns : List ℕ) (i : ℕ) → get_or (map net ns) i (net 0) ≡ net (get_or ns i 0)
+at_net [] i = refl
+at_net (n ∷ ns) zero = refl
+at_net (n ∷ ns) (suc i) = at_net ns i
+
+at_nets : (ns is : List ℕ) → nets_at (map net ns) is ≡ map net (map (λ i. get_or ns i 0) is)
+at_nets ns [] = refl
+at_nets ns (i ∷ is) = λ j. at_net ns i j ∷ at_nets ns is j
+
+map_cond : (b : Bool) (n : ℕ) (ns : List ℕ) → map net (cond b (n ∷ ns) ns) ≡ cond b (net n ∷ map net ns) (map net ns)
+map_cond true n ns = refl
+map_cond false n ns = refl
+
+filter_net : (p : ℕ → Bool) (ns : List ℕ) → map net (filter p ns) ≡ filter (λ (n : NetId). p n.0) (map net ns)
+filter_net p [] = refl
+filter_net p (n ∷ ns) = map_cond (p n) n (filter p ns) ∙ ap (λ r. cond (p n) (net n ∷ r) r) (filter_net p ns)
+
+pub nets_long : (d : Netlist) (b : BlockId) → length (nets_on d (Some b)) ≡ length (nets_of d b.0)
+nets_long d b = length-map (nets_of d b.0) net
+
+-- the nets at the places of those with many terminals
+pub at_large : (d : Netlist) (b : BlockId) (places : List ℕ) → AreLarge d b.0 places → nets_at (nets_on d (Some b)) places ≡ large_among d (nets_on d (Some b))
+at_large d b places are = at_nets (nets_of d b.0) places ∙ ap (map net) are.nets ∙ filter_net (is_large d) (nets_of d b.0)
 
 -- the nets of both blocks, behind nothing
 pub kept_both : (d : Netlist) (s : Swap) (a b c : LargeNets) (o : BlockId) → a.all ≡ 0 → s.other ≡ Some o → AreAppended a b (large_among d (nets_on d (Some s.block))) → AreAppended b c (large_among d (nets_on d (Some o))) → AreKept d s c

@@ -37,6 +37,10 @@ nets_on d (Some b) = map (λ n. record { 0 = n }) (nets_of d b.0)
 abbrev pub large_among : Netlist → List NetId → List NetId
 large_among d ns = filter (λ n. is_large d n.0) ns
 
+-- those of some nets that stand at these places
+abbrev pub nets_at : List NetId → List ℕ → List NetId
+nets_at ns places = map (λ i. slice_index_or ns i (record { 0 = 0 })) places
+
 -- what is kept of a swap's nets with more than 16 terminals, if anything: first those of its block, then those of the block that it
 -- displaces, 5 at most
 pub record AreKept (d : Netlist) (s : Swap) (n : LargeNets) : Type 0 where

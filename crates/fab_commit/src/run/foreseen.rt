@@ -112,7 +112,7 @@ pub(crate) fn foresee<W: Words>(
                 delta,
                 words,
                 accepted: accepts(delta, view.t, words[3]),
-                nets: LargeNets::of(view.design, swap),
+                nets: LargeNets::of(view.design, view.cost, swap),
             }
         }
     }

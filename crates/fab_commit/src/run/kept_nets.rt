@@ -1,13 +1,12 @@
 //! The nets of a swap's two blocks that have many terminals, kept beside what is foreseen of a move, so that who looks at their stamps need
 //! not look into a large design.
 
-ghost use Rattle.std.specs.Prelude.{◌≡◌, ◌<◌, ◌≤◌, ◌∷◌, [], false, length, take, Some};
-ghost use Rattle.std.specs.List.{All};
+ghost use Rattle.std.specs.Prelude.{◌≡◌, ℕ, ◌<◌, ◌≤◌, ◌∷◌, [], false, length, slice_index, take, Some};
 ghost use Rattle.fab_net.specs.declared.netlist_types.BlockId.{BlockId as Block};
-ghost use Rattle.fab_net.specs.declared.netlist_types.NetId.{NetId as Net};
-ghost use Rattle.fab_commit.specs.Run.Foreseen.{AreAppended, AreKept, large_among};
+ghost use Rattle.fab_cost.specs.Swapping.{IsMadeFor};
+ghost use Rattle.fab_commit.specs.Run.Foreseen.{AreAppended, AreKept, large_among, nets_at, nets_on};
 
-use fab_cost::has_many_terminals;
+use fab_cost::EdgeBoxes;
 use fab_net::{BlockId, Design, NetId};
 use fab_site::Swap;
 
@@ -39,20 +38,20 @@ impl LargeNets {
 
     /// The nets of a swap, if there are at most 5.
     #[tactic(auto, using(crate::proofs::RunLemmas::LargeNets::kept_both, crate::proofs::RunLemmas::LargeNets::kept_own))]
-    pub(crate) fn of(design: &Design, swap: Swap) -> LargeNets
+    pub(crate) fn of(design: &Design, cost: &EdgeBoxes, swap: Swap) -> LargeNets
+        requires made { IsMadeFor cost.now design.now }
         requires block { swap.block.0 < length design.now.kinds }
         requires other { (b : Block) → swap.other ≡ Some b → b.0 < length design.now.kinds }
         ensures { AreKept design.now swap result }
     {
-        let _nets = design.nets();
         let mut kept = LargeNets {
             nets: [NetId(0); MOST],
             all: 0,
             is_kept: true,
         };
-        append(&mut kept, design, design.nets_of(swap.block));
+        append_large(&mut kept, design, cost, swap.block);
         if let Some(other) = swap.other {
-            append(&mut kept, design, design.nets_of(other));
+            append_large(&mut kept, design, cost, other);
         }
         kept
     }
@@ -81,16 +80,31 @@ fn push(kept: &mut LargeNets, net: NetId)
     }
 }
 
-/// Adds those of some nets that have many terminals.
-#[tactic(auto, using(crate::proofs::RunLemmas::LargeNets::added_large, crate::proofs::RunLemmas::LargeNets::added_few))]
-fn append(kept: &mut LargeNets, design: &Design, nets: &[NetId])
+/// Adds the nets of a block that have many terminals.
+#[inline(always)]
+fn append_large(kept: &mut LargeNets, design: &Design, cost: &EdgeBoxes, block: BlockId)
     requires few { kept.old.all ≤ 5 }
-    requires nets { All (λ (n : Net). n.0 < length design.now.terminals) nets.now }
-    ensures { AreAppended kept.old kept.new (large_among design.now nets.now) }
+    requires made { IsMadeFor cost.now design.now }
+    requires block { block.0 < length design.now.kinds }
+    ensures { AreAppended kept.old kept.new
+        (large_among design.now (nets_on design.now (Some block))) }
 {
-    for net in nets {
-        if has_many_terminals(design, *net) {
-            push(kept, *net);
-        }
+    append_at(
+        kept,
+        design.nets_of(block),
+        cost.large_places(design, block),
+    );
+}
+
+/// Adds those of some nets that stand at these places.
+#[inline(always)]
+fn append_at(kept: &mut LargeNets, nets: &[NetId], places: &[u32])
+    requires few { kept.old.all ≤ 5 }
+    requires within { (k : ℕ) → k < length places.now →
+        slice_index places.now k < length nets.now }
+    ensures { AreAppended kept.old kept.new (nets_at nets.now places.now) }
+{
+    for place in places {
+        push(kept, nets[*place as usize]);
     }
 }

@@ -4,7 +4,7 @@ use Rattle.fab_arch.specs.Grid.{kind_at}
 use Rattle.fab_net.specs.Netlist.{Netlist}
 use Rattle.fab_site.specs.declared.placement_types.Swap.{Swap}
 use Rattle.fab_cost.specs.Runs.{few_of}
-use Rattle.fab_cost.specs.Swapping.{change}
+use Rattle.fab_cost.specs.Swapping.{IsMadeFor, change}
 use Rattle.fab_cost.proofs.Few.{change_fits}
 use Rattle.fab_move.specs.Accept.{is_accepted}
 use Rattle.fab_move.specs.declared.proposals.Proposal.TheVariants.{Move}
@@ -37,6 +37,11 @@ returns-in-Void g c =
     let e = c.without_swap-in-Void.ensures in
     foreseen_none r (standing_of c.args.state.now) c.args.number c.propose-proposal.result c.args.words c.without_swap-in-Void.result
     (record { proposal = e.0; delta = e.2; words = e.3; accepted = e.4 }) is c.requires.words (ap swap_in c.in-Void.is)
+
+pub of-requires-clause-made : goal.of-requires-clause-made
+of-requires-clause-made g c =
+    let v = c.view_of-view.ensures in
+    subst (λ b. IsMadeFor b c.view_of-view.result.design.now) (sym v.cost) (subst (IsMadeFor c.args.state.now.cost) (sym v.design) c.requires.sound.cost.made)
 
 pub of-requires-clause-block : goal.of-requires-clause-block
 of-requires-clause-block g c =
