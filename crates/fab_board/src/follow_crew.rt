@@ -282,8 +282,7 @@ impl<S: Follow<E, T>, E: Drop, T: Drop, J: Naming + Boarding + Origin<S>> Shared
     }
 
     /// Counts this worker, and sleeps until all have begun or are left out. The last one to begin sleeps until a sleeper is awake again.
-    /// A thread that is woken gets a processor of its own. A thread just started often shares one for some ten milliseconds, even that
-    /// of the owner.
+    /// A thread just started may share a processor with another for some milliseconds. One that is woken mostly gets its own.
     fn begin_together<R: Wait>(&self, rt: &R) {
         let all = self.workers.len() as u64;
         if self.count_begun().saturating_add(1) < all {
