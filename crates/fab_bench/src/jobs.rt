@@ -2,7 +2,9 @@
 
 use crate::digest::{START, with_bytes, with_number, with_numbers};
 use fab_file::Labels;
-use fab_run::{Inputs, Moves, Options, Outcome, check_run, place_run};
+use fab_run::{
+    CountedOutcome, Inputs, Moves, Options, Outcome, check_run, place_run, place_run_counted,
+};
 use fab_sched::Cooling;
 use fab_text::Counted;
 use std::alloc::Global;
@@ -24,12 +26,13 @@ pub struct Pace {
     pub workers: u64,
 }
 
-/// What a run answered: its last cost in ten-thousandths, how many moves were accepted and judged again, and a digest of it all.
+/// What a run answered: its last cost in ten-thousandths, how many moves were accepted, and judged again if that was counted, and a digest
+/// of it all.
 #[derive(Clone, Copy)]
 pub struct Answer {
     pub cost: u64,
     pub accepted: u64,
-    pub again: u64,
+    pub again: Option<u64>,
     pub digest: u64,
 }
 
@@ -45,34 +48,45 @@ const LABELS: Labels<'static> = Labels {
     arch: b"bench.arch",
 };
 
+fn last_of(costs: &[u64]) -> u64 {
+    match costs.last() {
+        Some(cost) => *cost,
+        None => 0,
+    }
+}
+
 fn answer_of(outcome: &Outcome, report: &[u8], place: &[u8]) -> Answer {
     let digest = with_numbers(with_numbers(START, &outcome.accepted), &outcome.costs);
     let digest = with_number(digest, outcome.redone);
-    let cost = match outcome.costs.last() {
-        Some(cost) => *cost,
-        None => 0,
-    };
     Answer {
-        cost,
+        cost: last_of(&outcome.costs),
         accepted: outcome.accepted.len() as u64,
-        again: outcome.redone,
+        again: Some(outcome.redone),
         digest: with_bytes(with_bytes(digest, report), place),
     }
 }
 
-/// Places a circuit; `None` if the run is refused.
-pub fn placed<R: AllocGlobal + Threads + Wait + Sync>(
-    rt: &R,
-    circuit: &Circuit<'_>,
-    pace: &Pace,
-) -> Option<Run> {
-    let inputs = Inputs {
+fn counted_answer_of(outcome: &CountedOutcome, report: &[u8], place: &[u8]) -> Answer {
+    let digest = with_number(with_numbers(START, &outcome.costs), outcome.accepted);
+    Answer {
+        cost: last_of(&outcome.costs),
+        accepted: outcome.accepted,
+        again: None,
+        digest: with_bytes(with_bytes(digest, report), place),
+    }
+}
+
+fn inputs_of<'a>(circuit: &Circuit<'a>) -> Inputs<'a> {
+    Inputs {
         arch: circuit.arch,
         net: circuit.net,
         pads: None,
         labels: LABELS,
-    };
-    let options = Options {
+    }
+}
+
+fn options_of(pace: &Pace) -> Options {
+    Options {
         seed: pace.seed,
         size: None,
         init_t: 1_000_000,
@@ -82,7 +96,17 @@ pub fn placed<R: AllocGlobal + Threads + Wait + Sync>(
         batch: 64,
         workers: pace.workers,
         stop: None,
-    };
+    }
+}
+
+/// Places a circuit; `None` if the run is refused.
+pub fn placed<R: AllocGlobal + Threads + Wait + Sync>(
+    rt: &R,
+    circuit: &Circuit<'_>,
+    pace: &Pace,
+) -> Option<Run> {
+    let inputs = inputs_of(circuit);
+    let options = options_of(pace);
     let mut report = Counted::new(Vec::new(rt.alloc()));
     let mut place = Counted::new(Vec::new(rt.alloc()));
     let outcome = place_run(rt, &inputs, &options, &mut report, &mut place).ok()?;
@@ -90,6 +114,22 @@ pub fn placed<R: AllocGlobal + Threads + Wait + Sync>(
     let place = place.into_inner();
     let answer = answer_of(&outcome, &report, &place);
     Some(Run { answer, place })
+}
+
+/// Places a circuit by the call that the program makes, which counts accepted moves and no moves judged again; `None` if the run is refused.
+pub fn placed_as_program<R: AllocGlobal + Threads + Wait + Sync>(
+    rt: &R,
+    circuit: &Circuit<'_>,
+    pace: &Pace,
+) -> Option<Answer> {
+    let inputs = inputs_of(circuit);
+    let options = options_of(pace);
+    let mut report = Counted::new(Vec::new(rt.alloc()));
+    let mut place = Counted::new(Vec::new(rt.alloc()));
+    let outcome = place_run_counted(rt, &inputs, &options, &mut report, &mut place).ok()?;
+    let report = report.into_inner();
+    let place = place.into_inner();
+    Some(counted_answer_of(&outcome, &report, &place))
 }
 
 /// Checks a placement of a circuit, and returns its cost and a digest of the report; `None` if the check refuses it.

@@ -2,6 +2,7 @@
 //! answered, and no times. A job is given by words:
 //!
 //! - `place NAME SEED MOVES WORKERS` places the circuit in `NAME.arch` and `NAME.net`;
+//! - `program NAME SEED MOVES WORKERS` places it by the call that the program makes, which counts no moves judged again;
 //! - `grown LOGIC HUBS SEED MOVES WORKERS` places a circuit of so many logic blocks that is grown from the seed, in which one input of
 //!   `HUBS` hangs on one of a few nets;
 //! - `suite LOGIC SEED DESIGNS MOVES` places so many grown circuits in turn with few moves, and checks each placement.
@@ -15,7 +16,7 @@ mod draws;
 mod jobs;
 mod words;
 
-use jobs::{Answer, Circuit, Pace, checked, placed};
+use jobs::{Answer, Circuit, Pace, checked, placed, placed_as_program};
 use std::alloc::Global;
 use std::fs;
 use std::rt::{Env, Files};
@@ -25,16 +26,33 @@ use words::{Words, given};
 
 // The line that tells what a job answered.
 fn told(alloc: Global, answer: &Answer) -> anyhow::Result<String> {
-    Ok(format!(in alloc;
-        "cost {} accepted {} judged again {} digest {}\n",
-        answer.cost, answer.accepted, answer.again, answer.digest
-    )?)
+    let Answer {
+        cost,
+        accepted,
+        again,
+        digest,
+    } = *answer;
+    Ok(match again {
+        Some(again) => format!(in alloc;
+            "cost {cost} accepted {accepted} judged again {again} digest {digest}\n"
+        )?,
+        None => format!(in alloc; "cost {cost} accepted {accepted} digest {digest}\n")?,
+    })
 }
 
-// Places a circuit from two files.
+// The line of a job whose run may be refused.
+fn told_or_refused(alloc: Global, answer: &Option<Answer>) -> anyhow::Result<String> {
+    match answer {
+        Some(answer) => told(alloc, answer),
+        None => Ok(String::from_str(alloc, "refused\n")?),
+    }
+}
+
+// Places a circuit from two files, by the program's call or by the one that counts all.
 fn place<R: AllocGlobal + Files + Threads + Wait + Sync>(
     rt: &R,
     words: &Words,
+    as_program: bool,
 ) -> anyhow::Result<String> {
     let alloc = rt.alloc();
     let Some(name) = words.text(1) else {
@@ -51,10 +69,12 @@ fn place<R: AllocGlobal + Files + Threads + Wait + Sync>(
         moves: words.number(3),
         workers: words.number(4),
     };
-    match placed(rt, &circuit, &pace) {
-        Some(run) => told(alloc, &run.answer),
-        None => Ok(String::from_str(alloc, "refused\n")?),
-    }
+    let answer = if as_program {
+        placed_as_program(rt, &circuit, &pace)
+    } else {
+        placed(rt, &circuit, &pace).map(|run| run.answer)
+    };
+    told_or_refused(alloc, &answer)
 }
 
 // Places a circuit that is grown from the seed.
@@ -70,10 +90,8 @@ fn grown<R: AllocGlobal + Threads + Wait + Sync>(rt: &R, words: &Words) -> anyho
         moves: words.number(4),
         workers: words.number(5),
     };
-    match placed(rt, &circuit, &pace) {
-        Some(run) => told(alloc, &run.answer),
-        None => Ok(String::from_str(alloc, "refused\n")?),
-    }
+    let answer = placed(rt, &circuit, &pace).map(|run| run.answer);
+    told_or_refused(alloc, &answer)
 }
 
 // Places and checks several grown circuits.
@@ -110,10 +128,11 @@ fn suite<R: AllocGlobal + Threads + Wait + Sync>(rt: &R, words: &Words) -> anyho
 fn answer<R: AllocGlobal + Env + Files + Threads + Wait + Sync>(rt: &R) -> anyhow::Result<String> {
     let words = given(rt)?;
     match words.text(0) {
-        Some("place") => place(rt, &words),
+        Some("place") => place(rt, &words, false),
+        Some("program") => place(rt, &words, true),
         Some("grown") => grown(rt, &words),
         Some("suite") => suite(rt, &words),
-        _ => Ok(String::from_str(rt.alloc(), "the jobs are place, grown and suite\n")?),
+        _ => Ok(String::from_str(rt.alloc(), "the jobs are place, program, grown and suite\n")?),
     }
 }
 
