@@ -97,6 +97,11 @@ fault_of before l = line_fault (list_any is_io_rat before) (count_by is_pin befo
 abbrev pub text_fault : List TextLine → Option ArchFault
 text_fault ls = if not (list_any is_io_rat ls) then Some NoIoRat else if count_by is_pin ls == 0 then Some NoPins else None
 
+-- the same, by the pads at each position that the lines give, if they do, and by how many pins they declare
+abbrev pub end_fault : Option ℕ → ℕ → Option ArchFault
+end_fault None pins = Some NoIoRat
+end_fault (Some ratio) pins = if pins == 0 then Some NoPins else None
+
 -- the first fault of lines that follow others
 abbrev pub fault_after : List TextLine → List TextLine → Option ArchFault
 fault_after before ls = fault_behind fault_of text_fault before ls

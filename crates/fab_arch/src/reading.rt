@@ -1,12 +1,13 @@
 //! Reads an architecture text: its lines one by one, and what the lines read so far mean.
 
-ghost use Rattle.std.specs.Prelude.{◌≡◌, ℕ, ◌++◌, ◌<◌, ◌≤◌, ◌||◌, length, map, slice_get, IfOk, IfErr, OnOk, MatchResult, List, None, is_some};
+ghost use Rattle.std.specs.Prelude.{◌≡◌, ℕ, ◌++◌, ◌<◌, ◌≤◌, ◌||◌, length, map, slice_get, IfOk, IfErr, IfSome, OnOk, MatchResult, List, Some, None, is_some};
 ghost use Rattle.std.specs.Option.{option_map};
 ghost use Rattle.std.specs.List.{list_all};
 ghost use Rattle.std.specs.Str.{bytes_eq};
 ghost use Rattle.fab_text.specs.Lines.{TextLine, lines};
 ghost use Rattle.fab_text.specs.Shown.{shown};
-ghost use Rattle.fab_arch.specs.Arch.{is_word, is_io_rat, is_inpin, is_outpin, is_side, are_sides, number_of, without_global, pin_fault, err_of, ratio_of, line_fault, ratio_after, pins_in, FaultIs, IsArch, MeansOrFaults, first_fault};
+ghost use Rattle.fab_text.specs.FirstFault.{TookNoFault};
+ghost use Rattle.fab_arch.specs.Arch.{is_word, is_io_rat, is_inpin, is_outpin, is_side, are_sides, number_of, without_global, pin_fault, err_of, ratio_of, line_fault, fault_of, end_fault, ratio_after, pins_in, FaultIs, IsArch, MeansOrFaults, first_fault};
 ghost use Rattle.fab_arch.specs.declared.fault.ArchFault.TheVariants.{NoMemory};
 
 use crate::architecture::{Arch, PinKind};
@@ -181,6 +182,26 @@ impl Seen {
         }
         Ok(())
     }
+
+    /// The architecture that lawful lines have described. Needs no memory, so a text without a line that it needs always gives its fault.
+    fn finish(self) -> Result<Arch, ArchFault>
+        requires ratio { IfSome self.io_rat (λ r. (1 ≤ r) × (r ≤ 64)) }
+        requires few { length self.pins.items ≤ 1024 }
+        ensures io_rat { IfOk result (λ a. self.io_rat ≡ Some a.io_rat) }
+        ensures pins { IfOk result (λ a. a.pins.items ≡ self.pins.items) }
+        ensures clean { OnOk result (end_fault self.io_rat (length self.pins.items) ≡ None) }
+        ensures fault { IfErr result (λ e.
+            end_fault self.io_rat (length self.pins.items) ≡ Some e) }
+    {
+        let Seen { io_rat, pins } = self;
+        let Some(io_rat) = io_rat else {
+            return Err(ArchFault::NoIoRat);
+        };
+        if pins.is_empty() {
+            return Err(ArchFault::NoPins);
+        }
+        Ok(Arch { io_rat, pins })
+    }
 }
 
 /// Reads the architecture that a text means, or returns its first fault: that of the first faulty line, else that
@@ -194,14 +215,16 @@ pub fn read_arch(alloc: Global, bytes: &[u8]) -> Result<Arch, ArchFault>
     // An error is the first fault, or out of memory.
     ensures fault { IfErr result (λ e. FaultIs e (first_fault (lines bytes.now))) }
 {
-    read(alloc, bytes)
+    let mut left = Lines::new(alloc, bytes);
+    read(alloc, &mut left)
 }
 
-fn read(alloc: Global, bytes: &[u8]) -> Result<Arch, ArchFault>
-    ensures found { IfOk result (λ a. IsArch (lines bytes.now) a.io_rat a.pins.items) }
-    ensures fault { IfErr result (λ e. FaultIs e (first_fault (lines bytes.now))) }
+/// Reads the lines that are left. If memory runs out, no line that was taken has a fault.
+fn read(alloc: Global, left: &mut Lines) -> Result<Arch, ArchFault>
+    ensures found { IfOk result (λ a. IsArch left.old a.io_rat a.pins.items) }
+    ensures fault { IfErr result (λ e. FaultIs e (first_fault left.old)) }
+    ensures memory { IfErr result (λ e. e ≡ NoMemory → TookNoFault fault_of left.old left.new) }
 {
-    let mut left = Lines::new(alloc, bytes);
     let mut seen = Seen {
         io_rat: None,
         pins: Vec::new(alloc),
@@ -210,14 +233,7 @@ fn read(alloc: Global, bytes: &[u8]) -> Result<Arch, ArchFault>
         seen.check_line(&line)?;
         seen.add_line(&line)?;
     }
-    let Seen { io_rat, pins } = seen;
-    let Some(io_rat) = io_rat else {
-        return Err(ArchFault::NoIoRat);
-    };
-    if pins.is_empty() {
-        return Err(ArchFault::NoPins);
-    }
-    Ok(Arch { io_rat, pins })
+    seen.finish()
 }
 
 /// The law that the lines of a text either mean an architecture or have a first fault, and never both.

@@ -2,13 +2,16 @@
 
 ghost use Rattle.std.specs.Prelude.{◌≡◌, ℕ, ◌++◌, [], ◌≤◌, ◌<◌, ◌^◌, drop, length, map, slice_get, IfOk, IfErr, OnOk, OnErr, MatchResult, List, None, IsTrue, count_by};
 ghost use Rattle.std.specs.Option.{option_map};
+ghost use Rattle.std.specs.List.{AllByRecursion};
 ghost use Rattle.fab_arch.specs.declared.architecture.PinKind.{PinKind};
 ghost use Rattle.fab_text.specs.Lines.{TextLine, lines};
 ghost use Rattle.fab_text.specs.Shown.{shown};
+ghost use Rattle.fab_text.specs.FirstFault.{TookNoFault};
+ghost use Rattle.fab_text.specs.LineWords.{AreWords};
 ghost use Rattle.fab_net.specs.Netlist.{Netlist};
 ghost use Rattle.fab_net.specs.Names.{number_of};
 ghost use Rattle.fab_net.specs.Text.{head_word, head_of, is_driver, drives_at, entries, entries_in, pins_at, pin_count, name_at, net_names, IsNetlist};
-ghost use Rattle.fab_net.specs.Faults.{are_few, driver_fault, first_fault, MeansOrFaults, FaultIs};
+ghost use Rattle.fab_net.specs.Faults.{are_few, driver_fault, fault_of, first_fault, MeansOrFaults, FaultIs};
 ghost use Rattle.fab_net.specs.Said.{last_kind, kind_or_pad, pins_more, opens_fault, pins_fault, said_fault, end_fault, err_of, said, netlist_said, opened, with_pins, with_globals, after, IsReady};
 ghost use Rattle.fab_net.specs.declared.fault.NetFault.TheVariants.{NoMemory};
 
@@ -354,6 +357,7 @@ impl<'a> Seen<'a> {
     fn check_end(&self, alloc: Global) -> Result<(), NetFault>
         ensures ok { OnOk result (end_fault self.now ≡ None) }
         ensures fault { IfErr result (λ e. FaultIs e (end_fault self.now)) }
+        ensures memory { IfErr result (λ e. e ≡ NoMemory → self.now.awaiting ≡ None) }
     {
         if let Some(span) = self.awaiting {
             return Err(NetFault::MissingPinlist(span));
@@ -388,23 +392,25 @@ impl<'a> Seen<'a> {
         ensures sound { OnOk result (end_fault self.entry ≡ None) }
         ensures found { IfOk result (λ d. d ≡ netlist_said self.entry) }
         ensures fault { IfErr result (λ e. FaultIs e (end_fault self.entry)) }
+        ensures memory { IfErr result (λ e. e ≡ NoMemory → self.entry.awaiting ≡ None) }
     {
         self.check_end(alloc)?;
         Ok(self.design(alloc)?)
     }
 }
 
-/// What all lines of a text say, if none has a fault.
-fn read<'a>(alloc: Global, bytes: &'a [u8], arch: &Arch) -> Result<Seen<'a>, NetFault>
-    ensures said { IfOk result (λ r. r ≡ said arch.now.pins.items (lines bytes.now)) }
+/// What the lines that are left say, if none has a fault. If memory runs out, no line that was taken has a fault.
+fn read<'a>(alloc: Global, left: &mut Lines<'a>, arch: &Arch) -> Result<Seen<'a>, NetFault>
+    requires words { AllByRecursion (λ l. AreWords l.words) left.old }
+    ensures said { IfOk result (λ r. r ≡ said arch.now.pins.items left.old) }
     ensures ready { IfOk result (λ r. IsReady r) }
     ensures clean { OnOk result
-        (first_fault arch.now.pins.items (lines bytes.now) ≡
-        end_fault (said arch.now.pins.items (lines bytes.now))) }
-    ensures fault { IfErr result (λ e.
-        FaultIs e (first_fault arch.now.pins.items (lines bytes.now))) }
+        (first_fault arch.now.pins.items left.old ≡
+        end_fault (said arch.now.pins.items left.old)) }
+    ensures fault { IfErr result (λ e. FaultIs e (first_fault arch.now.pins.items left.old)) }
+    ensures memory { IfErr result (λ e.
+        e ≡ NoMemory → TookNoFault (fault_of arch.now.pins.items) left.old left.new) }
 {
-    let mut left = Lines::new(alloc, bytes);
     let mut seen = Seen {
         kinds: Vec::new(alloc),
         names: BlockNames::new(alloc),
@@ -433,7 +439,8 @@ pub fn read_net(alloc: Global, bytes: &[u8], arch: &Arch) -> Result<Design, NetF
     ensures fault { IfErr result (λ e.
         FaultIs e (first_fault arch.now.pins.items (lines bytes.now))) }
 {
-    let seen = read(alloc, bytes, arch)?;
+    let mut left = Lines::new(alloc, bytes);
+    let seen = read(alloc, &mut left, arch)?;
     seen.finish(alloc)
 }
 

@@ -1,6 +1,7 @@
 pub mod Checking
 pub mod Readers
 pub mod Pieces
+pub mod Room
 pub mod Telling
 pub mod Turning
 pub mod GoingOn

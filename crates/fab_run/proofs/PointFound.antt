@@ -28,7 +28,8 @@ use Rattle.fab_run.specs.PointFields.{is_fixed_line}
 use Rattle.fab_run.specs.PointMeaning.{MayBeFixed, NamesFixed, SaysFields, SaysFixed, SaysHeat, SaysPlaces, StandsForPoint}
 use Rattle.fab_run.specs.PointFaults.{fixed_fault, name_fault, seat_fault}
 use Rattle.fab_run.specs.PointReading.{EndRead, HeadRead, HeatRead, NamesRead, SeatsRead, StageRead}
-use Rattle.fab_run.proofs.PointParts.{end_by, or_none, unless_none}
+use Rattle.fab_text.proofs.Taken.{none_of_both}
+use Rattle.fab_run.proofs.PointParts.{end_by, unless_none}
 use Rattle.fab_run.proofs.PointWhole.{HasHead}
 
 -- lines without a fault are as many as are due
@@ -38,7 +39,7 @@ many_there of_line many before [] none =
     let nil : before ++ [] ≡ before = append-nil before in
     ap length nil ∙ eqb-true (length before) many (unless_none (eqb (length before) many) (BadField 0) none)
 many_there of_line many before (l ∷ ls) none =
-    let parts = or_none (of_line before l) (fault_behind of_line (end_by many) (before ++ l ∷ []) ls) none in
+    let parts = none_of_both (of_line before l) (fault_behind of_line (end_by many) (before ++ l ∷ []) ls) none in
     ap length (sym (append_assoc before (l ∷ []) ls)) ∙ many_there of_line many (before ++ l ∷ []) ls parts.1
 
 -- names of fixed blocks without a fault
@@ -77,7 +78,7 @@ pub record AreNames (v : Version) (d : Netlist) (ls : List TextLine) : Type 0 wh
 pub names_meant : (v : Version) (d : Netlist) (many : ℕ) (before ls : List TextLine) → AreNames v d before → fault_behind (fixed_fault v d) (end_by many) before ls ≡ None → AreNames v d (before ++ ls)
 names_meant v d many before [] r none = let nil : before ++ [] ≡ before = append-nil before in subst (AreNames v d) (sym nil) r
 names_meant v d many before (l ∷ ls) r none =
-    let parts = or_none (fixed_fault v d before l) (fault_behind (fixed_fault v d) (end_by many) (before ++ l ∷ []) ls) none in
+    let parts = none_of_both (fixed_fault v d before l) (fault_behind (fixed_fault v d) (end_by many) (before ++ l ∷ []) ls) none in
     let k = clear_name v d (is_repeated d before) l.number (is_fixed_line l) (block_in d l) (none_of _ parts.0) in
     let one : NamesFixed v d l = record { block = k.block; form = k.form_is; named = k.named; may = k.may } in
     let next : AreNames v d (before ++ l ∷ []) = record {

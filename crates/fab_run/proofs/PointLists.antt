@@ -9,16 +9,17 @@ use Rattle.std.proofs.lemmas.List.{length-set, length-replicate}
 use Rattle.fab_text.specs.Lines.{TextLine}
 use Rattle.fab_text.specs.FirstFault.{or_else, unless, fault_of_all}
 use Rattle.fab_arch.specs.declared.array.Site.{Site}
-use Rattle.fab_arch.specs.Grid.{GridShape}
+use Rattle.fab_arch.specs.declared.array.SiteKind.{SiteKind}
+use Rattle.fab_arch.specs.Grid.{GridShape, kind_at}
 use Rattle.fab_net.specs.Netlist.{Netlist, IsLawful, is_logic_at}
-use Rattle.fab_site.specs.Draft.{is_missing}
-use Rattle.fab_site.specs.Placement.{PlacementOf}
+use Rattle.fab_site.specs.Draft.{holder_of, is_missing}
+use Rattle.fab_site.specs.Placement.{PlacementOf, kind_wanted}
 use Rattle.fab_file.specs.declared.fault.PlaceFault.{PlaceFault}
 use Rattle.fab_file.specs.declared.fault.PlaceFault.TheVariants.{NotAPad, Repeated}
 use Rattle.fab_file.specs.declared.fault.PlaceFault.TheVariants as fault
-use Rattle.fab_file.specs.Place.{block_in, names_block, Places}
-use Rattle.fab_file.specs.PlaceFaults.{is_block, is_repeated, missing_fault}
-use Rattle.fab_file.specs.Taken.{LinesOf, end_fault, has_site, no_lines, take_fault, with_line}
+use Rattle.fab_file.specs.Place.{block_in, names_block, Places, site_in}
+use Rattle.fab_file.specs.PlaceFaults.{is_block, is_repeated, kind_fault, missing_fault, same_kind}
+use Rattle.fab_file.specs.Taken.{LinesOf, end_fault, has_site, no_lines, take_fault, take_fault_by, with_line}
 use Rattle.fab_net.proofs.Pushing.{any_push}
 use Rattle.fab_file.proofs.Seats.{IsSeated, Seats, all_kept, no_seats, not_there, on, same_fault, takable, named_below}
 use Rattle.fab_file.proofs.Underway.{with_line_is}
@@ -95,7 +96,7 @@ fault_by v d p q n true None h = refl
 fault_by One d p q n true (Some b) h = ap (λ r. or_else (unless (not r) (Repeated n)) (unless (not (is_logic_at d b)) (NotAPad n))) (h b)
 fault_by Two d p q n true (Some b) h = ap (λ r. unless (not r) (Repeated n)) (h b)
 
-abbrev marked : List Bool → ℕ → Bool
+abbrev pub marked : List Bool → ℕ → Bool
 marked named b = get_or named b false
 
 pub fixed_fault_by : (v : Version) (d : Netlist) (before : List TextLine) (l : TextLine) (named : List Bool) → ((b : ℕ) → get_or named b false ≡ is_repeated d before b)
@@ -177,6 +178,60 @@ pub seating_fails : (d : Netlist) (g : GridShape) (all : List TextLine) (l : Tex
 seating_fails d g all l left p i e r h =
     let here : take_fault (record { netlist = d; grid = g; sites = r.sites }) l ≡ Some e = ap (λ x. take_fault x l) (sym r.is) ∙ h in
     ap (option_map (λ (e : PlaceFault). Block e)) (sym (same_fault d g r.before r.sites l r.seats) ∙ here)
+
+-- a possible fault of a line is not a lack of memory
+abbrev IsOfText : Option PlaceFault → Type 0
+IsOfText (Some fault.NoMemory) = ⊥
+IsOfText f = Unit {0}
+
+of_text_or : (f g : Option PlaceFault) → IsOfText f → IsOfText g → IsOfText (or_else f g)
+of_text_or None g h k = k
+of_text_or (Some e) g h k = h
+
+of_text_unless : (passed : Bool) (e : PlaceFault) → IsOfText (Some e) → IsOfText (unless passed e)
+of_text_unless true e h = tt
+of_text_unless false e h = h
+
+name_of_text : (v : Version) (d : Netlist) (is_fixed : ℕ → Bool) (n : ℕ) (form : Bool) (named : Option ℕ) → IsOfText (name_fault v d is_fixed n form named)
+name_of_text v d p n false named = tt
+name_of_text v d p n true None = tt
+name_of_text One d p n true (Some b) = of_text_or (unless (not (p b)) (Repeated n)) (unless (not (is_logic_at d b)) (NotAPad n)) (of_text_unless (not (p b)) (Repeated n) tt) (of_text_unless (not (is_logic_at d b)) (NotAPad n) tt)
+name_of_text Two d p n true (Some b) = of_text_unless (not (p b)) (Repeated n) tt
+
+kind_of_text : (d : Netlist) (n block : ℕ) (kind : Option SiteKind) → IsOfText (kind_fault d n block kind)
+kind_of_text d n block None = tt
+kind_of_text d n block (Some kind) = of_text_unless (same_kind kind (kind_wanted d block)) (fault.WrongKind n) tt
+
+seat_of_text : (p : LinesOf) (n : ℕ) (site : Option Site) (named : Option ℕ) → IsOfText (take_fault_by p n site named)
+seat_of_text p n None named = tt
+seat_of_text p n (Some site) None = tt
+seat_of_text p n (Some site) (Some b) =
+    of_text_or (unless (not (has_site p.sites b)) (Repeated n)) (or_else (kind_fault p.netlist n b (kind_at p.grid site)) (unless (not (is_some (holder_of p.sites site))) (fault.Taken n)))
+    (of_text_unless (not (has_site p.sites b)) (Repeated n) tt)
+    (of_text_or (kind_fault p.netlist n b (kind_at p.grid site)) (unless (not (is_some (holder_of p.sites site))) (fault.Taken n)) (kind_of_text p.netlist n b (kind_at p.grid site)) (of_text_unless (not (is_some (holder_of p.sites site))) (fault.Taken n) tt))
+
+told_apart : (e : PlaceFault) → IsOfText (Some e) → of_line_fault e ≡ point_fault.NoMemory → ⊥
+told_apart fault.NoMemory h k = h
+told_apart fault.BadHeader h k = cc
+told_apart fault.WrongSize h k = cc
+told_apart (fault.UnknownBlock n) h k = cc
+told_apart (fault.Repeated n) h k = cc
+told_apart (fault.NoSuchSite n) h k = cc
+told_apart (fault.WrongKind n) h k = cc
+told_apart (fault.Taken n) h k = cc
+told_apart (fault.Missing n) h k = cc
+told_apart (fault.NotAPad n) h k = cc
+told_apart (fault.BadLine n) h k = cc
+told_apart fault.BadLabel h k = cc
+told_apart fault.Write h k = cc
+
+-- the fault of the name of a fixed block is told as no lack of memory
+pub name_never_memory : (v : Version) (d : Netlist) (p : ℕ → Bool) (n : ℕ) (form : Bool) (named : Option ℕ) (e : PlaceFault) → name_fault v d p n form named ≡ Some e → of_line_fault e ≡ point_fault.NoMemory → ⊥
+name_never_memory v d p n form named e h = told_apart e (subst IsOfText h (name_of_text v d p n form named))
+
+-- nor is the fault of a block's place
+pub seat_never_memory : (p : LinesOf) (l : TextLine) (e : PlaceFault) → take_fault p l ≡ Some e → of_line_fault e ≡ point_fault.NoMemory → ⊥
+seat_never_memory p l e h = told_apart e (subst IsOfText h (seat_of_text p l.number (site_in l) (block_in p.netlist l)))
 
 -- where as many have a site as there are, each has one
 at_most_all : (os : List (Option Site)) → placed_in os ≤ length os

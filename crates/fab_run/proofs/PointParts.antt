@@ -3,7 +3,8 @@ use Rattle.std.proofs.Common.{◌≡◌, ℕ, ◌+◌, ◌-◌, ◌<◌, Bool, t
 use Rattle.std.proofs.lemmas.Bool.{cases_Bool, eqb-true, eq-eqb}
 use Rattle.std.proofs.lemmas.List.{append_assoc, length-append}
 use Rattle.fab_text.specs.Lines.{TextLine}
-use Rattle.fab_text.specs.FirstFault.{or_else, unless, fault_behind, fault_of_all}
+use Rattle.fab_text.specs.FirstFault.{or_else, unless, fault_behind, fault_of_all, no_text_fault, TookNoFault}
+use Rattle.fab_text.proofs.Taken.{none_of_both, one_more}
 use Rattle.fab_run.specs.declared.point_fault.PointFault.{PointFault}
 use Rattle.fab_run.specs.declared.point_fault.PointFault.TheVariants.{BadField}
 
@@ -16,11 +17,12 @@ pub record Taking (of_line : List TextLine → TextLine → Option PointFault) (
   pub text : all ≡ before ++ left
   pub long : length before ≡ i
   pub clean : fault_of_all of_line (end_by many) (take many all) ≡ fault_behind of_line (end_by many) before (take (many - i) left)
+  pub faultless : fault_of_all of_line no_text_fault before ≡ None
 
 pub taking_none : (of_line : List TextLine → TextLine → Option PointFault) (many : ℕ) (all : List TextLine) → Taking of_line many all [] all 0
 taking_none of_line many all =
     let same : many - 0 ≡ many = omega arith in
-    record { text = refl; long = refl; clean = ap (λ n. fault_behind of_line (end_by many) [] (take n all)) (sym same) }
+    record { text = refl; long = refl; clean = ap (λ n. fault_behind of_line (end_by many) [] (take n all)) (sym same); faultless = refl }
 
 take_next : (many i : ℕ) (l : TextLine) (left : List TextLine) → i < many → take (many - i) (l ∷ left) ≡ l ∷ take (many - (i + 1)) left
 take_next many i l left lt =
@@ -35,7 +37,15 @@ taking_one of_line many all before l left i t lt none =
       long = omega (arith, length-append before (l ∷ []), t.long);
       clean = t.clean ∙ ap (fault_behind of_line (end_by many) before) (take_next many i l left lt)
           ∙ ap (λ f. or_else f (fault_behind of_line (end_by many) (before ++ l ∷ []) (take (many - (i + 1)) left))) none;
+      faultless = one_more of_line before l t.faultless none;
     }
+
+-- the lines that were taken have no fault
+pub took : (of_line : List TextLine → TextLine → Option PointFault) (many : ℕ) (all before left : List TextLine) (i : ℕ) → Taking of_line many all before left i → TookNoFault of_line all left
+took of_line many all before left i t = (before, sym t.text, t.faultless)
+
+pub took_none : (of_line : List TextLine → TextLine → Option PointFault) (all : List TextLine) → TookNoFault of_line all all
+took_none of_line all = ([], refl, refl)
 
 -- a line with a fault
 pub taking_fails : (of_line : List TextLine → TextLine → Option PointFault) (many : ℕ) (all before : List TextLine) (l : TextLine) (left : List TextLine) (i : ℕ) (e : PointFault) → Taking of_line many all before (l ∷ left) i → i < many → of_line before l ≡ Some e → fault_of_all of_line (end_by many) (take many all) ≡ Some e
@@ -87,10 +97,6 @@ taking_all of_line many all before left t =
     }
 
 -- lines without a fault are as many as are due, and each has no fault after those before it
-
-pub or_none : {E : Type 0} (a b : Option E) → or_else a b ≡ None → (a ≡ None) × (b ≡ None)
-or_none None b h = (refl, h)
-or_none (Some e) b h = absurd (let k : Some e ≡ None = h in cc)
 
 pub unless_none : {E : Type 0} (b : Bool) (e : E) → unless b e ≡ None → b ≡ true
 unless_none true e h = refl

@@ -50,6 +50,11 @@ pub record IsPointAt (r : Run) (x : Standing) (q : Point) : Type 0 where
   pub fixed : (b : ℕ) → fixed_at q.fixed b ≡ fixed_at r.problem.fixed b
   pub lawful : IsPoint r.problem.design r.problem.grid q
 
+-- a point of a run with the annealer's design, array and fixed blocks, if there is one: its memory can take each point of this run
+abbrev pub IsRoomFor : {W : Type 0} → AnnealOf W → Option Point → Type 0
+IsRoomFor a None = Unit {0}
+IsRoomFor a (Some q) = IsPoint a.design a.grid q × ((b : ℕ) → fixed_at q.fixed b ≡ fixed_at a.fixed b)
+
 -- how a piece that ends at a standing ends: finished if no move is left, else with the point there
 abbrev pub EndsAs : Run → Standing → Ending → Type 0
 EndsAs r x Finished = x.heat ≡ None

@@ -1,13 +1,13 @@
 //! A piece of a run: from an annealer's standing to its stop or to the last move, and what the report tells of it.
 
-ghost use Rattle.std.specs.Prelude.{◌≡◌, ◌≢◌, ◌≤◌, ◌⊎◌, true, [], ◌∷◌, OnOk, OnErr, IfOk, IfErr};
+ghost use Rattle.std.specs.Prelude.{◌≡◌, ◌≢◌, ◌≤◌, ◌⊎◌, true, [], ◌∷◌, None, OnOk, OnErr, IfOk, IfErr};
 ghost use Rattle.std.specs.Io.KnownBytes.{Appends};
 ghost use Rattle.fab_site.specs.Placement.{IsLegal};
 ghost use Rattle.fab_sched.specs.Annealing.{IsLawful};
 ghost use Rattle.fab_move.specs.Stream.{stream_moves};
 ghost use Rattle.fab_commit.specs.Run.Commits.{run_of};
 ghost use Rattle.fab_run.specs.Piece.{end_line};
-ghost use Rattle.fab_run.specs.Ends.{AreRedone, EndsAs, IsBegun, IsReportCutOf, IsReportOf, IsToldPiece, piece_of};
+ghost use Rattle.fab_run.specs.Ends.{AreRedone, EndsAs, IsBegun, IsReportCutOf, IsReportOf, IsRoomFor, IsToldPiece, piece_of};
 ghost use Rattle.fab_run.specs.Counted.{Answers, TellsMoves};
 ghost use Rattle.fab_run.specs.Setting.{texts_of};
 ghost use Rattle.fab_run.specs.Placed.{IsDeviceFault, IsMade, IsPlaceFault, IsPlaceOut, IsReportFault, IsTextCut, IsUnreadyFor};
@@ -24,7 +24,7 @@ use crate::run_answer::{Ended, ended_by};
 use crate::stages::{Environment, Pace, anneal_all};
 use fab_arch::Grid;
 use fab_board::Gate;
-use fab_commit::{Anneal, Keeping};
+use fab_commit::{Anneal, Keeping, Point};
 use fab_dial::{Dial, Reading, Shower};
 use fab_file::{PlaceFault, write_place};
 use fab_move::StreamWords;
@@ -62,14 +62,35 @@ pub(crate) fn unwatched<R: Wait>(rt: &R, alloc: Global) -> Result<(Dial, Shower)
     Ok((dial, shower))
 }
 
-/// How the piece of an annealer ended.
-fn ending_of<K: Keeping>(anneal: &Anneal<'_, StreamWords, K>) -> Result<Ending, AllocError>
-    ensures { IfOk result (EndsAs (run_of stream_moves anneal.now) anneal.now.standing) }
+/// The memory of the point at which a piece with a stop may end, before its first move: then no want of memory after the last move can
+/// lose the piece. `None` for a piece that has no stop, or no move.
+fn room_for<K: Keeping>(
+    anneal: &Anneal<'_, StreamWords, K>,
+    stop: Option<u64>,
+) -> Result<Option<Point>, AllocError>
+    ensures room { IfOk result (λ room. IsRoomFor anneal.now room) }
+    ensures none { IfOk result (λ room.
+        room ≡ None → (stop ≡ None) ⊎ (anneal.now.standing.heat ≡ None)) }
 {
-    Ok(match anneal.point()? {
+    match stop {
+        None => Ok(None),
+        Some(_) => anneal.point(),
+    }
+}
+
+/// How the piece of an annealer ended. Its point takes the memory of `room`.
+fn ending_of<K: Keeping>(anneal: &Anneal<'_, StreamWords, K>, room: Option<Point>) -> Ending
+    requires room { IsRoomFor anneal.now room }
+    requires none { room ≡ None → anneal.now.standing.heat ≡ None }
+    ensures { EndsAs (run_of stream_moves anneal.now) anneal.now.standing result }
+{
+    let Some(room) = room else {
+        return Ending::Finished;
+    };
+    match anneal.point_in(room) {
         None => Ending::Finished,
         Some(point) => Ending::Stopped(point),
-    })
+    }
 }
 
 /// Writes what the report shows before the first move, and asks the writer of the place text whether it is ready. Returns the
@@ -132,13 +153,16 @@ fn write_final_line<K: Keeping, W: Sink>(
     Ok(())
 }
 
-/// Writes the last line of a report, if no move is left. Returns the answer of the run. What it asks memory for, it asks for before.
+/// Writes the last line of a report, if no move is left. Returns the answer of the run. Only the text of that line needs memory.
 fn finish_report<K: Keeping, W: Sink>(
     alloc: Global,
     anneal: Anneal<'_, StreamWords, K>,
+    room: Option<Point>,
     costs: Vec<u64>,
     report: &mut W,
 ) -> Result<Ended, RunFault>
+    requires room { IsRoomFor anneal room }
+    requires none { room ≡ None → anneal.standing.heat ≡ None }
     ensures ending { IfOk result (λ out.
         EndsAs (run_of stream_moves anneal.entry) anneal.entry.standing out.ending) }
     ensures array { IfOk result (λ out. out.placement.grid ≡ anneal.entry.grid) }
@@ -161,7 +185,7 @@ fn finish_report<K: Keeping, W: Sink>(
     ensures sound { OnOk result (W.failed report.new ≡ W.failed report.old) }
     ensures fault { IfErr result (IsReportFault (W.failed report.old) (W.failed report.new)) }
 {
-    let ending = ending_of(&anneal)?;
+    let ending = ending_of(&anneal, room);
     write_final_line(alloc, &anneal, report)?;
     Ok(ended_by(anneal, ending, costs))
 }
@@ -217,9 +241,10 @@ fn anneal_reported<K: Keeping, G: Gate, W: Sink, P: Sink, R: AllocGlobal + Threa
 {
     let alloc = environment.rt.alloc();
     let pace = piece.pace;
+    let room = room_for(&anneal, pace.stop)?;
     let mut costs = write_head(alloc, anneal.cost(), &piece.head, report, place)?;
     anneal_all(environment, &mut anneal, &pace, shower, report, &mut costs)?;
-    finish_report(alloc, anneal, costs, report)
+    finish_report(alloc, anneal, room, costs, report)
 }
 
 /// Writes the place text of a run that is finished.

@@ -3,6 +3,7 @@
 ghost use Rattle.std.specs.Prelude.{◌≡◌, ◌≢◌, ◌⊎◌, ℕ, ◌*◌, ◌+◌, ◌<◌, ◌≤◌, ◌^◌, [], ◌∷◌, List, Some, None, IfOk, IfErr, OnOk, IfSome, IfNone, IsTrue, ◌↔◌, MatchResult, codes, length, max, slice_index_or, true, false, if◌then◌else◌, option_map};
 ghost use Rattle.fab_text.specs.Shown.{shown};
 ghost use Rattle.fab_text.specs.Lines.{TextLine, lines};
+ghost use Rattle.fab_text.specs.FirstFault.{TookNoFault};
 ghost use Rattle.fab_arch.specs.Grid.{GridShape};
 ghost use Rattle.fab_net.specs.Netlist.{IsLawful as IsLawfulDesign, Netlist};
 ghost use Rattle.fab_site.specs.Placement.{fixed_at, site_of};
@@ -371,7 +372,8 @@ fn named_block(
     Ok(block)
 }
 
-/// Takes the names of `count` fixed blocks. Returns, for each block, whether it is fixed.
+/// Takes the names of `count` fixed blocks. Returns, for each block, whether it is fixed. If memory runs out, no line that was taken has a
+/// fault.
 fn take_names(
     alloc: Global,
     left: &mut Lines,
@@ -383,6 +385,8 @@ fn take_names(
         AreNamed version design.now count left.old named.items left.new) }
     ensures fault { IfErr result (λ e.
         (e ≡ NoMemory) ⊎ ListFault e (fixed_fault version design.now) count (λ ls. ⊥) left.old) }
+    ensures memory { IfErr result (λ e.
+        e ≡ NoMemory → TookNoFault (fixed_fault version design.now) left.old left.new) }
 {
     let mut named = vec![in alloc; false; design.blocks()]?;
     'names: for _ in 0..count {
@@ -424,7 +428,7 @@ fn read_names(
     take_names(alloc, left, version, design, count)
 }
 
-/// Takes the sites of all blocks, one line for each.
+/// Takes the sites of all blocks, one line for each. If memory runs out, no line that was taken has a fault.
 fn take_sites(
     alloc: Global,
     left: &mut Lines,
@@ -435,6 +439,8 @@ fn take_sites(
     ensures fault { IfErr result (λ e.
         (e ≡ NoMemory) ⊎
         ListFault e (seat_fault design.now grid.now) (length design.now.kinds) (λ ls. ⊥) left.old) }
+    ensures memory { IfErr result (λ e.
+        e ≡ NoMemory → TookNoFault (seat_fault design.now grid.now) left.old left.new) }
 {
     let mut placed = PlaceLines::new(alloc, design, grid)?;
     'places: for _ in 0..design.blocks() {

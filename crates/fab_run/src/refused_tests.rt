@@ -153,6 +153,28 @@ fn growths_of_a_run_that_stops(rt: HostRuntime) -> Result<(), Fail> {
     assert_placed(&rt, &INPUTS, &options, wanted)
 }
 
+// Nothing is asked for after the last line of a run that stops: the memory of its point is there before the first move.
+#[test]
+fn growths_of_a_run_that_stops_after_a_stage(rt: HostRuntime) -> Result<(), Fail> {
+    let options = Options {
+        workers: 1,
+        stop: Some(3),
+        ..OPTIONS
+    };
+    let wanted = Wanted {
+        report: &REPORT[..STAGE_0_ENDS],
+        place: b"",
+        accepted: &[],
+    };
+    let ran = placed(&rt, &INPUTS, &options)?;
+    if !is_made(&rt, &ran, wanted) {
+        assert!(rt; ran.report.len() < wanted.report.len());
+        assert!(rt; is_made(&rt, &placed(&rt, &INPUTS, &options)?, wanted));
+    }
+    tell_refusal_to_come(&rt);
+    Ok(())
+}
+
 const SEVEN_PLACE: &[u8] = b"Netlist file: s.net   Architecture file: s.arch
 Array size: 3 x 2 logic blocks
 

@@ -155,6 +155,16 @@ impl Placement {
             holders: self.holders.clone()?,
         })
     }
+
+    /// Becomes a copy of another placement of as many blocks on the same array. Needs no memory.
+    pub fn copy_from(&mut self, other: &Placement)
+        requires array { self.old.grid ≡ other.now.grid }
+        requires blocks { length self.old.sites ≡ length other.now.sites }
+        ensures { self.new ≡ other.now }
+    {
+        self.sites.copy_from_slice(&other.sites);
+        self.holders.copy_from_slice(&other.holders);
+    }
 }
 
 /// The table of the block on each site.

@@ -20,6 +20,15 @@ fault_behind of_line of_text before (l ∷ ls) = or_else (of_line before l) (fau
 abbrev pub fault_of_all : {L E : Type 0} → (List L → L → Option E) → (List L → Option E) → List L → Option E
 fault_of_all of_line of_text ls = fault_behind of_line of_text [] ls
 
+-- no fault of a whole text
+abbrev pub no_text_fault : {L E : Type 0} → List L → Option E
+no_text_fault ls = None
+
+-- the lines that were taken from the front of `all`, so that `left` are left, have no fault. A reader of which this holds where memory runs
+-- out has not hidden a fault that it found
+abbrev pub TookNoFault : {L E : Type 0} → (List L → L → Option E) → List L → List L → Type 0
+TookNoFault {L = L} of_line all left = (taken : List L) × (taken ++ left ≡ all) × (fault_of_all of_line no_text_fault taken ≡ None)
+
 -- in the examples a line is a number, faulty where it equals the number of lines before it, and a text is faulty
 -- where it is empty
 abbrev stands_at_its_number : List ℕ → ℕ → Option ℕ
@@ -34,6 +43,9 @@ first_of_two_faulty_lines = refl
 
 pub fault_of_the_whole_text : fault_of_all stands_at_its_number is_empty [] ≡ Some 1000
 fault_of_the_whole_text = refl
+
+pub one_line_without_a_fault_taken : TookNoFault stands_at_its_number (7 ∷ 1 ∷ []) (1 ∷ [])
+one_line_without_a_fault_taken = (7 ∷ [], refl, refl)
 
 pub no_fault_at_all : fault_of_all stands_at_its_number is_empty (7 ∷ 7 ∷ []) ≡ None
 no_fault_at_all = refl

@@ -1,10 +1,10 @@
 //! An annealer: it commits moves in order of number. Workers judge them ahead, or the calling thread judges each when its turn comes.
 
-ghost use Rattle.std.specs.Prelude.{◌≡◌, ◌↔◌, ◌+◌, ◌-◌, ◌<◌, ◌≤◌, if◌then◌else◌, [], ◌∷◌, ◌++◌, length, map, min, true, false, Some, None, Ok, IfOk, IfSome};
+ghost use Rattle.std.specs.Prelude.{◌≡◌, ◌↔◌, ℕ, ◌+◌, ◌-◌, ◌<◌, ◌≤◌, if◌then◌else◌, [], ◌∷◌, ◌++◌, length, map, min, true, false, Some, None, Ok, IfOk, IfSome};
 ghost use Rattle.std.specs.Arc.{arc_value};
 ghost use Rattle.fab_cost.specs.Cost.{cost_of};
 ghost use Rattle.fab_sched.specs.Annealing.{IsLawful};
-ghost use Rattle.fab_site.specs.Placement.{IsLegal};
+ghost use Rattle.fab_site.specs.Placement.{IsLegal, fixed_at};
 ghost use Rattle.fab_move.specs.Judge.{says};
 ghost use Rattle.fab_commit.specs.declared.model.judged.JudgedMove.{JudgedMove};
 ghost use Rattle.fab_commit.specs.Serial.{IsStanding, at_start, from, moves_left, stage_of};
@@ -18,7 +18,7 @@ use crate::run::behind::Behind;
 use crate::run::beside::{StagePlan, finish_beside};
 use crate::run::keeping::{Keeping, KeepsNumbers};
 use crate::run::pipeline::{Pipeline, first_pipeline};
-use crate::run::point::{Point, point_of};
+use crate::run::point::{Point, point_in, point_of};
 use crate::run::stage::{MovesPlan, finish_alone};
 use crate::run::state::{Given, State, first_state, moves_left, running, state_at};
 use crate::run::turn::Turn;
@@ -248,6 +248,23 @@ impl<'a, W: Words + Drop, K: Keeping> Anneal<'a, W, K> {
         }
         let point = point_of(&self.given, &self.pipeline.owner.state)?;
         Ok(Some(point))
+    }
+
+    /// A snapshot of the run as `point` returns it, in the memory of `room`: a snapshot of a run with the same design, array and fixed
+    /// blocks, such as an earlier one of this run. `None` after the last move. Needs no memory.
+    pub fn point_in(&self, room: Point) -> Option<Point>
+        requires lawful { IsPoint self.now.design self.now.grid room }
+        requires fixed { (b : ℕ) → fixed_at room.fixed b ≡ fixed_at self.now.fixed b }
+        ensures none { (result ≡ None) ↔ (self.now.standing.heat ≡ None) }
+        ensures tells { IfSome result (TellsPoint self.now) }
+        ensures stands { IfSome result (λ p. standing_at p ≡ self.now.standing) }
+        // A run can go on from it.
+        ensures lawful { IfSome result (IsPoint self.now.design self.now.grid) }
+    {
+        if self.pipeline.owner.state.ended {
+            return None;
+        }
+        Some(point_in(&self.given, &self.pipeline.owner.state, room))
     }
 
     /// How many moves of the run are made.

@@ -55,6 +55,34 @@ fn copy_of_fixed(alloc: Global, fixed: &Fixed, blocks: usize) -> Result<Fixed, A
     Ok(copy)
 }
 
+/// A snapshot of a run that is not over, in the memory of `room`, a snapshot of a run with the same design, array and fixed blocks. Needs no
+/// memory.
+pub(crate) fn point_in<W: Words>(given: &Given<'_, W>, state: &State, room: Point) -> Point
+    requires sound { IsSound (run_for W.moves given.now) state.now }
+    requires going { state.now.ended ≡ false }
+    requires lawful { IsPoint given.now.design.now given.now.grid.now room }
+    requires fixed { (b : ℕ) → fixed_at room.fixed b ≡ fixed_at given.now.fixed b }
+    ensures schedule { result.schedule ≡ given.now.schedule }
+    ensures stage { result.stage ≡ state.now.stage }
+    ensures fixed { (b : ℕ) → fixed_at result.fixed b ≡ fixed_at given.now.fixed b }
+    ensures stands { standing_at result ≡ standing_of state.now }
+    ensures lawful { IsPoint given.now.design.now given.now.grid.now result }
+{
+    let Point {
+        fixed,
+        mut placement,
+        ..
+    } = room;
+    placement.copy_from(&state.placement);
+    Point {
+        schedule: given.schedule,
+        stage: state.stage,
+        total: state.total,
+        fixed,
+        placement,
+    }
+}
+
 /// A snapshot of a run that is not over.
 pub(crate) fn point_of<W: Words>(given: &Given<'_, W>, state: &State) -> Result<Point, AllocError>
     requires sound { IsSound (run_for W.moves given.now) state.now }

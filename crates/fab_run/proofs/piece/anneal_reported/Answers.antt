@@ -6,6 +6,9 @@ use Rattle.fab_move.specs.Stream.{stream_moves}
 use Rattle.fab_run.specs.Ends.{IsBegun, piece_of}
 use Rattle.fab_run.proofs.Whole.{cut_head, cut_piece, cut_stages, redone_piece, short_head, short_piece, short_stages, told_piece}
 use Rattle.fab_run.specs.Shown.{AreShown}
+use Rattle.fab_commit.specs.Run.Commits.{run_of}
+use Rattle.fab_run.proofs.Room.{over_without, room_later}
+use Rattle.fab_run.proofs.Telling.{appends_none}
 use Rattle.fab_run.proofs.Showing.{none_shown, part_begun, part_whole, whole_shown}
 use Rattle.fab_run.proofs.piece.anneal_reported.Goals as goal
 
@@ -115,4 +118,25 @@ returns-clause-shown_cut g c =
     let whole : AreShown p c.args.piece.now.pace.batch c.args.shower.now.shown c.anneal_all.new.shower.shown =
     whole_shown p c.args.piece.now.pace.batch made.count c.anneal_all.new.anneal.standing c.args.shower.now.shown c.anneal_all.new.shower.shown made.piece made.stands made.done c.in_ok-anneal_all.ensures.shown in
     let fact = part_whole p c.args.piece.now.pace.batch c.args.shower.now.shown c.anneal_all.new.shower.shown whole in
+    search (rules, fact)
+
+pub finish_report-requires-clause-room : goal.finish_report-requires-clause-room
+finish_report-requires-clause-room g c = room_later c.args.anneal c.anneal_all.new.anneal c.in_ok-room.room c.in_ok-anneal_all.ensures.same c.in_ok-room.ensures.room
+
+pub finish_report-requires-clause-none : goal.finish_report-requires-clause-none
+finish_report-requires-clause-none g c none =
+    let made = c.in_ok-anneal_all.ensures.made in
+    over_without (run_of stream_moves c.args.anneal) c.args.anneal.standing c.anneal_all.new.anneal.standing c.args.piece.now.pace.stop made.count made.piece made.stands (c.in_ok-room.ensures.none none)
+
+pub returns-in_err-room-clause-cut : goal.returns-in_err-room-clause-cut
+returns-in_err-room-clause-cut g c =
+    let p = piece_of stream_moves c.args.anneal c.args.piece.now.head.items c.args.piece.now.pace.stop in
+    let old = g.W.Sink.contents c.args.report.now in
+    let fact = cut_head p old old (0, appends_none old) in
+    search (rules, fact)
+
+pub returns-in_err-room-clause-shown_cut : goal.returns-in_err-room-clause-shown_cut
+returns-in_err-room-clause-shown_cut g c =
+    let p = piece_of stream_moves c.args.anneal c.args.piece.now.head.items c.args.piece.now.pace.stop in
+    let fact = none_shown p c.args.piece.now.pace.batch c.args.shower.now.shown in
     search (rules, fact)

@@ -1,9 +1,9 @@
-use Rattle.std.proofs.Common.{◌∷◌}
+use Rattle.std.proofs.Common.{◌∷◌, rules}
 use Rattle.std.proofs.lemmas.Result.{err_from_is_err_and}
 use Rattle.fab_text.specs.Shown.{shown}
 use Rattle.fab_run.specs.PointFaults.{fixed_fault}
-use Rattle.fab_run.proofs.PointParts.{taking_fails}
-use Rattle.fab_run.proofs.PointLists.{Naming, list_refused, naming_fails, naming_one}
+use Rattle.fab_run.proofs.PointParts.{taking_fails, took, took_none}
+use Rattle.fab_run.proofs.PointLists.{Naming, list_refused, marked, name_never_memory, naming_fails, naming_one}
 use Rattle.fab_run.proofs.point_reading.take_names.Goals as goal
 
 pub returns-in_err-block-clause-fault : goal.returns-in_err-block-clause-fault
@@ -25,3 +25,17 @@ names-preserved c =
     let l = shown c.in_ok-line.line in
     let here : Naming v d c.args.count all (l ∷ c.take_line.new.left) c.names.named.items c.names.counter = rw c.in_ok-line.ensures.ok at c.names.invariant in
     naming_one v d c.args.count all l c.take_line.new.left c.names.named.items c.in_ok-block.block.0 c.names.counter here c.names-test.true c.in_ok-block.ensures.named (rw c.deref.ensures.value at c.in_ok-block.ensures.within) (rw c.deref.ensures.value at c.in_ok-block.ensures.ok)
+
+pub returns-in_err-named-clause-memory : goal.returns-in_err-named-clause-memory
+returns-in_err-named-clause-memory c =
+    let fact = took_none (fixed_fault c.args.version c.args.design.now) c.args.left.now in
+    search (rules, fact)
+
+pub returns-in_err-line-clause-memory : goal.returns-in_err-line-clause-memory
+returns-in_err-line-clause-memory c = ?
+
+pub returns-in_err-block-clause-memory : goal.returns-in_err-block-clause-memory
+returns-in_err-block-clause-memory c =
+    let p = err_from_is_err_and c.from_residual-in_err-block.result c.from_residual-in_err-block.ensures.1 in
+    let l = shown c.in_ok-line.line in
+    rw (p.1, p.2) (λ memory. absurd (name_never_memory c.args.version c.args.design.now (marked c.names.named.items) l.number _ _ _ (rw c.deref.ensures.value at c.in_err-block.ensures.fault) memory))

@@ -47,3 +47,15 @@ returns-clause-read c =
     let g = c.args.grid.now in
     let all = seating_all d g c.args.left.now c.places.left c.places.placed c.places.counter (omega (arith, c.places.auto.counter-end, c.places-test.false, c.blocks-end.ensures.count)) c.places.invariant in
     seated_all d g c.args.left.now c.places.left c.places.placed c.in_ok-finish.field-0 c.in_ok-placed.ensures.lawful all c.in_ok-finish.ensures.sites c.in_ok-finish.ensures.grid
+
+pub returns-in_err-placed-clause-memory : goal.returns-in_err-placed-clause-memory
+returns-in_err-placed-clause-memory c = ?
+
+pub returns-in_err-line-clause-memory : goal.returns-in_err-line-clause-memory
+returns-in_err-line-clause-memory c = ?
+
+pub returns-in_err-take-clause-memory : goal.returns-in_err-take-clause-memory
+returns-in_err-take-clause-memory c = ?
+
+pub returns-in_err-finish-clause-memory : goal.returns-in_err-finish-clause-memory
+returns-in_err-finish-clause-memory c = ?
