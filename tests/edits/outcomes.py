@@ -72,12 +72,12 @@ class Outcome:
         if goals and (not errors or false and not meant):
             return Refusal("goal", f"`{(false or [goals[0][0]])[0]}` of {name}")
         if errors:
-            return Refusal("proof" if meant else "name", f"{(meant or errors)[0]} ({name})")
+            return Refusal("proof" if meant else "name", f"of {name}: {(meant or errors)[0]}")
         rest = [it for it in re.split(r"; (?=it |`search`)", state) if not re.match(r"(no proof: |not proved$)?(it (calls|waits) .*)?$", it)]
         if not rest or kind != "fn" and "waits for" in state:
             return None
         goal = re.search(r"did not prove `([^`]+)`", state)
-        return Refusal("goal", f"`{goal[1]}` of {name}") if goal else Refusal("proof", f"{kind} {name}: {state}")
+        return Refusal("goal", f"`{goal[1]}` of {name}") if goal else Refusal("proof", f"of {kind} {name}: {state}")
 
     def refusal_of(self, names):
         """Returns why these functions are refused, and whether all of them were judged."""
@@ -88,11 +88,11 @@ class Outcome:
             found += [self.refusal_of_item("fn", it) for it in own]
             if errors := not own and self.errors_in(name):
                 meant = [it for it in errors if not OF_NAMES.search(it)]
-                found.append(Refusal("proof" if meant else "name", f"{(meant or errors)[0]} ({name})"))
+                found.append(Refusal("proof" if meant else "name", f"of {name}: {(meant or errors)[0]}"))
         return min((it for it in found if it), key=Refusal.rank, default=None), judged
 
     def refusal_of_all(self):
         """Returns why anything is refused."""
         found = [self.refusal_of_item(*item) for item in self.states]
-        found += [Refusal("name" if OF_NAMES.search(text) else "proof", f"{path}: {text}") for path, text in self.errors]
+        found += [Refusal("name" if OF_NAMES.search(text) else "proof", f"in {path}: {text}") for path, text in self.errors]
         return min((it for it in found if it), key=Refusal.rank, default=None)

@@ -5,6 +5,7 @@ import itertools
 import os
 import signal
 import subprocess
+import sys
 import tempfile
 import threading
 import time
@@ -71,6 +72,8 @@ class Trial:
                     self.look_at(copy, crate)
                 else:
                     self.try_group(copy, crate, group)
+            except OSError as why:
+                print(f"tests/further_edits: {crate}: {why}", file=sys.stderr)
             finally:
                 with self.turn:
                     self.at_work -= 1
@@ -144,6 +147,8 @@ class Trial:
     def try_group(self, copy, crate, group):
         begun = time.time()
         texts, group = self.texts_with(crate, group)
+        if not group:
+            return
         for file, text in texts.items():
             write(f"{copy}/crates/{crate}/{file}", text)
         outcome = self.check(copy, crate)
@@ -212,9 +217,9 @@ def write(path, text):
 
 def line_of(entry):
     """Returns the line that is printed for an edit."""
-    ways = {"goal": "refused by a goal", "proof": "refused by a proof", "type": "refused by a type", "name": "refused for a name alone"}
-    ways.update(stays="NOT REFUSED", bad="BAD EDIT")
-    return f"{entry['edit']}: {ways[entry['outcome']]}: {entry['why'][:300]}"
+    ways = {"goal": "refused by the goal", "proof": "refused by the proof", "type": "REFUSED BY A TYPE:", "name": "REFUSED FOR A NAME ALONE, in the proof"}
+    ways.update(stays="NOT REFUSED:", bad="BAD EDIT:")
+    return f"{entry['edit']}: {ways[entry['outcome']]} {entry['why'][:240]}"
 
 
 def counts_of(entries, kept, left):
