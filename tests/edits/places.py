@@ -64,6 +64,14 @@ def full_names(crate, file, code, function, known):
     return found
 
 
+def narrowed(place, pair):
+    """Returns the part of a new text's place that differs from the old text at its beginning and its end."""
+    old, new = pair
+    first = len(os.path.commonprefix([old, new]))
+    last = len(os.path.commonprefix([old[first:][::-1], new[first:][::-1]]))
+    return place[0] + first, max(place[0] + first, place[1] - last)
+
+
 class Place:
     """What an edit changes: the names of its functions, or none where it changes anything but bodies of functions that a check names."""
 
@@ -79,7 +87,7 @@ class Place:
         code, new_code = code_of(text), code_of(new_text)
         parts, new_parts = functions(code), functions(new_code)
         names, inside = set(), len(parts) == len(new_parts)
-        for place in places:
+        for place in (narrowed(place, pair) for place, pair in zip(places, pairs)):
             function = around(new_parts, place) if inside else None
             if function is None or place[0] <= function[2]:
                 return
