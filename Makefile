@@ -8,8 +8,8 @@ V =
 
 .PHONY: test hostile edits place bench program flow install uninstall
 
-# Makes every proof that the machine has not kept, and runs the must-fail edits, every test and program, and the tests of the built program.
-# The last line of the output is `N passed, M failed`.
+# Makes every proof that the machine has not kept, and runs the must-fail edits, every test and program, the tests of the built program, and
+# for at most 15 minutes planted bugs of crates that changed. The last line of the output is `N passed, M failed`.
 test:
 	@tests/all
 
@@ -20,8 +20,8 @@ hostile: program
 	@status=0; sh tests/hostile/run --long crates/vplace/out/vplace || status=1; \
 	sh tests/refusals/run --long crates/vplace/out/vplace || status=1; exit $$status
 
-# Tries the further wrong bodies, which the gate leaves out because they take as long as everything else. Run this before a contract
-# changes.
+# Tries all planted bugs: those of must-fail, which `make test` tries too, and those of further-edits. The prover must reject each. The last
+# line counts them. What was tried is kept in out/edits, so a second call goes on where the first ended.
 edits:
 	@tests/further_edits
 
