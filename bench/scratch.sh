@@ -4,7 +4,7 @@
 compile=${1-}
 
 # copy_to FOLDER PATH.. copies these files and folders of the checkout as they are, new ones too, without what .gitignore leaves out: the
-# out/ folders of a checkout take gigabytes.
+# out/ folders of a checkout take gigabytes, and a check in the copy begins with what they keep all the same.
 copy_to() {
     copy=$1
     shift
