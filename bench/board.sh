@@ -1,16 +1,11 @@
-#!/usr/bin/env bash
+#!/bin/sh
 # The cost of a batch that judges nothing: the time to start the workers, claim the numbers and join, by the number of workers. Prints
-# nanoseconds per batch, and that time in hundredths of the time with one worker. Needs the kit's `rt` on the path.
-set -euo pipefail
-here="$(cd "$(dirname "$0")" && pwd)"
+# nanoseconds per batch, and that time in hundredths of the time with one worker.
+# usage: bench/board.sh
+set -eu
+here=$(cd "$(dirname "$0")" && pwd)
 . "$here/scratch.sh"
-room="$(mktemp -d)"
-trap 'rm -rf "$room"' EXIT
-
-mkdir -p "$room/crates/board_bench/src"
-copy_to "$room" HANDLES crates/fab_board
-printf 'fab_board: atomic_table logbook\nboard_bench: fab_board\n' > "$room/crates.txt"
-cat > "$room/crates/board_bench/src/main.rt" <<'MAIN'
+scratch_with bench_board fab_board <<'MAIN'
 //! Times batches whose closure does nothing.
 #![tactic(auto)]
 
@@ -71,5 +66,5 @@ fn main(rt: HostRuntime) -> io::Result<()> {
     row(&rt, alloc, 256)
 }
 MAIN
-cd "$room/crates/board_bench"
-rt "${1:-run}"
+enter bench_board
+rt run

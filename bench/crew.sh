@@ -227,7 +227,7 @@ ghost use Rattle.std.specs.Thread.{IsSync};
 
 use crate::parts::{Answer, Row, Swaps, TURNS, Times, blank, empty, fill, nanoseconds, rows, summed};
 use fab_board::follow_crew::beside;
-use fab_board::follow_lead::{Lead, new_crew};
+use fab_board::follow_lead::{CrewParts, Lead, new_crew};
 use fab_board::{Board, Boarding, ClaimSeat, Follow, Naming, Opened, Origin, Plan, Sheet};
 use std::alloc::{AllocError, Global};
 use std::marker::Brand;
@@ -340,15 +340,7 @@ fn turns_of<J: Naming + Boarding + Origin<Row>, R: Wait + Clock>(
     summed(times, sum)
 }
 
-/// What a crew is made of.
-struct Founded {
-    board: Board,
-    claims: Vec<ClaimSeat>,
-    first: Row,
-    others: Vec<Row>,
-}
-
-fn found_for(alloc: Global, workers: u64) -> Result<Founded, AllocError>
+fn found_for(alloc: Global, workers: u64, units: Plan) -> Result<CrewParts<Row>, AllocError>
     requires workers { (0 < workers) × (workers ≤ 64) }
     ensures claims { IfOk result (λ f. All (λ s. s.board ≡ f.board.name) f.claims.items) }
     ensures first { IfOk result (λ f. f.first ≡ 0) }
@@ -358,11 +350,12 @@ fn found_for(alloc: Global, workers: u64) -> Result<Founded, AllocError>
     let first = Row::new(alloc)?;
     let others = rows(alloc, workers)?;
     let (board, claims) = Board::new(alloc, 1 << 62, workers)?;
-    Ok(Founded {
+    Ok(CrewParts {
         board,
         claims,
         first,
         others,
+        units,
     })
 }
 
@@ -370,8 +363,7 @@ fn run_as<J: Naming + Boarding + Origin<Row> + Send + Sync, R: Threads + Wait + 
     rt: &R,
     alloc: Global,
     opened: Opened<Swaps>,
-    founded: Founded,
-    plan: Plan,
+    founded: CrewParts<Row>,
     turns: u64,
     batch: u64,
 ) -> Result<Times, AllocError>
@@ -382,15 +374,7 @@ fn run_as<J: Naming + Boarding + Origin<Row> + Send + Sync, R: Threads + Wait + 
     requires starts { All (λ s. J.start ≡ Some s) founded.others.items }
     requires many { length founded.claims.items ≡ length founded.others.items }
 {
-    let Founded {
-        board,
-        claims,
-        first,
-        others,
-    } = founded;
-    let (crew, lead) = new_crew::<Row, Swaps, Answer, J>(
-        alloc, opened, board, claims, first, others, plan,
-    )?;
+    let (crew, lead) = new_crew::<Row, Swaps, Answer, J>(alloc, opened, founded)?;
     let sheet = lead.sheet(alloc)?;
     let mut owner_end = OwnerEnd { lead, sheet };
     beside(
@@ -411,9 +395,8 @@ pub fn run_ours<R: Threads + Wait + Clock + Sync>(
 ) -> Result<Times, AllocError>
     requires workers { (0 < workers) × (workers ≤ 64) }
 {
-    let founded = found_for(alloc, workers)?;
-    let plan = Plan::of(batch, workers);
-    run_as::<Brand, R>(rt, alloc, Opened::new(), founded, plan, turns, batch)
+    let founded = found_for(alloc, workers, Plan::of(batch, workers))?;
+    run_as::<Brand, R>(rt, alloc, Opened::new(), founded, turns, batch)
 }
 OURS
 mkdir -p "$crate/proofs/ours/judge_all" "$crate/proofs/ours/run_ours" "$crate/proofs/ours/found_for"
@@ -610,4 +593,5 @@ abbrev pub ghosts-run_as-J-Origin : goal.ghosts-run_as-J-Origin
 ghosts-run_as-J-Origin g a = record { start = Some 0 }
 RUN
 fi
-cd "$crate" && rt run
+enter bench_crew
+rt run

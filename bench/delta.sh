@@ -239,7 +239,7 @@ fn main(rt: HostRuntime) -> anyhow::Result<()> {
     Ok(())
 }
 MAIN
-cd "$work/repo/crates/bench_delta"
+enter bench_delta
 rt run -- "$top/examples/c880_ble" "$top/examples/grom_ble" "$top/examples/picorv32_cl4" "$top/examples/duo_ble" "$@" 2>> "$work/log" > "$work/times" || { tail -n 40 "$work/log"; exit 1; }
 sort -s -n -k 1,1 -k 4,4 "$work/times" | awk '
     { name = $1 " blocks, " $2; if (!(name in seen)) { seen[name] = 1; order[++n] = name } }

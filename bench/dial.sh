@@ -1,19 +1,10 @@
-#!/usr/bin/env bash
+#!/bin/sh
 # The time of `show` with no watcher and with two that read all the time, on this machine.
-# It builds a small program over fab_dial in a temporary folder, so that crates.txt names no crate that only measures.
-set -euo pipefail
+# usage: bench/dial.sh
+set -eu
 here=$(cd "$(dirname "$0")" && pwd)
 . "$here/scratch.sh"
-top=$(cd "$here/.." && pwd)
-scratch=$(mktemp -d)
-trap 'rm -rf "$scratch"' EXIT
-mkdir -p "$scratch/crates/dial_bench/src"
-copy_to "$scratch" HANDLES crates/fab_dial
-rm -rf "$scratch/crates/fab_dial/must-fail"
-grep '^fab_dial:' "$top/crates.txt" > "$scratch/crates.txt"
-echo 'dial_bench: fab_dial' >> "$scratch/crates.txt"
-
-cat > "$scratch/crates/dial_bench/src/main.rt" <<'RATTLE'
+scratch_with bench_dial fab_dial <<'MAIN'
 //! The time of one `show`, in nanoseconds.
 #![tactic(auto)]
 
@@ -106,30 +97,31 @@ fn main(rt: HostRuntime) -> io::Result<()> {
     }
     Ok(())
 }
-RATTLE
-mkdir -p "$scratch/crates/dial_bench/proofs/show_all"
-cat > "$scratch/crates/dial_bench/proofs/show_all/Invariants.antt" <<'ANTT'
+MAIN
+crate=$work/repo/crates/bench_dial
+mkdir -p "$crate/proofs/show_all"
+cat > "$crate/proofs/show_all/Invariants.antt" <<'ANTT'
 use Rattle.std.proofs.Common.{◌≡◌}
-use Rattle.dial_bench.proofs.show_all.Given as goal
+use Rattle.bench_dial.proofs.show_all.Given as goal
 
 abbrev pub invariant-loop-moves : goal.invariant-loop-moves
 invariant-loop-moves g l = l.shower.dial ≡ l.dial
 ANTT
-mkdir -p "$scratch/crates/dial_bench/proofs/watch"
-cat > "$scratch/crates/dial_bench/proofs/watch/Invariants.antt" <<'ANTT'
+mkdir -p "$crate/proofs/watch"
+cat > "$crate/proofs/watch/Invariants.antt" <<'ANTT'
 use Rattle.std.proofs.Common.{◌≡◌}
-use Rattle.dial_bench.proofs.watch.Given as goal
+use Rattle.bench_dial.proofs.watch.Given as goal
 
 abbrev pub invariant-loop-turn : goal.invariant-loop-turn
 invariant-loop-turn g l = l.watcher.dial ≡ l.dial
 ANTT
 
-cd "$scratch/crates/dial_bench"
-rt run > "$scratch/log" 2>&1 || { cat "$scratch/log"; exit 1; }
+enter bench_dial
+rt run > "$work/log" 2>&1 || { cat "$work/log"; exit 1; }
 awk '
     /^with/ { print; time[$2] += $4; shows[$2] += $7; reads[$2] += $9 }
     END {
         printf "a show with no watcher: %.1f ns\n", time[0] / shows[0]
         printf "a show with two watchers: %.1f ns, ratio %.1f\n", time[2] / shows[2], time[2] / time[0]
         printf "reads of both in that time: %.2f a show\n", reads[2] / shows[2]
-    }' "$scratch/log"
+    }' "$work/log"

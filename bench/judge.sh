@@ -141,7 +141,7 @@ fn main(rt: HostRuntime) -> anyhow::Result<()> {
     Ok(())
 }
 MAIN
-cd "$work/repo/crates/bench_judge"
+enter bench_judge
 rt run 2>> "$work/log" | tee "$work/times"
 awk '{ if (!($2 in best) || $10 < best[$2]) best[$2] = $10; moves = $6 }
      END { for (side in best) printf "side %s: %.0f moves a second (best run)\n", side, moves * 1000000 / best[side]

@@ -4,7 +4,7 @@
 set -eu
 here=$(cd "$(dirname "$0")" && pwd)
 . "$here/scratch.sh"
-netlist=$(realpath "$1")
+[ "$compile" = --compile ] || netlist=$(realpath "$1")
 scratch_with bench_lines "fab_text anyhow" <<'MAIN'
 //! Reads the lines of the files that it is given, and prints how long each took.
 #![tactic(auto)]
@@ -39,10 +39,10 @@ fn main(rt: HostRuntime) -> anyhow::Result<()> {
     Ok(())
 }
 MAIN
+enter bench_lines
 while [ "$(stat -c %s "$work/unit" 2>/dev/null || echo 0)" -lt 1000000 ]; do cat "$netlist" >> "$work/unit"; done
 head -c 1000000 "$work/unit" > "$work/one"
 for _ in 1 2 3 4 5 6 7 8 9 10; do cat "$work/one"; done > "$work/ten"
-cd "$work/repo/crates/bench_lines"
 rt run -- "$work/one" "$work/one" "$work/ten" "$work/one" "$work/ten" 2>> "$work/log" | tee "$work/times"
 awk '{ us = $(NF - 1); if ($1 == 1000000 && (one == "" || us < one)) one = us; if ($1 > 1000000 && (ten == "" || us < ten)) ten = us }
      END { printf "10 MB take %.2f times as long as 1 MB (best runs)\n", ten / one }' "$work/times"

@@ -7,10 +7,6 @@ set -eu
 here=$(cd "$(dirname "$0")" && pwd)
 program=${PROGRAM:+$(realpath "$PROGRAM")}
 program=${program:-$(cd "$here/.." && pwd)/crates/vplace/out/vplace}
-if [ ! -x "$program" ]; then
-    echo "there is no program $program: make test builds it" >&2
-    exit 2
-fi
 . "$here/scratch.sh"
 scratch_with bench_point "fab_arch fab_net fab_file fab_run anyhow" <<'MAIN'
 //! Reads a placement text and a checkpoint text of one design, and prints how long each took.
@@ -56,7 +52,11 @@ fn main(rt: HostRuntime) -> anyhow::Result<()> {
 }
 MAIN
 large=$here/../tests/large
-cd "$work/repo/crates/bench_point"
+enter bench_point
+if [ ! -x "$program" ]; then
+    echo "there is no program $program: make test builds it" >&2
+    exit 2
+fi
 cp "$large/large.arch" .
 awk -v pads=2000 -v logic=58000 -f "$large/netlist.awk" > a.net
 "$program" place --arch large.arch --net a.net --out a.place --nx 1000 --ny 1000 --init-t 1 --exit-t 0.9 --alpha-t 0.5 --moves 1000 --seed 7 > /dev/null

@@ -66,7 +66,7 @@ fn main(rt: HostRuntime) -> anyhow::Result<()> {
     Ok(())
 }
 MAIN
-cd "$work/repo/crates/bench_start"
+enter bench_start
 rt run 2>> "$work/log" | tee "$work/times"
 awk '{ if ($1 == 6000 && (few == "" || $3 < few)) few = $3; if ($1 == 60000 && (many == "" || $3 < many)) many = $3 }
      END { printf "60,000 blocks take %.2f times as long as 6,000 (best runs)\n", many / few }' "$work/times"

@@ -10,10 +10,6 @@ program=${PROGRAM:+$(realpath "$PROGRAM")}
 program=${program:-$top/crates/vplace/out/vplace}
 moves=${MOVES:-60000}
 batches=${BATCHES:-64 256 1024 4096}
-if [ ! -x "$program" ]; then
-    echo "there is no program $program: make test builds it" >&2
-    exit 2
-fi
 [ $# -gt 0 ] || set -- picorv32_cl4 duo_ble
 
 . "$here/scratch.sh"
@@ -89,7 +85,11 @@ fn main(rt: HostRuntime) -> anyhow::Result<()> {
     Ok(())
 }
 MAIN
-cd "$work/repo/crates/bench_turns"
+enter bench_turns
+if [ ! -x "$program" ]; then
+    echo "there is no program $program: make test builds it" >&2
+    exit 2
+fi
 (
     for design in "$@"; do
         shift

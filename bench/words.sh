@@ -57,7 +57,7 @@ fn main(rt: HostRuntime) -> anyhow::Result<()> {
     Ok(())
 }
 MAIN
-cd "$work/repo/crates/bench_words"
+enter bench_words
 rt run 2>> "$work/log" > "$work/times" || { tail -n 40 "$work/log"; exit 1; }
 awk 'NR == 1 || $1 < row { row = $1 } NR == 1 || $2 < one { one = $2 }
      END { printf "the words of a move: %.1f ns in a row, %.1f ns alone\n", row / (30000 * 32), one / 30000 }' "$work/times"
