@@ -4,5 +4,6 @@ pub mod Views
 pub mod Dealt
 pub mod Judged
 pub mod Examples
+pub mod OwnUnits
 pub mod Posts
 pub mod Follows

@@ -1,5 +1,5 @@
 //! The list of everything that was posted, which only grows, and prefixes of it that threads carry. No thread keeps the list itself.
-ghost use Rattle.std.specs.Prelude.{◌≡◌, ◌+◌, ◌<◌, ◌^◌, ◌++◌, ◌∷◌, [], length, true, Some, MatchBool};
+ghost use Rattle.std.specs.Prelude.{◌≡◌, ◌≢◌, ◌⊎◌, ◌+◌, ◌<◌, ◌≤◌, ◌^◌, ◌++◌, ◌∷◌, [], length, true, false, Some, MatchBool};
 ghost use Rattle.fab_board.specs.Posts.{head_of, latest};
 
 use logbook::{Gain, Offer, Plain, Play, Rule, Seen, Start, Word};
@@ -186,7 +186,9 @@ impl<E, J: Naming> Front<E, J> {
 
     /// Adds an entry to all that was seen. Returns whether it did: not if the list is longer, or if it has 2^62 entries or more.
     pub fn enter(&mut self, book: &Book<E, J>, entry: &E) -> bool
-        ensures { result ≡ true → self.new ≡ self.old ++ entry.now ∷ [] }
+        ensures added { result ≡ true → self.new ≡ self.old ++ entry.now ∷ [] }
+        ensures refused { result ≡ false → (2 ^ 62 ≤ length self.old) ⊎
+            (length self.new ≢ length self.old) }
     {
         if self.count >= 1 << 62 {
             return false;

@@ -1,5 +1,8 @@
 //! Which units of a turn the owner keeps for itself, because the workers are slower than it.
 
+ghost use Rattle.std.specs.Prelude.{◌≡◌, ◌+◌, ◌≤◌, ◌<◌, true, false, min, nat_lt};
+ghost use Rattle.fab_board.specs.OwnUnits.{late_with, reviewed, since_review, wanted_after};
+
 /// The units that the owner keeps are the first of each turn. Their number follows how often the owner waits.
 #[derive(Clone, Copy)]
 pub(crate) struct OwnUnits {
@@ -15,16 +18,31 @@ pub(crate) struct OwnUnits {
     late: u64,
     /// The number of turns since the last review.
     turns: u64,
+    ghost bounds: { (turns < 16) × (late ≤ turns) × (wanted ≤ 32768) },
 }
 
-/// The number of kept units is reviewed after so many turns.
+/// The number of kept units is reviewed after this many turns.
 const TURNS: u64 = 16;
 
-/// The owner keeps a unit more if it had to wait in so many of these turns.
+/// The owner keeps one unit more if it had to wait in at least this many of these turns.
 const MANY: u64 = 10;
 
-/// The owner keeps a unit less if it had to wait in fewer than so many.
+/// The owner keeps one unit less if it had to wait in fewer than this many.
 const FEW: u64 = 4;
+
+/// How many units the owner wants after a review, by the number of turns in which it had to wait.
+fn reviewed(late: u64, wanted: u64) -> u64
+    requires { wanted ≤ 32768 }
+    ensures { result ≡ reviewed late wanted }
+{
+    if late >= MANY {
+        wanted + 1
+    } else if late < FEW {
+        wanted.saturating_sub(1)
+    } else {
+        wanted
+    }
+}
 
 impl OwnUnits {
     /// No unit is kept.
@@ -39,33 +57,51 @@ impl OwnUnits {
         }
     }
 
-    /// Begins a turn, of so many units. Returns how many of them the owner keeps.
-    pub(crate) fn next_turn(&mut self, units: u64) -> u64 {
-        self.late = self.late.saturating_add(u64::from(self.is_late));
-        self.is_late = false;
-        self.turns = self.turns.saturating_add(1);
-        if self.turns >= TURNS {
-            if self.late >= MANY {
-                self.wanted = self.wanted.saturating_add(1);
-            } else if self.late < FEW {
-                self.wanted = self.wanted.saturating_sub(1);
-            }
-            self.turns = 0;
-            self.late = 0;
-        }
-        self.wanted = self.wanted.min(units);
-        self.due = self.asked;
-        self.asked = self.wanted;
-        self.wanted
+    /// Begins a turn with `units` units. Returns how many of them the owner keeps.
+    pub(crate) fn next_turn(&mut self, units: u64) -> u64
+        requires { units ≤ 32768 }
+        ensures kept { result ≡
+            min (wanted_after self.old.turns (late_with self.old.late self.old.is_late)
+            self.old.wanted) units }
+        ensures due { self.new.due ≡ self.old.asked }
+        ensures asked { self.new.asked ≡ result }
+        ensures wanted { self.new.wanted ≡ result }
+        ensures punctual { self.new.is_late ≡ false }
+        ensures turns { self.new.turns ≡ since_review self.old.turns (self.old.turns + 1) }
+        ensures late { self.new.late ≡
+            since_review self.old.turns (late_with self.old.late self.old.is_late) }
+    {
+        let late = self.late + u64::from(self.is_late);
+        let turns = self.turns + 1;
+        let is_review = turns == TURNS;
+        let wanted = if is_review {
+            reviewed(late, self.wanted)
+        } else {
+            self.wanted
+        };
+        let kept = wanted.min(units);
+        *self = OwnUnits {
+            due: self.asked,
+            asked: kept,
+            wanted: kept,
+            is_late: false,
+            late: if is_review { 0 } else { late },
+            turns: if is_review { 0 } else { turns },
+        };
+        kept
     }
 
     /// Whether the owner keeps this unit of the turn that is due.
-    pub(crate) fn is_kept(&self, unit: u64) -> bool {
+    pub(crate) fn is_kept(&self, unit: u64) -> bool
+        ensures { result ≡ nat_lt unit self.now.due }
+    {
         unit < self.due
     }
 
     /// The owner waits for a unit.
-    pub(crate) fn was_late(&mut self) {
+    pub(crate) fn was_late(&mut self)
+        ensures { self.new ≡ record self.old { is_late = true } }
+    {
         self.is_late = true;
     }
 }

@@ -1,5 +1,7 @@
 //! How the numbers of a turn are cut into units, which the workers of a crew claim.
 
+ghost use Rattle.std.specs.Prelude.{◌≤◌};
+
 /// How a crew shares its work out: a unit is some numbers in a row, and each turn has as many units, of which the last ones may be empty.
 #[derive(Clone, Copy)]
 pub struct Plan {
@@ -36,7 +38,9 @@ impl Plan {
     }
 
     /// How many units a turn has.
-    pub(crate) fn units(&self) -> u64 {
+    pub(crate) fn units(&self) -> u64
+        ensures { (1 ≤ result) × (result ≤ 32768) }
+    {
         1 << (self.units % 16)
     }
 
