@@ -9,6 +9,8 @@ ITEM = re.compile(r"(fn|struct|enum|impl|trait|type|const|static) (\S+): (.*)")
 # Errors that say no more than that a goal or a call which a proof file names is gone.
 OF_NAMES = re.compile(r"can be named from here|is not in scope|unknown name|not found|has no `[^`]+`|no field")
 
+GONE_GOAL = ".Goals` has no"
+
 
 class Refusal:
     """Why a function is refused: `goal`, `proof` (what is written of its proof fails) or `name` (it names what is gone)."""
@@ -68,8 +70,8 @@ class Outcome:
         errors = self.errors_in(name) if kind == "fn" else []
         meant = [it for it in errors if not OF_NAMES.search(it)]
         false = [goal for goal, is_false in goals if is_false]
-        # Where a proof file names what is gone, a goal may be open only because its answer has another name.
-        if goals and (not errors or false and not meant):
+        # Where a proof file names a goal that is gone, another may be open only because the answer has the old name.
+        if goals and (false or not any(GONE_GOAL in it for it in errors)):
             return Refusal("goal", f"`{(false or [goals[0][0]])[0]}` of {name}")
         if errors:
             return Refusal("proof" if meant else "name", f"of {name}: {(meant or errors)[0]}")

@@ -118,8 +118,11 @@ class Trial:
         lines = run.communicate()[0].decode("utf-8", "replace").splitlines()
         return None if self.stopped else Outcome(run.returncode, lines)
 
-    def tell(self, crate, edit, kind, why, seconds, keeps=True):
-        entry = self.record.keep(crate, edit, kind, why, seconds) if keeps else {"edit": shown(edit), "outcome": kind, "why": why, "seconds": seconds}
+    def tell(self, crate, edit, kind, why, seconds):
+        entry = {"edit": shown(edit), "outcome": kind, "why": why, "seconds": round(seconds, 1)}
+        # The others are to be mended, so they are tried again.
+        if kind in ("goal", "proof", "stays"):
+            self.record.keep(crate, edit, entry)
         with self.turn:
             self.told.append(entry)
             print(line_of(entry), flush=True)
@@ -136,7 +139,7 @@ class Trial:
                     raise Unfit(f"{crate} is not proved without it: {outcome.last}")
                 places.append(Place(crate, edit, ROOT, outcome.named()))
             except (Unfit, OSError) as why:
-                self.tell(crate, edit, "bad", str(why), 0, keeps=False)
+                self.tell(crate, edit, "bad", str(why), 0)
         # Small enough that all lanes end together.
         size = max(2, min(MOST, -(-len(places) // self.jobs)))
         self.add(crate, groups_of(places, size), 0)
@@ -207,7 +210,7 @@ class Trial:
         elif refusal:
             self.tell(crate, place.edit, refusal.kind, refusal.why, seconds)
         else:
-            self.tell(crate, place.edit, "bad", f"its check ended with {outcome.status}: {outcome.last}", seconds, keeps=False)
+            self.tell(crate, place.edit, "bad", f"its check ended with {outcome.status}: {outcome.last}", seconds)
 
 
 def write(path, text):
