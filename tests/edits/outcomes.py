@@ -82,16 +82,15 @@ class Outcome:
         return Refusal("goal", f"`{goal[1]}` of {name}") if goal else Refusal("proof", f"of {kind} {name}: {state}")
 
     def refusal_of(self, names):
-        """Returns why these functions are refused, and whether all of them were judged."""
-        found, judged = [], True
+        """Returns why one of these functions is refused; None if they are proved, or were not judged."""
+        found = []
         for name in names:
             own = [it for it in self.named() if belongs(segments(it), name)]
-            judged &= bool(own)
             found += [self.refusal_of_item("fn", it) for it in own]
             if errors := not own and self.errors_in(name):
                 meant = [it for it in errors if not OF_NAMES.search(it)]
                 found.append(Refusal("proof" if meant else "name", f"of {name}: {(meant or errors)[0]}"))
-        return min((it for it in found if it), key=Refusal.rank, default=None), judged
+        return min((it for it in found if it), key=Refusal.rank, default=None)
 
     def refusal_of_all(self):
         """Returns why anything is refused."""

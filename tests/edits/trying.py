@@ -178,9 +178,13 @@ class Trial:
             self.judge_types(crate, group, outcome, seconds)
         elif len(group) == 1:
             self.judge_alone(crate, group[0], outcome, seconds)
+        elif not outcome.named():
+            # One of them stopped the check.
+            half = len(group) // 2
+            self.again(crate, group[:half], group[half:])
         else:
             for place in group:
-                refusal, judged = outcome.refusal_of(place.functions)
+                refusal = outcome.refusal_of(place.functions)
                 if refusal:
                     self.tell(crate, place.edit, refusal.kind, refusal.why, seconds)
                 else:
@@ -204,7 +208,7 @@ class Trial:
             self.again(crate, rest[:half], rest[half:])
 
     def judge_alone(self, crate, place, outcome, seconds):
-        refusal = outcome.refusal_of(place.functions)[0] or outcome.refusal_of_all()
+        refusal = outcome.refusal_of(place.functions) or outcome.refusal_of_all()
         if outcome.status == 0:
             self.tell(crate, place.edit, "stays", "everything is still proved", seconds)
         elif refusal:
