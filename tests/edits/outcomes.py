@@ -9,6 +9,8 @@ ITEM = re.compile(r"(fn|struct|enum|impl|trait|type|const|static) (\S+): (.*)")
 # Errors that say no more than that a goal or a call which a proof file names is gone.
 OF_NAMES = re.compile(r"can be named from here|is not in scope|unknown name|not found|has no `[^`]+`|no field")
 
+GONE_GOAL = ".Goals` has no"
+
 
 class Refusal:
     """Why a function is refused: `goal`, `proof` (what is written of its proof fails) or `name` (it names what is gone)."""
@@ -68,8 +70,8 @@ class Outcome:
         errors = self.errors_in(name) if kind == "fn" else []
         meant = [it for it in errors if not OF_NAMES.search(it)]
         false = [goal for goal, is_false in goals if is_false]
-        # Where a proof file names what is gone, a goal may be open only because its answer has another name.
-        if goals and (not errors or false and not meant):
+        # Where a proof file names a goal that is gone, another may be open only because the answer has the old name.
+        if goals and (false or not any(GONE_GOAL in it for it in errors)):
             return Refusal("goal", f"`{(false or [goals[0][0]])[0]}` of {name}")
         if errors:
             return Refusal("proof" if meant else "name", f"of {name}: {(meant or errors)[0]}")
@@ -80,16 +82,15 @@ class Outcome:
         return Refusal("goal", f"`{goal[1]}` of {name}") if goal else Refusal("proof", f"of {kind} {name}: {state}")
 
     def refusal_of(self, names):
-        """Returns why these functions are refused, and whether all of them were judged."""
-        found, judged = [], True
+        """Returns why one of these functions is refused; None if they are proved, or were not judged."""
+        found = []
         for name in names:
             own = [it for it in self.named() if belongs(segments(it), name)]
-            judged &= bool(own)
             found += [self.refusal_of_item("fn", it) for it in own]
             if errors := not own and self.errors_in(name):
                 meant = [it for it in errors if not OF_NAMES.search(it)]
                 found.append(Refusal("proof" if meant else "name", f"of {name}: {(meant or errors)[0]}"))
-        return min((it for it in found if it), key=Refusal.rank, default=None), judged
+        return min((it for it in found if it), key=Refusal.rank, default=None)
 
     def refusal_of_all(self):
         """Returns why anything is refused."""

@@ -76,12 +76,10 @@ class Record:
         """Returns the entry of an edit that was tried on these sources; None if there is none."""
         return self.kept.get(self.key_of(crate, edit))
 
-    def keep(self, crate, edit, kind, why, seconds):
-        entry = {"key": self.key_of(crate, edit), "edit": os.path.relpath(edit, ROOT), "outcome": kind, "why": why}
-        entry.update(seconds=round(seconds, 1), date=datetime.date.today().isoformat())
+    def keep(self, crate, edit, entry):
+        entry = dict(entry, key=self.key_of(crate, edit), date=datetime.date.today().isoformat())
         with self.guard:
             os.makedirs(os.path.dirname(FILE), exist_ok=True)
             with open(FILE, "a", encoding="utf-8") as it:
                 it.write(json.dumps(entry, ensure_ascii=False) + "\n")
             self.kept[entry["key"]] = entry
-        return entry

@@ -118,8 +118,11 @@ class Trial:
         lines = run.communicate()[0].decode("utf-8", "replace").splitlines()
         return None if self.stopped else Outcome(run.returncode, lines)
 
-    def tell(self, crate, edit, kind, why, seconds, keeps=True):
-        entry = self.record.keep(crate, edit, kind, why, seconds) if keeps else {"edit": shown(edit), "outcome": kind, "why": why, "seconds": seconds}
+    def tell(self, crate, edit, kind, why, seconds):
+        entry = {"edit": shown(edit), "outcome": kind, "why": why, "seconds": round(seconds, 1)}
+        # The others are to be mended, so they are tried again.
+        if kind in ("goal", "proof", "stays"):
+            self.record.keep(crate, edit, entry)
         with self.turn:
             self.told.append(entry)
             print(line_of(entry), flush=True)
@@ -136,7 +139,7 @@ class Trial:
                     raise Unfit(f"{crate} is not proved without it: {outcome.last}")
                 places.append(Place(crate, edit, ROOT, outcome.named()))
             except (Unfit, OSError) as why:
-                self.tell(crate, edit, "bad", str(why), 0, keeps=False)
+                self.tell(crate, edit, "bad", str(why), 0)
         # Small enough that all lanes end together.
         size = max(2, min(MOST, -(-len(places) // self.jobs)))
         self.add(crate, groups_of(places, size), 0)
@@ -175,9 +178,13 @@ class Trial:
             self.judge_types(crate, group, outcome, seconds)
         elif len(group) == 1:
             self.judge_alone(crate, group[0], outcome, seconds)
+        elif not outcome.named():
+            # One of them stopped the check.
+            half = len(group) // 2
+            self.again(crate, group[:half], group[half:])
         else:
             for place in group:
-                refusal, judged = outcome.refusal_of(place.functions)
+                refusal = outcome.refusal_of(place.functions)
                 if refusal:
                     self.tell(crate, place.edit, refusal.kind, refusal.why, seconds)
                 else:
@@ -201,13 +208,13 @@ class Trial:
             self.again(crate, rest[:half], rest[half:])
 
     def judge_alone(self, crate, place, outcome, seconds):
-        refusal = outcome.refusal_of(place.functions)[0] or outcome.refusal_of_all()
+        refusal = outcome.refusal_of(place.functions) or outcome.refusal_of_all()
         if outcome.status == 0:
             self.tell(crate, place.edit, "stays", "everything is still proved", seconds)
         elif refusal:
             self.tell(crate, place.edit, refusal.kind, refusal.why, seconds)
         else:
-            self.tell(crate, place.edit, "bad", f"its check ended with {outcome.status}: {outcome.last}", seconds, keeps=False)
+            self.tell(crate, place.edit, "bad", f"its check ended with {outcome.status}: {outcome.last}", seconds)
 
 
 def write(path, text):
