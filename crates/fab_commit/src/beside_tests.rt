@@ -2,7 +2,7 @@ ghost use Rattle.std.specs.Prelude.{◌≡◌};
 ghost use Rattle.fab_commit.specs.Serial.{moves_left};
 ghost use Rattle.fab_commit.specs.Run.Commits.{run_of};
 
-use crate::in_time::in_time;
+use crate::in_time::{HELD, in_time};
 use crate::run::state::moves_left;
 use crate::tests::{Pace, Setting, annealer, put_sites, read_setting, turned};
 use crate::world_tests::ARCH;
@@ -353,7 +353,7 @@ fn a_crew_makes_the_moves_of_single_turns(rt: HostRuntime) -> Result<(), Fail> {
     )
 }
 
-// Holds each judgement until so many threads are in one, for at most ten seconds.
+// Holds each judgement until `threads` threads are in one, for at most a minute.
 #[derive(Drop)]
 pub(crate) struct Together<'a> {
     pub(crate) rt: &'a HostRuntime,
@@ -365,7 +365,7 @@ pub(crate) struct Together<'a> {
 impl Gate for Together<'_> {
     fn before_judge(&self, _k: u64) {
         self.begun.fetch_add(1, Ordering::SeqCst);
-        for _wait in 0..10_000u64 {
+        for _wait in 0..HELD {
             if self.begun.load(Ordering::SeqCst) >= self.threads {
                 return;
             }

@@ -1,8 +1,8 @@
 ghost use Rattle.std.specs.Prelude.{◌≡◌, ◌<◌, ◌≤◌, true, IfOk};
 
 use crate::beside_tests::{Together, WORKERS};
-use crate::crew_tests::hold;
-use crate::in_time::in_time;
+use crate::crew_tests::{hold, was_busy};
+use crate::in_time::{HELD, in_time};
 use fab_board::{Board, ClaimSeat, Gate, NoGate, judge_batch};
 use std::alloc::{AllocError, Global};
 use std::sync::Wait;
@@ -442,8 +442,8 @@ fn all_workers_of_a_batch_judge_at_once(rt: HostRuntime) -> Result<(), Fail> {
     )
 }
 
-// The last number's judgement waits until that of the first has begun, for at most ten seconds, and the first one's takes a second. The
-// owner begins with the last number. So a worker judges the first one, and the owner has to sleep for it.
+// The last number's judgement waits until that of the first has begun, for at most a minute, and the first one's takes until all other
+// threads sleep. The owner begins with the last number. So a worker judges the first one, and the owner has to sleep for it.
 #[derive(Drop)]
 struct Slow<'a> {
     rt: &'a HostRuntime,
@@ -456,12 +456,14 @@ impl Gate for Slow<'_> {
     fn before_judge(&self, k: u64) {
         if k == FIRST {
             self.begun.store(1, Ordering::SeqCst);
-            thread::sleep(self.rt, Duration::from_millis(1000));
+            if was_busy(self.rt) {
+                self.failed.store(1, Ordering::SeqCst);
+            }
         }
         if k != self.last {
             return;
         }
-        for _turn in 0..10_000u64 {
+        for _turn in 0..HELD {
             if self.begun.load(Ordering::SeqCst) == 1 {
                 return;
             }

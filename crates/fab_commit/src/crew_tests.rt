@@ -3,7 +3,7 @@
 
 use crate::beside_tests::{STAGE, Silent, Together, WORKERS, random, random_hubs, random_net};
 use crate::end_tests::{Maker, ended, random_end};
-use crate::in_time::in_time;
+use crate::in_time::{HELD, in_time};
 use crate::tests::{Pace, annealer, read_setting};
 use crate::world_tests::ARCH;
 use fab_board::{Gate, NoGate};
@@ -196,9 +196,9 @@ fn words_are_asked_for_once_for_each_judgement(rt: HostRuntime) -> Result<(), Fa
     )
 }
 
-// Waits until the count is so high, for at most ten seconds; then the test has failed, and nothing is waited for any more.
+// Waits until the count is at least `wanted`, for at most a minute; then the test has failed, and nothing is waited for any more.
 pub(crate) fn hold(rt: &HostRuntime, count: &AtomicU64, wanted: u64, failed: &AtomicU64) {
-    for _turn in 0..10_000u64 {
+    for _turn in 0..HELD {
         if count.load(Ordering::SeqCst) >= wanted || failed.load(Ordering::SeqCst) != 0 {
             return;
         }
@@ -405,24 +405,31 @@ fn workers_of_a_small_batch_get_a_move_each(rt: HostRuntime) -> Result<(), Fail>
     )
 }
 
-// Where threads of this process are busy for longer in seven tenths of a second in which none has anything to do, one does not sleep. In
-// milliseconds.
-const MOST: u64 = 350;
+// In milliseconds: a span of time, and how much processor time the threads of a process at rest use in it at most. A thread that looks for
+// work all the time uses more, even on a machine with much other work.
+const SPAN: u64 = 500;
+const MOST: u64 = 100;
 
-// Lets a second pass. Whether threads of this process were busy meanwhile, behind the time for which a thread looks before it sleeps.
-fn was_busy(rt: &HostRuntime) -> bool {
-    thread::sleep(rt, Duration::from_millis(300));
-    let before = rt.process_cpu_time();
-    thread::sleep(rt, Duration::from_millis(700));
-    let after = rt.process_cpu_time();
-    match (before, after) {
-        (Ok(before), Ok(after)) => after.saturating_sub(before) > Duration::from_millis(MOST),
-        _ => true,
+// Waits until this process is at rest, for at most half a minute. Returns whether it was busy all the time: if no thread has anything to do,
+// one does not sleep.
+pub(crate) fn was_busy(rt: &HostRuntime) -> bool {
+    for _span in 0..60u64 {
+        let before = rt.process_cpu_time();
+        thread::sleep(rt, Duration::from_millis(SPAN));
+        let after = rt.process_cpu_time();
+        let is_at_rest = match (before, after) {
+            (Ok(before), Ok(after)) => after.saturating_sub(before) <= Duration::from_millis(MOST),
+            _ => false,
+        };
+        if is_at_rest {
+            return false;
+        }
     }
+    true
 }
 
-// The first judgement of the second batch takes a second. A worker makes it, since the owner begins to commit the first batch only then. So
-// the owner has to sleep for it, and so do the other workers, which have judged the third batch by then.
+// The first judgement of the second batch takes until all sleep. A worker makes it, since the owner begins to commit the first batch only
+// then. So the owner has to sleep for it, and so do the other workers, which have judged the third batch by then.
 #[derive(Drop)]
 struct Slow<'a> {
     rt: &'a HostRuntime,
@@ -480,7 +487,7 @@ fn the_owner_sleeps_and_is_woken_by_a_slow_worker(rt: HostRuntime) -> Result<(),
     )
 }
 
-// The owner takes a second before the last commit of the first batch: the crew has judged the second batch by then, and sleeps. Before the
+// Before the last commit of the first batch the owner waits until the crew sleeps, which has judged the second batch by then. Before the
 // first commit of the second batch it waits until each worker makes a judgement of the third batch, all at once. The crew sleeps at the end
 // of the first stage too.
 #[derive(Drop)]
@@ -505,14 +512,11 @@ impl Gate for Sleepy<'_> {
 
     fn before_commit(&self, k: u64) {
         let last = k.saturating_add(1);
-        if last == BATCH && was_busy(self.rt) {
+        if (last == BATCH || last == STAGE) && was_busy(self.rt) {
             self.busy.store(1, Ordering::SeqCst);
         }
         if k == BATCH {
             hold(self.rt, &self.begun, self.workers, &self.failed);
-        }
-        if last == STAGE {
-            thread::sleep(self.rt, Duration::from_millis(400));
         }
     }
 }

@@ -3,7 +3,7 @@
 ghost use Rattle.std.specs.Prelude.{All, ◌≡◌, ◌<◌, ◌≤◌, Some, IfOk, length};
 ghost use Rattle.std.specs.Thread.{IsSync};
 
-use crate::crew_tests::hold;
+use crate::crew_tests::{hold, was_busy};
 use crate::in_time::in_time;
 use fab_board::follow_crew::{beside, retire};
 use fab_board::follow_lead::{CrewParts, Lead, new_crew};
@@ -20,8 +20,9 @@ use std::time::Duration;
 // More posts than the ring of posts has slots.
 const POSTS: u64 = 70;
 
-// So many numbers are posted where some are left to the owner.
+// How many numbers are posted where some are left to the owner, and how many of them at least: it looks for this many before the ring is full.
 const NUMBERS: u64 = 200;
+const LEFT: u64 = 63;
 
 // What is posted: a number to judge.
 #[derive(Clone, Copy)]
@@ -56,8 +57,8 @@ impl<'a> Watch<'a> {
     }
 }
 
-// Counts the posts that it has followed, and answers with that count. A worker's takes a second over its first post. Contracts see nothing
-// of it.
+// Counts the posts that it has followed, and answers with that count. A worker's waits at its first post: until `LEFT` numbers were left to
+// the owner, or until all other threads sleep. Contracts see nothing of it.
 #[derive(Drop)]
 struct Counted<'a> {
     watch: &'a Watch<'a>,
@@ -108,8 +109,13 @@ impl<'a> Follow<Step, u64> for Counted<'a> {
 
     fn follow(&mut self, _post: &Step) {
         if self.is_late && self.posts == 0 {
-            self.watch.begun.fetch_add(1, Ordering::SeqCst);
-            thread::sleep(self.watch.rt, Duration::from_millis(1000));
+            let watch = self.watch;
+            watch.begun.fetch_add(1, Ordering::SeqCst);
+            if watch.is_slow {
+                hold(watch.rt, &watch.left, LEFT, &watch.failed);
+            } else if was_busy(watch.rt) {
+                watch.failed.store(1, Ordering::SeqCst);
+            }
         }
         self.posts = self.posts.saturating_add(1);
     }
@@ -195,8 +201,8 @@ fn run_ahead<S: Follow<Step, u64>, J: Naming + Boarding + Origin<S>, R: Wait>(
     hold(watch.rt, &watch.judged, POSTS / 2, &watch.failed);
 }
 
-// Posts numbers beside slow workers, and looks for each when it is due, for the later ones when workers had time to judge them. What these
-// have not judged is left to the owner.
+// Posts numbers beside slow workers, and looks for each when it is due, for the later ones when workers have judged one more. What these have
+// not judged is left to the owner.
 fn leave<S: Follow<Step, u64>, J: Naming + Boarding + Origin<S>, R: Wait>(
     rt: &R,
     owner_end: &mut OwnerEnd<S, J>,
@@ -209,10 +215,11 @@ fn leave<S: Follow<Step, u64>, J: Naming + Boarding + Origin<S>, R: Wait>(
     post_each(rt, owner_end, 0, 1);
     hold(watch.rt, &watch.begun, workers, &watch.failed);
     for number in 1..NUMBERS {
+        let one_more = watch.judged.load(Ordering::SeqCst).saturating_add(1);
         let _ = owner_end.lead.post(rt, Step { number });
         let due = number.saturating_sub(1);
         if number > NUMBERS / 2 {
-            thread::sleep(watch.rt, Duration::from_millis(5));
+            hold(watch.rt, &watch.judged, one_more, &watch.failed);
         }
         if owner_end.lead.look(rt, due, &mut owner_end.sheet) > 0 {
             watch.left.fetch_add(1, Ordering::SeqCst);
@@ -356,7 +363,7 @@ fn an_owner_waits_for_late_workers_and_outlives_its_crew(rt: HostRuntime) -> Res
     )
 }
 
-// Before a worker has begun, 63 numbers are left to the owner. After that each number is either left or answered.
+// Before a worker has begun, `LEFT` numbers are left to the owner. After that each number is either left or answered.
 #[test]
 fn what_no_worker_judges_is_left_to_the_owner(rt: HostRuntime) -> Result<(), Fail> {
     in_time(
@@ -370,7 +377,7 @@ fn what_no_worker_judges_is_left_to_the_owner(rt: HostRuntime) -> Result<(), Fai
                     "{workers} workers"
                 );
                 assert_eq!(rt; told.failed, 0, "{workers} workers");
-                assert!(rt; told.left >= 63, "{workers} workers");
+                assert!(rt; told.left >= LEFT, "{workers} workers");
                 assert!(rt; told.right > 0, "{workers} workers");
                 assert!(rt; told.right <= told.judged, "{workers} workers");
                 assert!(rt; told.taken.is_some(), "{workers} workers");

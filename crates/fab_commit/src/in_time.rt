@@ -11,6 +11,9 @@ use std::time::{Clock, Duration};
 // How long such a test may take, in milliseconds: many times what it takes on a machine at rest, since others may use this one.
 const LIMIT: u64 = 100_000;
 
+/// How long a thread is held for what a test wants to see, in milliseconds: a limit that only a test that fails comes to.
+pub(crate) const HELD: u64 = 60_000;
+
 // Ends the test as failed, unless `ended` is set within the limit.
 fn watch<R: Abort + Clock>(rt: &R, ended: &AtomicU64) {
     for _wait in 0..LIMIT {

@@ -1,5 +1,5 @@
 use crate::end_tests::Maker;
-use crate::in_time::in_time;
+use crate::in_time::{HELD, in_time};
 use crate::tests::{
     ALONE, Chosen, Clash, Pace, Setting, annealer, clashing, put_sites, read_setting, turned,
     void_case,
@@ -519,7 +519,7 @@ fn a_move_is_judged_again_behind_the_call_for_its_commit(rt: HostRuntime) -> Res
 }
 
 /// Holds the judgement of move 0 until that of move 1 is over, the commit of move 0 until a move of the next batch is
-/// judged, and the judgement of move 4 until move 1 is committed. Each is held for at most ten seconds.
+/// judged, and the judgement of move 4 until move 1 is committed. Each is held for at most a minute.
 #[derive(Drop)]
 struct Overlap<'a> {
     rt: &'a HostRuntime,
@@ -530,9 +530,9 @@ struct Overlap<'a> {
 }
 
 impl Overlap<'_> {
-    /// Waits until this is no longer 0, for at most ten seconds.
+    /// Waits until this is no longer 0, for at most a minute.
     fn hold(&self, until: &AtomicU64) {
-        for _turn in 0..10_000u64 {
+        for _turn in 0..HELD {
             if until.load(Ordering::SeqCst) != 0 {
                 return;
             }

@@ -131,17 +131,34 @@ fn words_of_a_move_are_asked_for_once_for_each_judgement(rt: HostRuntime) -> Res
     Ok(())
 }
 
-// Words that tell how many threads ask for those of moves at once. From move `from` on each that asks waits until so many as are wanted
-// do, for at most so many milliseconds; then no other waits.
+// How long a thread waits for others that must come, and then for one that must not, in milliseconds.
+const HELD: u64 = 60_000;
+const BEYOND: u64 = 200;
+
+// Words that tell how many threads ask for those of moves at the same time. From move `from` on each thread that asks waits until `least`
+// threads do, and then for one more than `most`; after that none waits.
 #[derive(Drop)]
 struct TogetherWords<'a> {
     clock: &'a HostRuntime,
     words: StreamWords,
     from: u64,
-    wanted: u64,
-    millis: u64,
+    least: u64,
+    most: u64,
     begun: &'a AtomicU64,
     over: &'a AtomicU64,
+}
+
+impl TogetherWords<'_> {
+    // Waits until more than `count` threads ask, or none waits any more, for at most `millis` milliseconds.
+    fn wait(&self, count: u64, millis: u64) {
+        for _turn in 0..millis {
+            let is_full = self.begun.load(Ordering::SeqCst) > count;
+            if is_full || self.over.load(Ordering::SeqCst) != 0 {
+                return;
+            }
+            thread::sleep(self.clock, Duration::from_millis(1));
+        }
+    }
 }
 
 impl<'a> Words for TogetherWords<'a> {
@@ -154,13 +171,8 @@ impl<'a> Words for TogetherWords<'a> {
     fn move_words(&self, k: u64) -> [u32; 4] {
         if k >= self.from && self.over.load(Ordering::SeqCst) == 0 {
             self.begun.fetch_add(1, Ordering::SeqCst);
-            for _turn in 0..self.millis {
-                let is_full = self.begun.load(Ordering::SeqCst) >= self.wanted;
-                if is_full || self.over.load(Ordering::SeqCst) != 0 {
-                    break;
-                }
-                thread::sleep(self.clock, Duration::from_millis(1));
-            }
+            self.wait(self.least.saturating_sub(1), HELD);
+            self.wait(self.most, BEYOND);
             self.over.store(1, Ordering::SeqCst);
         }
         self.words.move_words(k)
@@ -171,7 +183,7 @@ impl<'a> Words for TogetherWords<'a> {
     }
 }
 
-// How many threads ask at once for the words of moves from this one on, where so many workers help, if at most so many are waited for.
+// How many threads ask for words at the same time from move `from` on, where `helpers` workers help. At least `least` and at most `most` should.
 fn threads_from<R: AllocGlobal + Threads + Wait + Sync>(
     rt: &R,
     clock: &HostRuntime,
@@ -179,8 +191,8 @@ fn threads_from<R: AllocGlobal + Threads + Wait + Sync>(
     options: &Options,
     helpers: u64,
     from: u64,
-    wanted: u64,
-    millis: u64,
+    least: u64,
+    most: u64,
 ) -> Result<u64, RunFault> {
     let begun = AtomicU64::new(0);
     let over = AtomicU64::new(0);
@@ -188,8 +200,8 @@ fn threads_from<R: AllocGlobal + Threads + Wait + Sync>(
         clock,
         words: StreamWords::new(options.seed),
         from,
-        wanted,
-        millis,
+        least,
+        most,
         begun: &begun,
         over: &over,
     };
@@ -238,15 +250,16 @@ pub(crate) fn ring_of(net: &[u8]) -> Inputs<'_> {
     }
 }
 
-// How many moves a stage has, how many workers are asked for and help, from which move on threads are counted, and how many come at least.
-const CREWS: &[(u64, u64, u64, u64, u64)] = &[
-    (5000, 3, 3, 5000, 3),
-    (1_000_000, 4, 2, 1_000_000, 2),
-    (5000, 3, 3, 0, 1),
-    (5000, 1, 1, 5000, 1),
-    (5000, 4, 1, 5000, 1),
-    (4999, 3, 3, 4999, 1),
-    (999_999, 4, 2, 999_999, 1),
+// How many moves a stage has, how many workers are asked for and help, from which move on threads are counted, and how many come at least and
+// at most.
+const CREWS: &[(u64, u64, u64, u64, u64, u64)] = &[
+    (5000, 3, 3, 5000, 3, 4),
+    (1_000_000, 4, 2, 1_000_000, 2, 3),
+    (5000, 3, 3, 0, 1, 1),
+    (5000, 1, 1, 5000, 1, 1),
+    (5000, 4, 1, 5000, 1, 1),
+    (4999, 3, 3, 4999, 1, 1),
+    (999_999, 4, 2, 999_999, 1, 1),
 ];
 
 // Three workers judge the first batch of the frozen stage, all at once; two of four where two help. The owner may have taken moves of it
@@ -254,22 +267,16 @@ const CREWS: &[(u64, u64, u64, u64, u64)] = &[
 #[test]
 fn a_crew_judges_cold_stages(rt: HostRuntime) -> Result<(), Fail> {
     let net = ring(rt.alloc(), 1000)?;
-    for (moves, workers, helpers, from, wanted) in CREWS {
+    for (moves, workers, helpers, from, least, most) in CREWS {
         let options = Options {
             moves: Moves::Given(*moves),
             workers: *workers,
             ..TWO_STAGES
         };
-        // Where one more is not to come, a short wait for it has to do.
-        let (waited, most, millis) = match *wanted {
-            1 => (2, 1, 200),
-            2 => (4, 3, 2000),
-            _ => (3, 4, 10_000),
-        };
         let inputs = ring_of(&net);
-        let threads = threads_from(&rt, &rt, &inputs, &options, *helpers, *from, waited, millis)?;
+        let threads = threads_from(&rt, &rt, &inputs, &options, *helpers, *from, *least, *most)?;
         assert!(rt;
-            *wanted <= threads && threads <= most,
+            *least <= threads && threads <= *most,
             "{threads} threads, {helpers} of {workers} workers from move {from}"
         );
     }

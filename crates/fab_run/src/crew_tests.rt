@@ -1,5 +1,5 @@
 // The crew of a run: all its workers judge, the owner waits for a slow one, and who sleeps is woken. A gate holds what must not come first
-// for at most ten seconds; a run that hangs ends with the test's time.
+// for at most a minute; a run that hangs ends with the test's time.
 use crate::run_tests::{INPUTS, OPTIONS};
 use crate::watched_tests::{after, hold, last_shown};
 use crate::{Moves, Options};
@@ -7,7 +7,7 @@ use fab_board::{Gate, NoGate};
 use std::sync::atomic::{AtomicU64, Ordering};
 use std::test::*;
 use std::thread;
-use std::time::Duration;
+use std::time::{CpuClock, Duration};
 
 // Before a run's commit `at` the owner is held until so many judgements of the next batch have begun, and each of these until all of them
 // have: so as many threads as that judge at once, and the owner is none of them. In a batch of three, three workers get one move each.
@@ -86,8 +86,26 @@ fn all_workers_of_a_run_judge_at_once(rt: HostRuntime) -> Result<(), Fail> {
 // The batch of the tests below, whose stages have 24 moves.
 const BATCH: u64 = 8;
 
-// The first judgement of the second batch takes a second, and the owner begins to commit the first batch only then: so a worker judges it,
-// and the owner has to sleep for it. Judgements are counted by number.
+// Waits until all other threads of this process sleep: until it uses a fifth of a processor at most for half a second. If it does not for half
+// a minute, the test has failed.
+fn wait_for_rest(rt: &HostRuntime, failed: &AtomicU64) {
+    for _span in 0..60u64 {
+        let before = rt.process_cpu_time();
+        thread::sleep(rt, Duration::from_millis(500));
+        let after = rt.process_cpu_time();
+        let is_at_rest = match (before, after) {
+            (Ok(before), Ok(after)) => after.saturating_sub(before) <= Duration::from_millis(100),
+            _ => false,
+        };
+        if is_at_rest {
+            return;
+        }
+    }
+    failed.store(1, Ordering::SeqCst);
+}
+
+// The first judgement of the second batch takes until all sleep, and the owner begins to commit the first batch only then: so a worker judges
+// it, and the owner has to sleep for it. Judgements are counted by number.
 #[derive(Drop)]
 struct Slow<'a> {
     rt: &'a HostRuntime,
@@ -102,7 +120,7 @@ impl Gate for Slow<'_> {
             times.fetch_add(1, Ordering::SeqCst);
         }
         if k >= BATCH && self.begun.fetch_add(1, Ordering::SeqCst) == 0 {
-            thread::sleep(self.rt, Duration::from_millis(1000));
+            wait_for_rest(self.rt, &self.failed);
         }
     }
 
@@ -142,8 +160,8 @@ fn the_owner_sleeps_until_a_slow_judgement_is_made(rt: HostRuntime) -> Result<()
     Ok(())
 }
 
-// The owner takes so long before the second commit of a batch that the crew sleeps. Before the next batch's first commit it waits until a
-// worker has begun the batch after that. The crew sleeps at the end of the run too.
+// Before the second commit of a batch the owner waits until the crew sleeps. Before the next batch's first commit it waits until a worker has
+// begun the batch after that. The crew sleeps at the end of the run too.
 #[derive(Drop)]
 struct Sleepy<'a> {
     rt: &'a HostRuntime,
@@ -162,7 +180,7 @@ impl Gate for Sleepy<'_> {
 
     fn before_commit(&self, k: u64) {
         match k {
-            1 | 119 => thread::sleep(self.rt, Duration::from_millis(500)),
+            1 | 119 => wait_for_rest(self.rt, &self.failed),
             BATCH => hold(self.rt, &self.begun, &self.failed),
             _ => {}
         }

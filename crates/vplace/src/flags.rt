@@ -56,7 +56,7 @@ Prints two lines, `legal B blocks on a NX x NY array` and `cost C`, or one line 
 names the first fault, such as `vplace: place: P8 Missing block 3`.
 
 Example:
-  vplace check --arch small.arch --net small.net --place small.place";
+  vplace check --arch c880_ble.arch --net c880_ble.net --place c880_ble.place";
 
 // The options of `check` by name, in the order of the help.
 const CHECK_OPTIONS: [OptionRow; 3] = [

@@ -28,8 +28,8 @@ cat, are the report of the unbroken run, and the last piece writes its placement
 writes the placement, and no checkpoint.
 
 Examples:
-  vplace place --arch small.arch --net small.net --out small.place --seed 7
-  vplace place --arch small.arch --net small.net --out small.place --seed 7 --stop 100000 --save small.point";
+  vplace place --arch c880_ble.arch --net c880_ble.net --out c880.place --seed 7
+  vplace place --arch c880_ble.arch --net c880_ble.net --out c880.place --seed 7 --stop 100000 --save c880.point";
 
 const PADS: &str =
     "The locations: a line `NAME X Y SUB` fixes a block there; with a last word `free` it only starts there";

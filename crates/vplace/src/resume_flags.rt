@@ -25,8 +25,8 @@ With --stop and --save the run stops again after this many moves, counted from i
 checkpoint instead of the placement.
 
 Examples:
-  vplace resume --arch small.arch --net small.net --point small.point --out small.place
-  vplace resume --arch small.arch --net small.net --point a.point --out small.place --stop 200000 --save b.point";
+  vplace resume --arch c880_ble.arch --net c880_ble.net --point c880.point --out c880.place
+  vplace resume --arch c880_ble.arch --net c880_ble.net --point c880.point --out c880.place --stop 200000 --save later.point";
 
 // The options by name, in the order of the help.
 const OPTIONS: [OptionRow; 8] = [
