@@ -1,6 +1,6 @@
 //! Makes the stages of a run one after another, decides which of them a crew judges ahead, and reports each as it ends.
 
-ghost use Rattle.std.specs.Prelude.{◌≡◌, ℕ, ◌+◌, ◌-◌, ◌<◌, ◌≤◌, ◌++◌, true, Some, OnOk, OnErr, IfOk, IfErr, MatchOption};
+ghost use Rattle.std.specs.Prelude.{◌≡◌, ℕ, ◌+◌, ◌-◌, ◌<◌, ◌≤◌, ◌++◌, min, true, Some, OnOk, OnErr, IfOk, IfErr, MatchOption};
 ghost use Rattle.fab_sched.specs.Annealing.{IsLawful};
 ghost use Rattle.fab_commit.specs.Serial.{accepted_among, from, moves_left, stage_of};
 ghost use Rattle.fab_commit.specs.Run.Alone.{IsMade, IsMadeByTurns};
@@ -69,10 +69,17 @@ fn moves_before(stop: Option<u64>, done: u64, left: u64) -> Option<u64>
     Some(rest)
 }
 
-/// How many of so many workers find a processor beside the one of the calling thread; none if the system does not tell how many there are.
+/// How many of `workers` workers find one of `processors` processors beside the one of the calling thread.
+fn helpers_beside(workers: u64, processors: u64) -> u64
+    ensures { result ≡ min workers (processors - 1) }
+{
+    workers.min(processors.saturating_sub(1))
+}
+
+/// How many of `workers` workers find a processor beside the one of the calling thread; none if the system does not say how many there are.
 pub(crate) fn helpers_of<R: Threads>(rt: &R, workers: u64) -> u64 {
     match thread::available_parallelism(rt) {
-        Ok(processors) => workers.min(processors.get() as u64 - 1),
+        Ok(processors) => helpers_beside(workers, processors.get() as u64),
         Err(_) => 0,
     }
 }

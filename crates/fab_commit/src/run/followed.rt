@@ -435,6 +435,7 @@ fn commit_by<W: Words, G: Gate, S: Pursue, J: Naming + Boarding + Origin<S>, R: 
 pub(crate) fn post_of(state: &State, swaps: Vec<Accepted>, range: MoveRange) -> Post
     ensures swaps { result.swaps.items ≡ swaps.items }
     ensures stage { result.stage ≡ state.now.stage }
+    ensures asks { (result.first ≡ range.first) × (result.count ≡ range.moves) }
     ensures rest { (result.ended ≡ state.now.ended) × (result.done ≡ state.now.done) ×
         (result.total ≡ state.now.total) }
     ensures cost { (d : Netlist) (g : GridShape) (sites : List Site) →

@@ -55,6 +55,32 @@ fn copy_of_fixed(alloc: Global, fixed: &Fixed, blocks: usize) -> Result<Fixed, A
     Ok(copy)
 }
 
+/// The snapshot of a run that is not over, from copies of its fixed blocks and of its placement.
+fn point_with<W: Words>(
+    given: &Given<'_, W>,
+    state: &State,
+    fixed: Fixed,
+    placement: Placement,
+) -> Point
+    requires sound { IsSound (run_for W.moves given.now) state.now }
+    requires going { state.now.ended ≡ false }
+    requires fixed { (b : ℕ) → fixed_at fixed b ≡ fixed_at given.now.fixed b }
+    requires placement { placement ≡ state.now.placement }
+    ensures schedule { result.schedule ≡ given.now.schedule }
+    ensures stage { result.stage ≡ state.now.stage }
+    ensures fixed { (b : ℕ) → fixed_at result.fixed b ≡ fixed_at given.now.fixed b }
+    ensures stands { standing_at result ≡ standing_of state.now }
+    ensures lawful { IsPoint given.now.design.now given.now.grid.now result }
+{
+    Point {
+        schedule: given.schedule,
+        stage: state.stage,
+        total: state.total,
+        fixed,
+        placement,
+    }
+}
+
 /// A snapshot of a run that is not over, in the memory of `room`, a snapshot of a run with the same design, array and fixed blocks. Needs no
 /// memory.
 pub(crate) fn point_in<W: Words>(given: &Given<'_, W>, state: &State, room: Point) -> Point
@@ -74,13 +100,7 @@ pub(crate) fn point_in<W: Words>(given: &Given<'_, W>, state: &State, room: Poin
         ..
     } = room;
     placement.copy_from(&state.placement);
-    Point {
-        schedule: given.schedule,
-        stage: state.stage,
-        total: state.total,
-        fixed,
-        placement,
-    }
+    point_with(given, state, fixed, placement)
 }
 
 /// A snapshot of a run that is not over.
@@ -96,11 +116,5 @@ pub(crate) fn point_of<W: Words>(given: &Given<'_, W>, state: &State) -> Result<
     let blocks = given.design.blocks();
     let fixed = copy_of_fixed(given.alloc, &given.fixed, blocks)?;
     let placement = state.placement.copy()?;
-    Ok(Point {
-        schedule: given.schedule,
-        stage: state.stage,
-        total: state.total,
-        fixed,
-        placement,
-    })
+    Ok(point_with(given, state, fixed, placement))
 }
