@@ -408,6 +408,7 @@ fn workers_of_a_small_batch_get_a_move_each(rt: HostRuntime) -> Result<(), Fail>
 // In milliseconds: a span of time, and how much processor time the threads of a process at rest use in it at most. A thread that looks for
 // work all the time uses more, even on a machine with much other work.
 const SPAN: u64 = 500;
+
 const MOST: u64 = 100;
 
 // Waits until this process is at rest, for at most half a minute. Returns whether it was busy all the time: if no thread has anything to do,

@@ -22,6 +22,7 @@ const POSTS: u64 = 70;
 
 // How many numbers are posted where some are left to the owner, and how many of them at least: it looks for this many before the ring is full.
 const NUMBERS: u64 = 200;
+
 const LEFT: u64 = 63;
 
 // What is posted: a number to judge.

@@ -11,11 +11,10 @@ use Rattle.fab_run.proofs.Pieces.{from_still}
 -- the memory serves the same run later, too
 pub room_later : {W : Type 0} (a b : AnnealOf W) (room : Option Point) → IsSameRun a b → IsRoomFor a room → IsRoomFor b room
 room_later a b None same h = tt
-room_later a b (Some q) same h =
-    (
-      subst (λ d. IsPoint d b.grid q) (sym same.design) (subst (λ g. IsPoint a.design g q) (sym same.grid) h.0),
-      λ k. h.1 k ∙ ap (λ f. fixed_at f k) (sym same.fixed),
-    )
+room_later a b (Some q) same h = (
+  subst (λ d. IsPoint d b.grid q) (sym same.design) (subst (λ g. IsPoint a.design g q) (sym same.grid) h.0),
+  λ k. h.1 k ∙ ap (λ f. fixed_at f k) (sym same.fixed),
+)
 
 -- a piece without a stop ends with the run
 no_stop : (r : Run) (x : Standing) (stop : Option ℕ) (n : ℕ) → stop ≡ None → IsPiece r x stop n → (from r x n).heat ≡ None

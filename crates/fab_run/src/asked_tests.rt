@@ -133,6 +133,7 @@ fn words_of_a_move_are_asked_for_once_for_each_judgement(rt: HostRuntime) -> Res
 
 // How long a thread waits for others that must come, and then for one that must not, in milliseconds.
 const HELD: u64 = 60_000;
+
 const BEYOND: u64 = 200;
 
 // Words that tell how many threads ask for those of moves at the same time. From move `from` on each thread that asks waits until `least`
