@@ -2,7 +2,6 @@
 import os
 import re
 import shutil
-import subprocess
 
 ROOT = os.path.dirname(os.path.dirname(os.path.dirname(os.path.realpath(__file__))))
 FOLDERS = ("must-fail", "further-edits")
@@ -117,9 +116,7 @@ def shown(edit):
 
 
 def copy_to(copy):
-    """Copies the checkout as it is, without what .gitignore leaves out: a checkout's out/ folders take gigabytes."""
-    listed = ["git", "ls-files", "-z", "--cached", "--others", "--exclude-standard"]
-    for name in subprocess.run(listed, cwd=ROOT, check=True, stdout=subprocess.PIPE).stdout.decode().split("\0"):
-        if name and os.path.lexists(f"{ROOT}/{name}"):
-            os.makedirs(os.path.dirname(f"{copy}/{name}"), exist_ok=True)
-            shutil.copy2(f"{ROOT}/{name}", f"{copy}/{name}", follow_symlinks=False)
+    """Copies the crates as they are, without their edits and their out/ folders, which take gigabytes."""
+    shutil.copytree(f"{ROOT}/crates", f"{copy}/crates", symlinks=True, ignore=shutil.ignore_patterns("out", *FOLDERS))
+    for name in ("crates.txt", "HANDLES"):
+        shutil.copy2(f"{ROOT}/{name}", copy)
