@@ -9,6 +9,7 @@ ITEM = re.compile(r"(fn|struct|enum|impl|trait|type|const|static) (\S+): (.*)")
 # Errors that say no more than that a goal or a call which a proof file names is gone.
 OF_NAMES = re.compile(r"can be named from here|is not in scope|unknown name|not found|has no `[^`]+`|no field")
 
+OF_OTHERS = re.compile(r"(no proof: |not proved$)?(it (calls|waits) .*)?$")
 GONE_GOAL = ".Goals` has no"
 
 
@@ -75,7 +76,7 @@ class Outcome:
             return Refusal("goal", f"`{(false or [goals[0][0]])[0]}` of {name}")
         if errors:
             return Refusal("proof" if meant else "name", f"of {name}: {(meant or errors)[0]}")
-        rest = [it for it in re.split(r"; (?=it |`search`)", state) if not re.match(r"(no proof: |not proved$)?(it (calls|waits) .*)?$", it)]
+        rest = [it for it in re.split(r"; (?=it |`search`)", state) if not OF_OTHERS.match(it)]
         if not rest or kind != "fn" and "waits for" in state:
             return None
         goal = re.search(r"did not prove `([^`]+)`", state)

@@ -113,7 +113,8 @@ class Trial:
         with self.turn:
             if self.stopped:
                 return None
-            run = subprocess.Popen(words, cwd=f"{copy}/crates/{crate}", stdout=subprocess.PIPE, stderr=subprocess.STDOUT, start_new_session=True)
+            place = f"{copy}/crates/{crate}"
+            run = subprocess.Popen(words, cwd=place, stdout=subprocess.PIPE, stderr=subprocess.STDOUT, start_new_session=True)
             self.checks[copy] = run
         lines = run.communicate()[0].decode("utf-8", "replace").splitlines()
         return None if self.stopped else Outcome(run.returncode, lines)
@@ -224,8 +225,8 @@ def write(path, text):
 
 def line_of(entry):
     """Returns the line that is printed for an edit."""
-    ways = {"goal": "refused by the goal", "proof": "refused by the proof", "type": "REFUSED BY A TYPE:", "name": "REFUSED FOR A NAME ALONE, in the proof"}
-    ways.update(stays="NOT REFUSED:", bad="BAD EDIT:")
+    ways = {"goal": "refused by the goal", "proof": "refused by the proof", "stays": "NOT REFUSED:", "bad": "BAD EDIT:"}
+    ways.update(type="REFUSED BY A TYPE:", name="REFUSED FOR A NAME ALONE, in the proof")
     return f"{entry['edit']}: {ways[entry['outcome']]} {entry['why'][:240]}"
 
 
