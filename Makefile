@@ -18,7 +18,8 @@ test:
 # python3; the many odd texts want REFERENCE=FOLDER, the folder of another placer (tests/README.md). What cannot be tried is said.
 hostile: program
 	@status=0; sh tests/hostile/run --long crates/vplace/out/vplace || status=1; \
-	sh tests/refusals/run --long crates/vplace/out/vplace || status=1; exit $$status
+	sh tests/refusals/run --long crates/vplace/out/vplace || status=1; \
+	tests/refusals/growths --long || status=1; exit $$status
 
 # Tries the further wrong bodies, which the gate leaves out because they take as long as everything else. Run this before a contract
 # changes.
