@@ -18,7 +18,8 @@ test:
 # python3; the many odd texts want REFERENCE=FOLDER, the folder of another placer (tests/README.md). What cannot be tried is said.
 hostile: program
 	@status=0; sh tests/hostile/run --long crates/vplace/out/vplace || status=1; \
-	sh tests/refusals/run --long crates/vplace/out/vplace || status=1; exit $$status
+	sh tests/refusals/run --long crates/vplace/out/vplace || status=1; \
+	tests/refusals/growths --long || status=1; exit $$status
 
 # Tries all planted bugs: those of must-fail, which `make test` tries too, and those of further-edits. The prover must reject each. The last
 # line counts them. What was tried is kept in out/edits, so a second call goes on where the first ended.
