@@ -187,6 +187,8 @@ def main():
         refuse_several_drivers(module, words)
         pads = pads_of(module, words)
         blocks = packed(module, *cells_of(module, asked.inputs))
+        if not pads[0] and not pads[1] and not blocks:
+            raise Fault("no pad and no logic is left: is the top module a test bench? TOP=NAME of flow.sh places another")
         title = word_of(asked.name.rpartition("/")[2])
         with open(f"{asked.name}.net", "w", **bytes_kept) as file:
             write_net(file, title, pads, blocks, words, asked.inputs)

@@ -147,8 +147,16 @@ done
 a_second=$((made * 1000 / taken))
 [ "$a_second" -gt 0 ] || a_second=1
 
-factor=0.9
-number=$(stages "$first" "$last" $factor)
+# Above 15,000 blocks the stages that are too hot or too cold to gain much are many, and `adaptive` passes them fast; how many it makes, only a
+# run says, and its moves change that a little.
+if [ "$blocks" -le 15000 ]; then
+    factor=0.9
+    number=$(stages "$first" "$last" $factor)
+else
+    factor=adaptive
+    run --init-t "$first" --exit-t "$last" --alpha-t adaptive --moves $((2 * blocks)) "$@"
+    number=$(awk -v moves=$((2 * blocks)) 'END { print $NF / moves }' "$scratch/report")
+fi
 in_all=$((by_default * $(stages 100 0.01 0.8)))
 [ "$seconds" = - ] || in_all=$((seconds * a_second - empty * a_second / 1000))
 moves=$((in_all / number))
