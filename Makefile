@@ -3,8 +3,9 @@
 # Where `make install` puts the program. What is in DESTDIR stands before it, for packages.
 PREFIX = /usr/local
 DESTDIR =
-# The Verilog files that `make flow` places; without any, the two designs of examples/from_verilog.
+# The Verilog files that `make flow` places; without any, the two designs of examples/from_verilog. The name of one file may have blanks.
 V =
+export V
 
 .PHONY: test hostile edits place bench program flow install uninstall
 
@@ -43,9 +44,9 @@ bench: program
 program:
 	@tests/program
 
-# Places designs from their Verilog: examples/from_verilog/README.md.
+# Places designs from their Verilog: examples/from_verilog/README.md has the other variables.
 flow:
-	@PATH=$(CURDIR)/crates/vplace/out:$$PATH $(MAKE) --no-print-directory -s -C examples/from_verilog $(if $(V),V='$(abspath $(V))')
+	@V="$$V" OUT=examples/from_verilog/out PATH="$(CURDIR)/crates/vplace/out:$$PATH" sh examples/from_verilog/flow.sh
 
 # Installs the program that `make program` built, a manual page, and completions for bash, zsh and fish.
 install:

@@ -1,17 +1,22 @@
 #!/usr/bin/env python3
 """Packs a circuit of k-input tables and flip-flops into logic blocks of one table and one flip-flop, as VPR 4.30's files show them.
 
-The circuit is what yosys writes with `write_json` after `abc -lut K`, with flip-flops of the kind $_DFF_P_ alone. A table and a flip-flop
-share a block where the flip-flop is all that reads the table. Any other table, and any other flip-flop, has a block of its own. Each bit of
-a port is a pad. The nets of clocks are global. README.md says how names are written.
+The circuit is what yosys writes with `write_json` after `abc -lut K`, or a mapped circuit in BLIF, as ABC and VPR's front ends write it, which
+yosys reads. A table and a flip-flop share a block where the flip-flop is all that reads the table. Any other table, and any other flip-flop,
+has a block of its own. Each bit of a port is a pad. The nets of clocks are global. README.md says how names are written.
 """
 import argparse
 import json
+import os
 import re
+import subprocess
 import sys
+import tempfile
 
 # Words that pack.py begins names with; a name of the circuit that begins so has its colon written as %3A.
 OUT, CONSTANT = "out:", "constant:"
+# The kinds of flip-flops. Those of a BLIF may have a falling clock, or none.
+FLOPS = ("$_DFF_P_", "$_DFF_N_", "$_FF_")
 # What a word of a netlist cannot hold: `#`, blanks and line ends. The escape sign itself and backslashes are written otherwise too.
 ODD = re.compile(r"[\x00-\x20\x7f#%\\]")
 
@@ -67,6 +72,35 @@ def words_by_net(module):
     return words
 
 
+def circuit_of_blif(path):
+    """A circuit in BLIF, with the tables that it has."""
+    with tempfile.TemporaryDirectory() as folder:
+        # The name may hold what is no word of yosys.
+        os.symlink(os.path.abspath(path), f"{folder}/circuit.blif")
+        steps = f"read_blif {folder}/circuit.blif; hierarchy -auto-top; flatten; simplemap t:$lut %n; opt_clean; write_json {folder}/circuit.json"
+        try:
+            subprocess.run(["yosys", "-q", "-p", steps], check=True)
+        except (OSError, subprocess.CalledProcessError) as fault:
+            raise Fault("yosys is missing here, or does not read it") from fault
+        return circuit_of_json(f"{folder}/circuit.json")
+
+
+def circuit_of_json(path):
+    # Bytes that are no UTF-8 come out as they came in.
+    with open(path, encoding="utf-8", errors="surrogateescape") as file:
+        return json.load(file)
+
+
+def refuse_several_drivers(module, words):
+    """Of several cells that drive a net only one would be kept."""
+    driven = {it for port in module["ports"].values() if port["direction"] == "input" for it in port["bits"]}
+    for cell in module["cells"].values():
+        for bit in cell["connections"].get("Y", []) + cell["connections"].get("Q", []):
+            if bit in driven:
+                raise Fault(f"the net {words.get(bit, bit)} has two drivers")
+            driven.add(bit)
+
+
 def cells_of(module, most):
     """The inputs of each table by its output, and flip-flops as (data, clock, output)."""
     tables, flops = {}, []
@@ -74,10 +108,11 @@ def cells_of(module, most):
         pins = cell["connections"]
         if cell["type"] == "$lut" and len(pins["A"]) <= most:
             tables[pins["Y"][0]] = pins["A"]
-        elif cell["type"] == "$_DFF_P_":
-            flops.append((pins["D"][0], pins["C"][0], pins["Q"][0]))
+        elif cell["type"] in FLOPS:
+            flops.append((pins["D"][0], pins.get("C", [None])[0], pins["Q"][0]))
         else:
-            raise Fault(f"the cell {word_of(name)} is a {cell['type']}: no table of {most} inputs and no flip-flop $_DFF_P_")
+            wide = f" of {len(pins['A'])} inputs" if cell["type"] == "$lut" else ""
+            raise Fault(f"the cell {word_of(name)} is a {cell['type']}{wide}: no table of {most} inputs and no flip-flop $_DFF_P_")
     return tables, flops
 
 
@@ -98,7 +133,7 @@ def pads_of(module, words):
 
 def packed(module, tables, flops):
     """The logic blocks: the nets of a table's inputs (those of a flip-flop's data where it has no table), clock or None, and output."""
-    readers = {}
+    readers = {None: 0}
     ends = [it for port in module["ports"].values() if port["direction"] == "output" for it in port["bits"]]
     for net in [*ends, *(it for inputs in tables.values() for it in inputs), *(it for flop in flops for it in flop[:2])]:
         readers[net] = readers.get(net, 0) + 1
@@ -139,20 +174,21 @@ def write_arch(file, title, most, pads):
 
 
 def main():
-    asked = argparse.ArgumentParser(description="Packs the circuit of a JSON file of yosys, and writes NAME.net and NAME.arch.")
-    asked.add_argument("circuit", metavar="CIRCUIT.json")
+    asked = argparse.ArgumentParser(description="Packs the circuit of a JSON file of yosys or of a BLIF file, and writes NAME.net and NAME.arch.")
+    asked.add_argument("circuit", metavar="CIRCUIT.json|CIRCUIT.blif")
     asked.add_argument("name", metavar="NAME")
     asked.add_argument("--inputs", type=int, default=4, metavar="K", help="the most inputs that a table has [4]")
     asked.add_argument("--pads", type=int, default=2, metavar="N", help="the pads at each position of the edge [2]")
     asked = asked.parse_args()
-    # Bytes that are no UTF-8 come out as they came in.
     bytes_kept = {"encoding": "utf-8", "errors": "surrogateescape"}
     try:
-        with open(asked.circuit, **bytes_kept) as file:
-            module = top_of(json.load(file))
+        module = top_of(circuit_of_blif(asked.circuit) if asked.circuit.endswith(".blif") else circuit_of_json(asked.circuit))
         words = words_by_net(module)
+        refuse_several_drivers(module, words)
         pads = pads_of(module, words)
         blocks = packed(module, *cells_of(module, asked.inputs))
+        if not pads[0] and not pads[1] and not blocks:
+            raise Fault("no pad and no logic is left: is the top module a test bench? TOP=NAME of flow.sh places another")
         title = word_of(asked.name.rpartition("/")[2])
         with open(f"{asked.name}.net", "w", **bytes_kept) as file:
             write_net(file, title, pads, blocks, words, asked.inputs)

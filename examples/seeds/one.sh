@@ -2,52 +2,27 @@
 # Places a design with one seed, in pieces, and prints the seed, the cost and the placement's file:
 #     sh seeds/one.sh SEED ARCH NET [OPTION OF vplace place ..]
 # Each piece makes PIECE moves and leaves a checkpoint. Begun again after a kill, this goes on from the last piece that is whole. What it
-# makes is in OUT/NAME-TAG, for NAME.net; other files or options give another tag, so that no old answer is taken for a new one.
+# makes is in OUT/NAME-TAG, as ../pieces.sh says.
 set -u
 export LC_ALL=C
-
-fail() {
-    echo "one.sh: $*" >&2
-    exit 2
-}
+# shellcheck disable=SC2034
+script=one.sh
+# shellcheck source=../pieces.sh
+. "$(dirname -- "$0")/../pieces.sh"
 
 [ $# -ge 3 ] || fail 'what it takes: SEED ARCH NET [OPTION OF vplace place ..]'
 seed=$1 arch=$2 net=$3
 shift 3
 piece=${PIECE:-20000000}
-case $seed in '' | *[!0-9]*) fail "no seed: '$seed'" ;; esac
-case $piece in '' | 0* | *[!0-9]*) fail "no number of moves from 1 on: PIECE=$piece" ;; esac
-for file in "$arch" "$net"; do [ -r "$file" ] || fail "cannot read $file"; done
-command -v flock > /dev/null || fail 'flock is missing here: it is in the package util-linux'
-
-# Everything that an answer depends on: the options, and the bytes of each file.
-ingredients() {
-    cat -- "$arch" "$net"
-    for word in "$@"; do
-        printf '%s\n' "$word"
-        if [ -f "${word#--pads=}" ]; then cat -- "${word#--pads=}"; fi
-    done
-}
-
-tag=$(ingredients "$@" | cksum | cut -d ' ' -f 1)
-name=${net##*/}
-folder=${OUT:-out}/${name%.net}-$tag
+is_number "$seed" || fail "no seed: '$seed'"
+is_positive "$piece" || fail "no number of moves from 1 on: PIECE=$piece"
+take_folder "$@"
 base=$folder/seed$seed
-mkdir -p "$folder" || exit 4
 
 # A vplace that outlives a killed script holds the lock until it ends, so no two write to one file.
 exec 9> "$base.lock" || exit 4
 flock -n 9 || echo "one.sh: seed $seed is being placed: waiting for that" >&2
 flock 9 || exit 4
-
-is_over() {
-    tail -n 1 "$1" 2> /dev/null | grep -q '^final cost'
-}
-
-# How many moves of the run were made up to a checkpoint, and those of a piece.
-next_stop() {
-    awk -v piece="$piece" '$1 == "schedule" { moves = $5 } $1 == "stage" { printf "%.0f\n", $2 * moves + $4 + piece }' "$1"
-}
 
 # Makes piece number `$1`; the words after it are those of `vplace place`. The piece is whole when its report has its name: its checkpoint
 # is on the disk by then.
@@ -58,7 +33,7 @@ make_piece() {
     if [ "$number" -eq 1 ]; then
         vplace place --arch "$arch" --net "$net" --out "$base.place" --seed "$seed" --workers 1 --stop "$piece" --save "$after" "$@"
     else
-        vplace resume --arch "$arch" --net "$net" --point "$before" --out "$base.place" --workers 1 --stop "$(next_stop "$before")" --save "$after"
+        vplace resume --arch "$arch" --net "$net" --point "$before" --out "$base.place" --workers 1 --stop $(($(moves_made "$before") + piece)) --save "$after"
     fi > "$base.part" && sync "$base.part" && mv "$base.part" "$base.piece$number" && rm -f "$before"
 }
 
