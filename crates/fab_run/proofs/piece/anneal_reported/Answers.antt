@@ -25,7 +25,7 @@ returns-in_err-costs-clause-short g c =
     let p = piece_of stream_moves c.args.anneal c.args.piece.now.head.items c.args.piece.now.pace.stop in
     let old = g.W.Sink.contents c.args.report.now in
     let new = g.W.Sink.contents c.write_head.new.report in
-    let e = err_from_is_err_and c.from_residual.result c.from_residual.ensures.1 in
+    let e = err_from_is_err_and c.from_residual-in_err-costs.result c.from_residual-in_err-costs.ensures.1 in
     rw (e.1, e.2) (λ q. short_head p old new (subst (λ l. IsCut l old new) c.deref.ensures.value (c.in_err-costs.ensures.short q)))
 
 pub returns-in_err-anneal_all-clause-cut : goal.returns-in_err-anneal_all-clause-cut

@@ -1,5 +1,6 @@
-use Rattle.std.proofs.Common.{◌∷◌, rules}
+use Rattle.std.proofs.Common.{◌∷◌, rules, subst, sym}
 use Rattle.std.proofs.lemmas.Result.{err_from_is_err_and}
+use Rattle.fab_text.specs.FirstFault.{TookNoFault}
 use Rattle.fab_text.specs.Shown.{shown}
 use Rattle.fab_run.specs.PointFaults.{fixed_fault}
 use Rattle.fab_run.proofs.PointParts.{taking_fails, took, took_none}
@@ -32,7 +33,13 @@ returns-in_err-named-clause-memory c =
     search (rules, fact)
 
 pub returns-in_err-line-clause-memory : goal.returns-in_err-line-clause-memory
-returns-in_err-line-clause-memory c = ?
+returns-in_err-line-clause-memory c =
+    let p = err_from_is_err_and c.from_residual-in_err-line.result c.from_residual-in_err-line.ensures.1 in
+    let v = c.args.version in
+    let d = c.args.design.now in
+    let all = c.args.left.now in
+    let here = c.names.invariant in
+    rw (p.1, p.2) (λ memory. subst (TookNoFault (fixed_fault v d) all) (sym (c.in_err-line.ensures.stays memory)) (took (fixed_fault v d) c.args.count all here.before c.names.left c.names.counter here.taking))
 
 pub returns-in_err-block-clause-memory : goal.returns-in_err-block-clause-memory
 returns-in_err-block-clause-memory c =
