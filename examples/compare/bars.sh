@@ -1,6 +1,6 @@
 #!/bin/sh
-# Draws a table of table.sh as SVG, by gnuplot: sh compare/bars.sh TABLE > FILE.svg. Each design has a bar for each architecture: its mean cost
-# over that of the first architecture.
+# Draws a table of table.sh as SVG, by gnuplot: sh compare/bars.sh TABLE > FILE.svg. Each design has a bar for each architecture: its mean
+# cost over that of the first architecture.
 set -u
 
 fail() {

@@ -60,7 +60,8 @@ for name in $designs; do
         ) > "$told" || status=1
         best=$(sed -n 's/^best: .* cost .*: //p' "$told")
         if [ -n "$best" ]; then
-            head -q -n 1 "${best%/best.place}"/seed*.report | head -n 1 | cat - "$told" | awk -v line="$line" -v name="$name" -v folder="${folder##*/}" '
+            head -q -n 1 "${best%/best.place}"/seed*.report | head -n 1 | cat - "$told" |
+                awk -v line="$line" -v name="$name" -v folder="${folder##*/}" '
                 $1 == "blocks" { blocks = $2; array = $10 "x" $12 }
                 # In ten-thousandths, as whole numbers.
                 $1 == "seed" { cost = $4; sub(/\./, "", cost); sum += cost; if (!seeds++ || cost + 0 < best) best = cost + 0 }

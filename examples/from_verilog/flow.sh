@@ -52,8 +52,8 @@ for file in "$@"; do
     base=$out/$name
     # yosys is called in the folder of the source, so that names that it makes from the file's are the same wherever the call comes from.
     case $title in -*) source=./$title ;; *) source=$title ;; esac
-    (cd -- "$(dirname -- "$file")" && yosys -q -p "tee -q -o $scratch/before ls; hierarchy -check ${top:--auto-top}; tee -q -o $scratch/after ls
-        proc; flatten; write_json $scratch/early.json" "$source") || exit 1
+    (cd -- "$(dirname -- "$file")" && yosys -q -p "tee -q -o $scratch/before ls; hierarchy -check ${top:--auto-top}
+        tee -q -o $scratch/after ls; proc; flatten; write_json $scratch/early.json" "$source") || exit 1
     python3 "$here/look.py" -- "$title" "$scratch" "$MEMORY" || exit 1
     (cd -- "$(dirname -- "$file")" && yosys -q -p "$steps; write_json $scratch/json" "$source") || exit 1
     mv "$scratch/json" "$base.json" || exit 1

@@ -34,8 +34,8 @@ is_positive "$every" || fail "no number of seconds from 1 on: EVERY=$every"
 take_folder "$@"
 base=$folder/run
 
-# How far a checkpoint is, and how long the rest takes at a number of moves a second (0: not known). With a factor the schedule says how many
-# stages follow; with `adaptive` only the run does.
+# How far a checkpoint is, and how long the rest takes at a number of moves a second (0: not known). With a factor the schedule says how
+# many stages follow; with `adaptive` only the run does.
 how_far() {
     awk -v rate="$2" '
         function minutes(seconds) {
@@ -113,7 +113,8 @@ if [ ! -f "$base.report" ]; then
         # In the background, so that a signal is answered at once. The options of workers are words.
         # shellcheck disable=SC2086
         if [ "$made" -eq 0 ]; then
-            vplace place --arch "$arch" --net "$net" --out "$base.place" --stop "$moves" --save "$base.point$next" $crew "$@" > "$base.part" &
+            vplace place --arch "$arch" --net "$net" --out "$base.place" --stop "$moves" --save "$base.point$next" $crew "$@" \
+                > "$base.part" &
         else
             vplace resume --arch "$arch" --net "$net" --point "$base.point$made" --out "$base.place" --stop $((at + moves)) \
                 --save "$base.point$next" $crew > "$base.part" &

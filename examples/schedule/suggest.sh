@@ -165,7 +165,8 @@ moves=$((in_all / number))
 
 {
     awk -v first="$first" -v share="$share" 'BEGIN { printf "first temperature %s: a stage accepts %.1f %% of its moves\n", first, share / 10000 }'
-    awk -v last="$last" -v cost="$cost" -v nets="$nets" 'BEGIN { printf "last temperature %s: 0.005 of the cost of a net, %.2f, after a short run\n", last, cost / (nets + !nets) }'
+    awk -v last="$last" -v cost="$cost" -v nets="$nets" '
+        BEGIN { printf "last temperature %s: 0.005 of the cost of a net, %.2f, after a short run\n", last, cost / (nets + !nets) }'
     awk -v number="$number" -v moves="$moves" -v a_second="$a_second" -v empty="$empty" 'BEGIN {
         printf "%d stages of %d moves, %.1f million in all; at %.1f million moves a second here some %.1f s\n", number, moves, number * moves / 1000000, a_second / 1000000, number * moves / a_second + empty / 1000
     }'
