@@ -255,6 +255,8 @@ impl Follow<Swaps, Answer> for Row {
 
     ghost answer = { λ r k x. x ≡ x };
 
+    ghost ready = { λ r. r ≡ r };
+
     fn first(&self, post: &Swaps) -> u64 {
         post.first
     }

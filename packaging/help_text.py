@@ -56,7 +56,8 @@ def help_of_text(name, text):
         elif title == "Exit status:":
             found.statuses = rows
         elif title in ("Example:", "Examples:"):
-            found.examples = [line.strip() for line in lines]
+            # A line that ends in a backslash goes on in the next one.
+            found.examples = re.split(r"(?<!\\)\n", "\n".join(line.removeprefix("  ") for line in lines))
         elif re.match(r"[A-Z][a-z ]*:$", title):
             raise SystemExit(f"help_text.py: the help of {name} has a part that is not known here: {title}")
         else:

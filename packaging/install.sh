@@ -20,6 +20,7 @@ shared() {
         ! -path '*/out/*' ! -path '*/__pycache__/*' ! -name Makefile ! -name pins
     echo examples/pieces.sh
     for kind in arch net pads place; do echo "examples/rs232_cl4.$kind"; done
+    for kind in arch net place; do echo "examples/c880_ble.$kind"; done
 }
 
 program=${1-} folder=${2-}
@@ -44,6 +45,7 @@ trap 'exit 1' HUP INT TERM
 # Everything is made before anything is installed.
 packaging/manual.py "$program" docs/USER-GUIDE.md > "$made/vplace.1" || exit
 packaging/manual.py --formats "$program" docs/USER-GUIDE.md > "$made/vplace-formats.5" || exit
+packaging/guide_page.py docs/USER-GUIDE.md > "$made/USER-GUIDE.md" || exit
 for shell in bash zsh fish; do
     packaging/completions.py "$shell" "$program" > "$made/$shell" || exit
 done
@@ -54,4 +56,5 @@ install -D -m 755 -- "$program" "$folder/bin/vplace" &&
     install -D -m 644 -- "$made/zsh" "$folder/share/zsh/site-functions/_vplace" &&
     install -D -m 644 -- "$made/fish" "$folder/share/fish/vendor_completions.d/vplace.fish" &&
     shared | while read -r name; do install -D -m 644 -- "$name" "$folder/share/vplace/${name#*/}" || exit; done &&
+    install -m 644 -- "$made/USER-GUIDE.md" "$folder/share/vplace/USER-GUIDE.md" &&
     echo "installed below $folder: vplace, its manual pages, completions for bash, zsh and fish, and in share/vplace the guide and the scripts"

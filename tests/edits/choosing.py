@@ -9,19 +9,8 @@ import time
 from edits.looking import look, look_closely
 from edits.reading import compile_edits
 from edits.record import Record, lines_of_crates
-from edits.texts import FOLDERS, ROOT, edits_of, read
+from edits.texts import FOLDERS, FURTHER, ROOT, edits_of
 from edits.trying import counts_of, try_edits
-
-COMMIT = "tests/edits_commit"
-
-
-def lines_from_git(*words):
-    """Returns what git prints; None if it fails or is not there."""
-    try:
-        done = subprocess.run(["git", *words], cwd=ROOT, stdout=subprocess.PIPE, stderr=subprocess.DEVNULL)
-    except OSError:
-        return None
-    return done.stdout.decode().splitlines() if done.returncode == 0 else None
 
 
 def all_edits():
@@ -46,39 +35,18 @@ def stem(edit):
     return os.path.basename(edit)[: -len(".edit")]
 
 
-def changed_since():
-    """Returns the files below crates that changed since all edits were tried; None if that is not known."""
-    path = f"{ROOT}/{COMMIT}"
-    commit = read(path).strip() if os.path.isfile(path) else ""
-    changed = commit and lines_from_git("diff", "--name-only", commit, "--", "crates", "crates.txt")
-    return None if changed is None or not commit else set(changed)
-
-
-def plan_of_changes():
-    """Returns the edits that changed and those of crates whose sources changed, beginning at another one each day."""
-    plan, changed = all_edits(), changed_since()
-    day = datetime.date.today().toordinal()
-    for crate, edits in plan.items():
-        own = [it for it in changed or () if it.startswith(f"crates/{crate}/")]
-        first = [it for it in edits if os.path.relpath(it, ROOT) in own]
-        rest = [it for it in edits if it not in first]
-        if changed is not None and "crates.txt" not in changed and all(it.endswith(".edit") for it in own):
-            rest = []
+def plan_of_changes(record):
+    """Returns the further edits that are not known to be refused on the sources as they are, beginning at another one each day."""
+    plan, day = {}, datetime.date.today().toordinal()
+    for crate in lines_of_crates():
+        rest = [it for it in edits_of(crate, FURTHER) if not record.is_refused(crate, it)]
         begin = day * 37 % len(rest) if rest else 0
-        plan[crate] = first + rest[begin:] + rest[:begin]
+        plan[crate] = rest[begin:] + rest[:begin]
     return plan
 
 
 def jobs_of_machine():
-    return int(subprocess.run(["sh", f"{ROOT}/tests/lanes"], check=True, stdout=subprocess.PIPE).stdout)
-
-
-def note_commit():
-    """Notes that all edits were tried at this commit, if no crate differs from it."""
-    head, changed = lines_from_git("rev-parse", "HEAD"), lines_from_git("status", "--porcelain", "--", "crates", "crates.txt")
-    if head and changed == []:
-        with open(f"{ROOT}/{COMMIT}", "w", encoding="utf-8") as it:
-            it.write(f"{head[0]}\n")
+    return int(subprocess.run(["sh", f"{ROOT}/tests/tools/lanes"], check=True, stdout=subprocess.PIPE).stdout)
 
 
 def attempt(words):
@@ -90,15 +58,19 @@ def attempt(words):
     parser.add_argument("names", nargs="*")
     wish = parser.parse_args(words)
     end = time.time() + 60 * wish.minutes if wish.minutes is not None else None
-    plan = plan_of_changes() if wish.changed else chosen(set(wish.names))
+    record = Record()
+    plan = plan_of_changes(record) if wish.changed else chosen(set(wish.names))
     wanted = sum(map(len, plan.values()))
-    entries, kept = try_edits(Record(), plan, max(1, wish.jobs or jobs_of_machine()), end)
+    try:
+        entries, kept = try_edits(record, plan, max(1, wish.jobs or jobs_of_machine()), end)
+    finally:
+        # A call that is ended early lands what it tried.
+        if not wish.changed:
+            record.land(all_edits())
     left = wanted - len(entries)
     print(counts_of(entries, kept, left))
     faults = ("stays",) if wish.changed else ("stays", "bad", "name", "type")
     failed = any(it["outcome"] in faults for it in entries)
-    if not failed and not left and not wish.names and not wish.changed:
-        note_commit()
     return failed or bool(left) and not wish.changed
 
 

@@ -1,14 +1,22 @@
-"""The record of edits that were tried: out/edits/record.jsonl, which git does not keep. A later call goes on where an earlier one ended."""
+"""The record of edits that were tried. A later call goes on where an earlier one ended, on another machine too.
+
+tests/edits_record says by what each edit was refused, under a checksum; git keeps it. out/edits/record.jsonl says why, and is of this machine.
+"""
 import datetime
 import hashlib
 import json
 import os
+import re
 import subprocess
 import threading
 
-from edits.texts import ROOT, read
+from edits.texts import ROOT, read, without_layout
 
 FILE = f"{ROOT}/out/edits/record.jsonl"
+LANDED = f"{ROOT}/tests/edits_record"
+HEAD = "# Edits that the prover refused: a checksum, by what, and the file. tests/further_edits writes this.\n"
+# What says that an edit is refused. The others are to be mended, so they are tried again.
+REFUSED = ("goal", "proof")
 
 
 def lines_of_crates():
@@ -30,15 +38,15 @@ def below(crate, lines):
 
 
 def sources_of(crate):
-    """Returns the files that the proofs of a crate are made from."""
+    """Returns the files that the proofs of a crate are made from. No function rests on a test."""
     for part in ("src", "specs", "proofs"):
         for folder, folders, files in os.walk(f"{ROOT}/crates/{crate}/{part}"):
-            folders.sort()
-            yield from (f"{folder}/{it}" for it in sorted(files) if it.endswith((".rt", ".antt")))
+            folders[:] = sorted(it for it in folders if not it.endswith("tests"))
+            yield from (f"{folder}/{it}" for it in sorted(files) if re.search(r"(?<!tests)\.(rt|antt)$", it))
 
 
 class Record:
-    """What was tried, under a checksum of the edit, of the sources of its crate and of those below, and of the kit's line."""
+    """What was tried, under a checksum of the edit, of the sources of its crate and of those below without comments and layout, and of the kit's line."""
 
     def __init__(self):
         self.lines = lines_of_crates()
@@ -47,6 +55,11 @@ class Record:
         self.sums = {}
         self.guard = threading.Lock()
         self.kept = {}
+        if os.path.isfile(LANDED):
+            for line in read(LANDED).splitlines():
+                if not line.startswith("#"):
+                    key, outcome, _ = line.split(" ", 2)
+                    self.kept[key] = {"outcome": outcome, "why": "as tests/edits_record says", "seconds": 0}
         if os.path.isfile(FILE):
             for line in read(FILE).splitlines():
                 try:
@@ -59,7 +72,7 @@ class Record:
         if crate not in self.own_sums:
             sum_of = hashlib.sha256(self.lines[crate][0].encode())
             for path in sources_of(crate):
-                sum_of.update(f"\0{os.path.relpath(path, ROOT)}\0{read(path)}".encode())
+                sum_of.update(f"\0{os.path.relpath(path, ROOT)}\0{without_layout(path)}".encode())
             self.own_sums[crate] = sum_of.hexdigest()
         return self.own_sums[crate]
 
@@ -70,11 +83,15 @@ class Record:
         return self.sums[crate]
 
     def key_of(self, crate, edit):
-        return hashlib.sha256(f"{self.sum_of(crate)}\0{crate}\0{read(edit)}".encode()).hexdigest()
+        return hashlib.sha256(f"{self.sum_of(crate)}\0{crate}\0{read(edit)}".encode()).hexdigest()[:24]
 
     def find(self, crate, edit):
         """Returns the entry of an edit that was tried on these sources; None if there is none."""
         return self.kept.get(self.key_of(crate, edit))
+
+    def is_refused(self, crate, edit):
+        entry = self.find(crate, edit)
+        return entry is not None and entry["outcome"] in REFUSED
 
     def keep(self, crate, edit, entry):
         entry = dict(entry, key=self.key_of(crate, edit), date=datetime.date.today().isoformat())
@@ -83,3 +100,14 @@ class Record:
             with open(FILE, "a", encoding="utf-8") as it:
                 it.write(json.dumps(entry, ensure_ascii=False) + "\n")
             self.kept[entry["key"]] = entry
+
+    def land(self, plan):
+        """Writes for git which of these edits are refused, as far as they were tried on these sources."""
+        lines = []
+        for crate, edits in plan.items():
+            for edit in edits:
+                if self.is_refused(crate, edit):
+                    outcome = self.find(crate, edit)["outcome"]
+                    lines.append(f"{self.key_of(crate, edit)} {outcome} {os.path.relpath(edit, ROOT)}\n")
+        with open(LANDED, "w", encoding="utf-8") as it:
+            it.write(HEAD + "".join(lines))

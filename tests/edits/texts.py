@@ -4,12 +4,36 @@ import re
 import shutil
 
 ROOT = os.path.dirname(os.path.dirname(os.path.dirname(os.path.realpath(__file__))))
-FOLDERS = ("must-fail", "further-edits")
+MUST_FAIL = "must-fail"
+FURTHER = "further-edits"
+FOLDERS = (MUST_FAIL, FURTHER)
 
 
 def read(path):
     with open(path, encoding="utf-8") as it:
         return it.read()
+
+
+def without_comments(path):
+    """Returns the text of a source without its comments and without the blanks at the ends of lines."""
+    text = read(path)
+    if path.endswith(".rt"):
+        text = TOKEN.sub(lambda it: "" if it[0].startswith(("//", "/*")) else it[0], text)
+    else:
+        text = re.sub(r"(?m)^\s*--.*$", "", text)
+    return "\n".join(it.rstrip() for it in text.splitlines() if it.strip())
+
+
+def without_layout(path):
+    """Returns the text of a source without its comments and without its layout: blanks, ends of lines, a proof's last semicolon."""
+    text = without_comments(path)
+    if path.endswith(".antt"):
+        return " ".join(text.split()).replace("; }", " }")
+    parts, at = [], 0
+    for it in TOKEN.finditer(text):
+        parts += [" ".join(text[at : it.start()].split()), it[0]]
+        at = it.end()
+    return "\0".join(parts + [" ".join(text[at:].split())])
 
 
 def blank(it):

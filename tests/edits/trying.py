@@ -12,6 +12,7 @@ import time
 
 from edits.outcomes import Outcome
 from edits.places import Place, groups_of
+from edits.record import REFUSED
 from edits.texts import ROOT, Unfit, applied, copy_to, pairs_of, read, shown
 
 # At most this many edits are in one check: a check that is cut off loses what it found.
@@ -121,8 +122,7 @@ class Trial:
 
     def tell(self, crate, edit, kind, why, seconds):
         entry = {"edit": shown(edit), "outcome": kind, "why": why, "seconds": round(seconds, 1)}
-        # The others are to be mended, so they are tried again.
-        if kind in ("goal", "proof", "stays"):
+        if kind in (*REFUSED, "stays"):
             self.record.keep(crate, edit, entry)
         with self.turn:
             self.told.append(entry)

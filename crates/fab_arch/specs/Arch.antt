@@ -14,12 +14,12 @@ use Rattle.fab_arch.specs.declared.architecture.PinKind.TheVariants.{Reads, Driv
 use Rattle.fab_arch.specs.declared.fault.ArchFault.{ArchFault}
 use Rattle.fab_arch.specs.declared.fault.ArchFault.TheVariants.{NoIoRat, RepeatedIoRat, BadNumber, BadPinLine, NoPins, TooLarge, NoMemory}
 
--- whether a word is there and is this one
+-- whether there is a word and it is `name`
 abbrev pub is_word : Option (List ℕ) → List ℕ → Bool
 is_word None name = false
 is_word (Some word) name = bytes_eq word name
 
--- whether a line begins with this word
+-- whether a line begins with the word `name`
 abbrev pub begins_with : List ℕ → TextLine → Bool
 begins_with name l = is_word (slice_get l.words 0) name
 
@@ -36,18 +36,18 @@ is_outpin l = begins_with (codes "outpin") l
 abbrev pub is_pin : TextLine → Bool
 is_pin l = is_inpin l || is_outpin l
 
--- an inpin reads its net, an outpin drives it
+-- what a pin's line declares: an `inpin` reads its net, an `outpin` drives it
 abbrev pub kind_of : TextLine → PinKind
 kind_of l = if is_inpin l then Reads else Drives
 
--- a whole number within limits, or what is wrong with it on line n
+-- a whole number from `low` to `high`, or what is wrong with it on line n
 abbrev pub within : ℕ → ℕ → ℕ → Result ℕ NumFault → Result ℕ ArchFault
 within n low high (Ok value) = if nat_lt value low then Err (BadNumber n) else if nat_lt high value then Err (TooLarge n) else Ok value
 within n low high (Err num.BadDigit) = Err (BadNumber n)
 within n low high (Err num.TooManyPlaces) = Err (BadNumber n)
 within n low high (Err num.TooLarge) = Err (TooLarge n)
 
--- the number that a word of line n writes, from low to high, or what is wrong
+-- the number from `low` to `high` that a word of line n writes, or what is wrong
 abbrev pub number_of : ℕ → ℕ → ℕ → Option (List ℕ) → Result ℕ ArchFault
 number_of n low high None = Err (BadNumber n)
 number_of n low high (Some word) = within n low high (decimal_of word 0)
@@ -64,16 +64,16 @@ abbrev pub without_global : List (List ℕ) → List (List ℕ)
 without_global [] = []
 without_global (w ∷ ws) = if bytes_eq w (codes "global") then ws else w ∷ ws
 
--- sides, and at least one
+-- whether there is at least one word and all of them are sides
 abbrev pub are_sides : List (List ℕ) → Bool
 are_sides ws = list_all is_side ws && not (length ws == 0)
 
--- the fault of a pin's line whose class was read so
+-- the fault of a pin's line, if reading its class gave this result
 abbrev pub pin_fault_from : TextLine → Result ℕ ArchFault → Option ArchFault
 pin_fault_from l (Err e) = Some e
 pin_fault_from l (Ok class) = if are_sides (without_global (drop 3 l.words)) then None else Some (BadPinLine l.number)
 
--- what is wrong with a pin's line, whatever lines come before it
+-- what is wrong with a pin's line, apart from what the lines before it mean
 unfoldable pub pin_fault : TextLine → Option ArchFault
 pin_fault l = if is_word (slice_get l.words 1) (codes "class:") then pin_fault_from l (number_of l.number 0 65535 (slice_get l.words 2)) else Some (BadPinLine l.number)
 
@@ -82,7 +82,7 @@ abbrev pub err_of : {A : Type 0} → Result A ArchFault → Option ArchFault
 err_of (Ok value) = None
 err_of (Err e) = Some e
 
--- the first fault of a line after lines with `pins` pins, with or without an `io_rat` line among them
+-- the first fault of a line. The lines before it declare `pins` pins and, if `has_ratio`, the pads at each position
 unfoldable pub line_fault : Bool → ℕ → TextLine → Option ArchFault
 line_fault has_ratio pins l =
     if is_io_rat l then (if has_ratio then Some (RepeatedIoRat l.number) else err_of (ratio_of l))
@@ -97,7 +97,7 @@ fault_of before l = line_fault (list_any is_io_rat before) (count_by is_pin befo
 abbrev pub text_fault : List TextLine → Option ArchFault
 text_fault ls = if not (list_any is_io_rat ls) then Some NoIoRat else if count_by is_pin ls == 0 then Some NoPins else None
 
--- the same, by the pads at each position that the lines give, if they do, and by how many pins they declare
+-- the same from two values: the pads at each position, if the lines give them, and how many pins the lines declare
 abbrev pub end_fault : Option ℕ → ℕ → Option ArchFault
 end_fault None pins = Some NoIoRat
 end_fault (Some ratio) pins = if pins == 0 then Some NoPins else None
@@ -120,8 +120,8 @@ pub record IsArch (ls : List TextLine) (ratio : ℕ) (pins : List PinKind) : Typ
   pub some : 0 < length pins
   pub few : length pins ≤ 1024
 
--- a returned fault is this one, or out of memory, which may come for any text (no contract can say that it comes
--- only where memory was really refused)
+-- a returned fault is `fault`, or out of memory. Out of memory may come for any text: no contract can say that it comes only if memory was
+-- really refused
 abbrev pub FaultIs : ArchFault → Option ArchFault → Type 0
 FaultIs NoMemory fault = Unit {0}
 FaultIs e fault = fault ≡ Some e
@@ -134,7 +134,7 @@ ratio_after before l = if is_io_rat l then result_ok (ratio_of l) else before
 abbrev pub pins_in : TextLine → List PinKind
 pins_in l = if is_pin l then kind_of l ∷ [] else []
 
--- a text's lines either mean an architecture or have a first fault, never both
+-- the lines of a text either mean an architecture or have a first fault, never both
 abbrev pub MeansOrFaults : List TextLine → Type 0
 MeansOrFaults ls =
     ((ratio : ℕ) (pins : List PinKind) → IsArch ls ratio pins → first_fault ls ≡ None)

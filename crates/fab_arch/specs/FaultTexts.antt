@@ -1,4 +1,4 @@
--- How a fault is printed (our own): its code and its name, and the line where it has one.
+-- How a fault is printed (our own): its code and its name, and the line if it has one.
 use Rattle.std.specs.Prelude.{ℕ, ◌≡◌, List, ◌++◌, decimal, codes, refl}
 use Rattle.std.specs.Fmt.{digits}
 use Rattle.fab_arch.specs.declared.fault.ArchFault.{ArchFault}

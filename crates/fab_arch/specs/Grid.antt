@@ -1,5 +1,5 @@
--- The array of sites, after the VPR manual: logic sites inside, pads around them, corners empty. The limits are our own, and that a pad may
--- take any sub of its position, with gaps.
+-- The array of sites, after the VPR manual: logic sites inside, pads around them, corners empty. Our own are the limits, and that a pad may
+-- take any sub of its position, so that there may be gaps.
 use Rattle.std.specs.Prelude.{ℕ, ◌≡◌, ◌+◌, ◌*◌, ◌<◌, ◌≤◌, Bool, if◌then◌else◌, nat_lt, nat_le, ◌&&◌, ◌==◌, List, [], ◌∷◌, ◌++◌, map, reverse, Option, Some, None, refl}
 use Rattle.std.specs.List.{range_with_len, list_any}
 use Rattle.fab_arch.specs.declared.array.Site.{Site}
@@ -46,11 +46,11 @@ is_pad_site g s = list_any (is_position s) (perimeter g) && nat_lt s.sub g.io_ra
 abbrev pub kind_at : GridShape → Site → Option SiteKind
 kind_at g s = if is_logic_site g s then Some Logic else if is_pad_site g s then Some Pad else None
 
--- there are at least so many logic sites
+-- there are at least `logic` logic sites
 abbrev pub HasLogicSites : GridShape → ℕ → Type 0
 HasLogicSites g logic = logic ≤ g.nx * g.ny
 
--- there are at least so many pad sites
+-- there are at least `pads` pad sites
 abbrev pub HasPadSites : GridShape → ℕ → Type 0
 HasPadSites g pads = pads ≤ 2 * (g.nx + g.ny) * g.io_rat
 
@@ -65,7 +65,7 @@ square n io_rat = shape n n io_rat
 abbrev pub NoSquareHolds : ℕ → ℕ → ℕ → ℕ → Type 0
 NoSquareHolds below logic pads io_rat = (n : ℕ) → 1 ≤ n → n < below → ¬ Holds (square n io_rat) logic pads
 
--- the least square array within the limits with a site for each of `logic` logic blocks and `pads` pads
+-- `g` is the smallest square array within the limits that has a site for each of `logic` logic blocks and `pads` pads
 pub record IsLeastSquare (g : GridShape) (logic pads io_rat : ℕ) : Type 0 where
   pub is_square : g ≡ square g.nx io_rat
   pub limits : AreLimits g.nx g.nx io_rat

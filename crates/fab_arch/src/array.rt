@@ -13,7 +13,7 @@ use std::marker::Model;
 pub struct Site {
     pub x: u16,
     pub y: u16,
-    /// From 0 for a pad; 0 for a logic site.
+    /// For a pad its number at its position, from 0; for a logic site 0.
     pub sub: u16,
 }
 
@@ -68,8 +68,8 @@ impl Grid {
         }
     }
 
-    /// The least square array with a site for each of `logic` logic blocks and `pads` pads. `SizeOutOfRange` if
-    /// its side would be above 1,000, or if `io_rat` is outside 1 to 64.
+    /// The smallest square array with a site for each of `logic` logic blocks and `pads` pads. Returns `SizeOutOfRange` if its side would
+    /// be above 1,000, or if `io_rat` is outside 1 to 64.
     pub fn fit(logic: usize, pads: usize, io_rat: u16) -> Result<Grid, GridFault>
         ensures least { IfOk result (λ g. IsLeastSquare g logic pads io_rat) }
         ensures fault { IfErr result (λ e.
@@ -85,7 +85,7 @@ impl Grid {
         Err(GridFault::SizeOutOfRange)
     }
 
-    /// Whether there is a site for each of `logic` logic blocks and `pads` pads. Logic blocks are checked first.
+    /// Checks that there is a site for each of `logic` logic blocks and `pads` pads. Logic blocks are checked first.
     pub fn holds(&self, logic: usize, pads: usize) -> Result<(), GridFault>
         ensures holds { IsOk result ↔ Holds self.now logic pads }
         ensures logic { (result ≡ Err TooFewLogicSites) ↔ (¬ HasLogicSites self.now logic) }
@@ -128,7 +128,7 @@ impl Grid {
         self.io_rat
     }
 
-    /// Pad position `i` in perimeter order, from 0; `None` from 2·(nx + ny) on.
+    /// Pad position `i` in perimeter order. Positions are numbered from 0; returns `None` from 2·(nx + ny) on.
     pub fn pad_at(&self, i: usize) -> Option<(u16, u16)>
         ensures { result ≡ slice_get (perimeter self.now) i }
     {
@@ -161,7 +161,7 @@ impl Grid {
     }
 }
 
-/// Position `i` in perimeter order around an array.
+/// Position `i` in perimeter order around an array of `nx` by `ny` logic sites.
 fn position_at(nx: u16, ny: u16, i: usize) -> Option<(u16, u16)>
     requires { (nx ≤ 1000) × (ny ≤ 1000) }
     ensures { (io_rat : ℕ) → result ≡ slice_get (perimeter (shape nx ny io_rat)) i }

@@ -1,4 +1,4 @@
-//! Why a text is no architecture, and why an array is not possible or too small.
+//! Why a text is not an architecture, and why an array is not possible or is too small.
 
 ghost use Rattle.std.specs.Prelude.{◌≡◌, Some};
 ghost use Rattle.fab_arch.specs.FaultTexts.{arch_fault_text, grid_fault_text};
@@ -8,7 +8,7 @@ use std::alloc::{AllocError, AllocFailed};
 use std::fmt;
 use thiserror::Error;
 
-/// Why a text is no architecture: its first fault. The number is that of the faulty line.
+/// Why a text is not an architecture: its first fault. A number is that of the faulty line.
 #[derive(Clone, Copy, Debug, PartialEq, Eq, Error)]
 pub enum ArchFault {
     /// No line gives the number of pads at each position.
@@ -19,7 +19,7 @@ pub enum ArchFault {
     BadNumber(u64),
     /// A pin's line has a wrong form.
     BadPinLine(u64),
-    /// No line gives a pin.
+    /// No line declares a pin.
     NoPins,
     /// More than 64 pads at each position, a class above 65,535, or a pin above the 1,024th.
     TooLarge(u64),

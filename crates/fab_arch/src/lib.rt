@@ -1,4 +1,4 @@
-//! Architectures: what an architecture text says, and the array of sites for the blocks.
+//! Architectures: reads an architecture text, and makes the array of sites for the blocks.
 #![tactic(auto)]
 
 pub mod architecture;

@@ -1,4 +1,4 @@
-//! Reads an architecture text: its lines one by one, and what the lines read so far mean.
+//! Reads an architecture text line by line, and keeps what the lines read so far mean.
 
 ghost use Rattle.std.specs.Prelude.{◌≡◌, ℕ, ◌++◌, ◌<◌, ◌≤◌, ◌||◌, length, map, slice_get, IfOk, IfErr, IfSome, OnOk, MatchResult, List, Some, None, is_some};
 ghost use Rattle.std.specs.Option.{option_map};
@@ -66,7 +66,7 @@ fn all_sides(words: &[&[u8]]) -> bool
     words.iter().all(|word| is_side(word))
 }
 
-/// Whether words are sides, and at least one.
+/// Whether there is at least one word and all of them are sides.
 fn are_sides(words: &[&[u8]]) -> bool
     ensures { result ≡ are_sides (map (λ w. w.now) words.now) }
 {
@@ -110,7 +110,7 @@ fn without_global<'a, 'b>(words: &'b [&'a [u8]]) -> &'b [&'a [u8]]
     }
 }
 
-/// Whether a pin's line is lawful, whatever lines come before it.
+/// Checks a pin's line, apart from what the lines before it mean.
 #[tactic(auto, unfolding(crate::specs::Arch::pin_fault))]
 fn check_pin(line: &Line) -> Result<(), ArchFault>
     ensures { pin_fault (shown line.now) ≡ err_of result }
@@ -143,7 +143,7 @@ fn ratio_of(line: &Line) -> Result<u16, ArchFault>
 }
 
 impl Seen {
-    /// Whether a line is lawful after those before it. Needs no memory, so a faulty line always gives its fault.
+    /// Checks a line that follows the lines read so far. Allocates nothing, so the fault of a faulty line is always returned.
     #[tactic(auto, unfolding(crate::specs::Arch::line_fault))]
     fn check_line(&self, line: &Line) -> Result<(), ArchFault>
         ensures { line_fault (is_some self.now.io_rat) (length self.now.pins.items)
@@ -166,7 +166,7 @@ impl Seen {
         Ok(())
     }
 
-    /// Adds what a lawful line says. Fails only if memory runs out.
+    /// Adds what a checked line means. Fails only if memory runs out.
     fn add_line(&mut self, line: &Line) -> Result<(), AllocError>
         ensures io_rat { OnOk result
             (self.new.io_rat ≡ ratio_after self.old.io_rat (shown line.now)) }
@@ -183,7 +183,8 @@ impl Seen {
         Ok(())
     }
 
-    /// The architecture that lawful lines have described. Needs no memory, so a text without a line that it needs always gives its fault.
+    /// The architecture that the checked lines mean. Allocates nothing, so if the text lacks a line that it needs, that fault is always
+    /// returned.
     fn finish(self) -> Result<Arch, ArchFault>
         requires ratio { IfSome self.io_rat (λ r. (1 ≤ r) × (r ≤ 64)) }
         requires few { length self.pins.items ≤ 1024 }
@@ -204,15 +205,14 @@ impl Seen {
     }
 }
 
-/// Reads the architecture that a text means, or returns its first fault: that of the first faulty line, else that
-/// of the whole text.
+/// Reads the architecture that a text means, or returns its first fault: that of the first faulty line, or else that of the whole text.
 pub fn read_arch(alloc: Global, bytes: &[u8]) -> Result<Arch, ArchFault>
-    // What is read is what the lines mean.
+    // If an architecture is returned, the lines mean it.
     ensures found { IfOk result (λ a. IsArch (lines bytes.now) a.io_rat a.pins.items) }
-    // What they mean is read, unless memory runs out.
+    // If the lines mean an architecture, it is returned, unless memory runs out.
     ensures only { (io_rat : ℕ) (pins : List PinKind) → IsArch (lines bytes.now) io_rat pins →
         MatchResult result (λ a. (a.io_rat ≡ io_rat) × (a.pins.items ≡ pins)) (λ e. e ≡ NoMemory) }
-    // An error is the first fault, or out of memory.
+    // An error is the first fault, or that memory ran out.
     ensures fault { IfErr result (λ e. FaultIs e (first_fault (lines bytes.now))) }
 {
     let mut left = Lines::new(alloc, bytes);

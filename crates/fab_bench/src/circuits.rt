@@ -1,4 +1,4 @@
-//! Circuits that are grown from a seed: tables of four inputs and one output, most of whose inputs come from blocks nearby, and pads.
+//! Circuits that are grown from a seed. They have pads, and tables of four inputs and one output. Most inputs come from nearby blocks.
 
 use crate::draws::Draws;
 use fab_text::push_number;
@@ -16,15 +16,15 @@ const DOUBLINGS: u32 = 6;
 struct Plan {
     logic: u32,
     side: u32,
-    /// How many pads give inputs, and as many take outputs.
+    /// The number of input pads, which is also the number of output pads.
     pads: u32,
-    /// One input of so many hangs on a hub, which is one of the first pads.
+    /// On average, one of `hubs` inputs hangs on a hub, which is one of the first pads.
     hubs: u32,
 }
 
 const HUBS: u32 = 12;
 
-// The least side of a square with room for so many.
+// The least side, at most 1,000, of a square with room for `count` blocks.
 fn side_of(count: u32) -> u32 {
     for side in 1..1001u32 {
         if side.saturating_mul(side) >= count {
@@ -45,7 +45,7 @@ fn near(draws: &mut Draws, at: u32, reach: u32, side: u32) -> u32 {
     draws.between(at.saturating_sub(reach), high)
 }
 
-// How far from a block one of its inputs comes: each distance half as often as the one that is half as far.
+// How far from a block one of its inputs may come. Each distance is drawn half as often as the one that is half as far.
 fn reach_of(draws: &mut Draws) -> u32 {
     let mut reach: u32 = 1;
     for _doubling in 0..DOUBLINGS {
@@ -124,8 +124,8 @@ fn push_pads(text: &mut Vec<u8>, plan: &Plan, draws: &mut Draws) -> Result<(), A
     Ok(())
 }
 
-/// The netlist of a circuit of so many logic blocks, and of four pads for each row of them, in which one input of `hubs` hangs on one of a
-/// few nets.
+/// The netlist of a circuit of `logic` logic blocks, with four pads for each row of them. On average, one of `hubs` inputs hangs on one of
+/// a few nets.
 pub fn grown(alloc: Global, logic: u64, hubs: u64, seed: u64) -> Result<Vec<u8>, AllocError> {
     let logic = logic.clamp(1, 60_000) as u32;
     let side = side_of(logic);

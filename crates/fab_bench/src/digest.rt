@@ -1,9 +1,9 @@
-//! A digest of what a run answered: FNV-1a of 64 bits.
+//! A digest of what a run answered: FNV-1a of 64 bits over bytes. A whole number goes in by one step of it.
 
 /// The digest of nothing.
 pub const START: u64 = 0xcbf2_9ce4_8422_2325;
 
-/// The digest with one number more.
+/// The digest with one more number.
 pub fn with_number(digest: u64, number: u64) -> u64 {
     (digest ^ number).wrapping_mul(0x0000_0100_0000_01b3)
 }

@@ -2,7 +2,7 @@
 
 use fab_site::pick;
 
-/// A stream of random numbers, by shifts and exclusive ors.
+/// A stream of random numbers, made by shifts and exclusive ors.
 #[derive(Clone, Copy)]
 pub struct Draws {
     state: u64,

@@ -18,7 +18,7 @@ pub struct Circuit<'a> {
     pub net: &'a [u8],
 }
 
-/// The numbers of a run that jobs choose. The others are those that the program takes by default.
+/// The numbers of a run that jobs choose. The other numbers are the program's defaults.
 #[derive(Clone, Copy)]
 pub struct Pace {
     pub seed: u64,
@@ -26,8 +26,8 @@ pub struct Pace {
     pub workers: u64,
 }
 
-/// What a run answered: its last cost in ten-thousandths, how many moves were accepted, and judged again if that was counted, and a digest
-/// of it all.
+/// What a run answered: its last cost in ten-thousandths, how many moves were accepted, how many were redone (if that was counted), and a
+/// digest of it all.
 #[derive(Clone, Copy)]
 pub struct Answer {
     pub cost: u64,
@@ -116,7 +116,7 @@ pub fn placed<R: AllocGlobal + Threads + Wait + Sync>(
     Some(Run { answer, place })
 }
 
-/// Places a circuit by the call that the program makes, which counts accepted moves and no moves judged again; `None` if the run is refused.
+/// Places a circuit by the call that the program makes, which counts accepted moves but not redone moves. `None` if the run is refused.
 pub fn placed_as_program<R: AllocGlobal + Threads + Wait + Sync>(
     rt: &R,
     circuit: &Circuit<'_>,

@@ -2,10 +2,10 @@
 //! answered, and no times. A job is given by words:
 //!
 //! - `place NAME SEED MOVES WORKERS` places the circuit in `NAME.arch` and `NAME.net`;
-//! - `program NAME SEED MOVES WORKERS` places it by the call that the program makes, which counts no moves judged again;
-//! - `grown LOGIC HUBS SEED MOVES WORKERS` places a circuit of so many logic blocks that is grown from the seed, in which one input of
-//!   `HUBS` hangs on one of a few nets;
-//! - `suite LOGIC SEED DESIGNS MOVES` places so many grown circuits in turn with few moves, and checks each placement.
+//! - `program NAME SEED MOVES WORKERS` places it by the call that the program makes, which does not count redone moves;
+//! - `grown LOGIC HUBS SEED MOVES WORKERS` places a circuit of `LOGIC` logic blocks that is grown from the seed; on average, one of `HUBS`
+//!   inputs hangs on one of a few nets;
+//! - `suite LOGIC SEED DESIGNS MOVES` places `DESIGNS` grown circuits in turn with few moves, and checks each placement.
 //!
 //! A stage has `MOVES` moves.
 #![tactic(auto)]
@@ -24,7 +24,7 @@ use std::sync::Wait;
 use std::thread::Threads;
 use words::{Words, given};
 
-// The line that tells what a job answered.
+// The line with the answer of a job.
 fn told(alloc: Global, answer: &Answer) -> anyhow::Result<String> {
     let Answer {
         cost,

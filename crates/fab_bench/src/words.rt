@@ -20,7 +20,7 @@ impl Words {
         }
     }
 
-    /// The number that the word at a place says, or 0.
+    /// The number that the word at a place gives, or 0.
     pub fn number(&self, place: usize) -> u64 {
         match self.words.get(place) {
             Some(word) => number_of(word),
@@ -29,7 +29,7 @@ impl Words {
     }
 }
 
-// The number that decimal digits say.
+// The number that decimal digits give.
 fn number_of(word: &[u8]) -> u64 {
     let mut number: u64 = 0;
     for digit in word {

@@ -5,4 +5,5 @@ pub mod Gathering
 pub mod Fronts
 pub mod Adding
 pub mod Placing
+pub mod Powers
 pub mod Steps

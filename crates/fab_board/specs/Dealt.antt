@@ -35,8 +35,8 @@ parts vs = sum_by (λ v. v.parts) vs
 abbrev pub Fair : ℕ → View → Type 0
 Fair count v = (v.told ≤ v.parts) × (v.parts ≡ 0 → v.list ≡ []) × (0 < v.parts → v.count ≡ count)
 
--- The word is the count of the numbers given plus the tellings. The numbers given are the first ones, each once. A seat is told
--- None only once all are given. There are as many parts as the board has seats, so the word never wraps.
+-- The word is the count of the numbers given plus the tellings. The numbers given are the first ones, each once. A seat gets None
+-- only once all are given. There is one part for each seat of the board, so the word never wraps.
 pub record Dealt (k : Size) (s : State (Unit {0}) View) : Type 0 where
   pub word : s.words ≡ (given s.views + tellings s.views) ∷ []
   pub below : given s.views ≤ k.count
@@ -50,7 +50,7 @@ pub record Dealt (k : Size) (s : State (Unit {0}) View) : Type 0 where
 abbrev pub opened : Size → View
 opened k = knows k.count k.seats [] 0
 
--- what a fetch_add tells: the number found is a new one for the seat, above its others; or all numbers are given
+-- what a fetch_add shows: the number found is new for the seat, and above its others; or all numbers are given
 abbrev pub Claimed : Step (Unit {0}) → Me (Unit {0}) View → ℕ → Me (Unit {0}) View → Type 0
 Claimed st v found w = (w.1 ≡ v.1) × MatchBool (nat_lt found v.0.count)
     ((w.0 ≡ knows v.0.count v.0.parts (v.0.list ++ found ∷ []) v.0.told) × All (λ x. x < found) v.0.list)
@@ -68,6 +68,6 @@ one_part v = knows v.count 1 [] 0
 abbrev pub together : View → View → View
 together v w = knows v.count (v.parts + w.parts) (v.list ++ w.list) (v.told + w.told)
 
--- what a seat knows that knows nothing
+-- what an empty seat knows
 abbrev pub nothing : View
 nothing = knows 0 0 [] 0

@@ -15,7 +15,7 @@ below_three = refl
 pub not_below_three : once_below 3 3 ≡ 0
 not_below_three = refl
 
--- one seat was given 0 and 2 and told that none is left, the other was given 1: together 0, 2, 1
+-- one seat was given 0 and 2 and then found none left, the other was given 1: together 0, 2, 1
 pub two_seats : (b : BoardName) → all_numbers (record { board = b; list = 0 ∷ 2 ∷ []; told = true } ∷ record { board = b; list = 1 ∷ []; told = false } ∷ []) ≡ 0 ∷ 2 ∷ 1 ∷ []
 two_seats b = refl
 

@@ -5,5 +5,6 @@ pub mod Dealt
 pub mod Judged
 pub mod Examples
 pub mod OwnUnits
+pub mod Plans
 pub mod Posts
 pub mod Follows

@@ -14,7 +14,7 @@ late_with late false = late
 abbrev pub since_review : ℕ → ℕ → ℕ
 since_review turns counted = if turns + 1 == 16 then 0 else counted
 
--- how many it wants after one turn more: every sixteenth turn it reviews that
+-- how many it wants after one more turn. It reviews this number every sixteenth turn
 abbrev pub wanted_after : ℕ → ℕ → ℕ → ℕ
 wanted_after turns late wanted = if turns + 1 == 16 then reviewed late wanted else wanted
 

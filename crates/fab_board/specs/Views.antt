@@ -1,5 +1,5 @@
--- What contracts see of a board and of a seat. Our own: a seat is the list of numbers that it was given, and whether it was told
--- that none is left.
+-- What contracts see of a board and of a seat. Our own: a seat is the list of numbers that it was given, and whether one of its claims
+-- found no number left.
 use Rattle.std.specs.Prelude.{ℕ, List, Bool, flat_map}
 use Rattle.atomic_table.specs.Seated.{TableId}
 
@@ -8,7 +8,7 @@ pub record BoardName : Type 0 where
   pub table : TableId
   pub count : ℕ
 
--- the board of the seat, the numbers that it was given, in order, and whether it was told that none is left
+-- the board of the seat, the numbers that it was given, in order, and whether one of its claims found no number left
 pub record SeatModel : Type 0 where
   pub board : BoardName
   pub list : List ℕ

@@ -62,7 +62,8 @@ pub struct Claims {
 }
 
 impl Board {
-    /// Creates a board of the numbers below `count`, at most 2^62, and its seats, from 1 to 64. An error means that memory ran out.
+    /// Creates a board of the numbers below `count`, with `seats` seats. `count` is at most 2^62, `seats` is 1 to 64. An error means that
+    /// memory ran out.
     pub fn new(alloc: Global, count: u64, seats: u64) -> Result<(Board, Vec<ClaimSeat>), AllocError>
         requires count { count ≤ 2 ^ 62 }
         requires seats { (0 < seats) × (seats ≤ 64) }
@@ -96,13 +97,13 @@ impl Board {
         self.seats
     }
 
-    /// Claims the least number that no seat has claimed; `None` once all are claimed. It takes one atomic step and never waits. A seat
-    /// that was told `None` takes no further step.
+    /// Claims the least number that no seat has claimed. Returns `None` once all are claimed. Takes one atomic step and never waits. After
+    /// a `None`, the same seat takes no further step.
     pub fn claim(&self, seat: &mut ClaimSeat) -> Option<u64>
         requires { seat.old.board ≡ self.now.name }
         ensures board { seat.new.board ≡ seat.old.board }
 
-        // The number goes to the end of the seat's list, and is above those already there.
+        // The number goes to the end of the seat's list, and is above the numbers already there.
         ensures some { IfSome result (λ i.
             (seat.new.list ≡ seat.old.list ++ i ∷ []) × (seat.new.told ≡ false)) }
         ensures below { IfSome result (λ i. i < self.now.name.count) }
@@ -142,7 +143,7 @@ impl Board {
         let closed = table.close_with(seat);
         let word = closed.word(0);
         closed.free();
-        // Each seat that was told `None` added 1 as well.
+        // Each claim that found no number left added 1 as well.
         Claims {
             taken: word.min(count),
         }

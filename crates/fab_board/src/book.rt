@@ -1,4 +1,4 @@
-//! The list of everything that was posted, which only grows, and prefixes of it that threads carry. No thread keeps the list itself.
+//! The list of all posts, which only grows, and the prefixes of it that threads know. No thread stores the list: it exists only in proofs.
 ghost use Rattle.std.specs.Prelude.{◌≡◌, ◌≢◌, ◌⊎◌, ◌+◌, ◌<◌, ◌≤◌, ◌^◌, ◌++◌, ◌∷◌, [], length, true, false, Some, MatchBool};
 ghost use Rattle.fab_board.specs.Posts.{head_of, latest};
 
@@ -121,7 +121,7 @@ pub struct Book<E, J: Naming> {
     ghost head_is: { head ≡ head_of J.book },
 }
 
-/// A prefix of the list, as far as it was seen. Contracts see it as its entries.
+/// A prefix of the list: what was seen of it. Contracts see its entries.
 #[derive(Drop)]
 pub struct Front<E, J: Naming> {
     count: u64,
@@ -174,7 +174,7 @@ impl<E, J: Naming> Front<E, J> {
         self.count
     }
 
-    /// Whether the other front is one entry longer. Then it is this one with that entry at its end.
+    /// Whether `other` is one entry longer. Then it is this front with that entry at its end.
     pub fn is_next(&self, other: &Front<E, J>) -> bool
         ensures { result ≡ true → (e : E) → latest other.now ≡ Some e →
             other.now ≡ self.now ++ e ∷ [] }
@@ -184,7 +184,8 @@ impl<E, J: Naming> Front<E, J> {
         is_one_more(self.count, other.count)
     }
 
-    /// Adds an entry to all that was seen. Returns whether it did: not if the list is longer, or if it has 2^62 entries or more.
+    /// Adds `entry` to the list, if this front is the whole list. Returns whether it did. Adds nothing if the list is longer than this
+    /// front, or if this front has 2^62 entries or more.
     pub fn enter(&mut self, book: &Book<E, J>, entry: &E) -> bool
         ensures added { result ≡ true → self.new ≡ self.old ++ entry.now ∷ [] }
         ensures refused { result ≡ false → (2 ^ 62 ≤ length self.old) ⊎

@@ -1,7 +1,7 @@
-//! What follows posts, and the sheets on which answers go from thread to thread.
+//! States that follow posts, and the sheets that carry answers from thread to thread.
 ghost use Rattle.std.specs.Prelude.{◌≡◌, ℕ, ◌+◌, ◌-◌, ◌^◌, ◌<◌, ◌≤◌, List, ◌++◌, ◌∷◌, [], length, true, Option, Some, None, IfOk, IfSome, slice_index_or, vec_len, min};
 ghost use Rattle.fab_board.specs.Posts.{latest};
-ghost use Rattle.fab_board.specs.Follows.{IsAnswerAfter, MayFollow};
+ghost use Rattle.fab_board.specs.Follows.{IsAnswerAfter, MayFollow, followed};
 
 use crate::book::{Front, Naming};
 use std::alloc::{AllocError, Global};
@@ -17,28 +17,32 @@ pub trait Follow<E, T>: Drop {
 
     ghost answer: { Self → ℕ → T → Type 0 };
 
+    /// The state answers whatever it is asked: `judge` returns true if `count` is above 0.
+    ghost ready: { Self → Type 0 };
+
     /// The first number that a post asks for.
     fn first(&self, post: &E) -> u64;
 
     /// How many numbers a post asks for.
     fn count(&self, post: &E) -> u64;
 
-    /// A place for an answer.
+    /// What a place holds before its first answer.
     fn blank(&self) -> T;
 
-    /// Takes a step.
+    /// Changes the state by a post.
     fn follow(&mut self, post: &E)
         requires { may self.old post.now }
         ensures { self.new ≡ after self.old post.now };
 
-    /// Writes answers for the `count` numbers from `first` on over what the first places hold, and says whether it did.
+    /// Judges the `count` numbers from `first` on, and writes the answers into the first `count` places. Returns whether it did.
     fn judge(&mut self, first: u64, count: u64, places: &mut [T]) -> bool
         requires few { (count ≤ 32) × (count ≤ length places.old) }
         requires low { first < 2 ^ 62 }
         ensures same { self.new ≡ self.old }
         ensures many { length places.new ≡ length places.old }
         ensures judged { result ≡ true → (k : ℕ) (d : _) → k < count →
-            answer self.old (first + k) (slice_index_or places.new k d) };
+            answer self.old (first + k) (slice_index_or places.new k d) }
+        ensures told { ready self.old → 0 < count → result ≡ true };
 }
 
 /// The state that all threads start from. Each call of a program picks it.
@@ -54,12 +58,12 @@ impl<S> Origin<S> for Brand {
     ghost start = { None };
 }
 
-/// A post as all threads read it, and the front that ends in it.
+/// A post that all threads read, and the front that ends with it.
 #[derive(Drop)]
 pub struct Posted<S: Follow<E, T>, E: Drop, T: Drop, J: Naming + Origin<S>> {
     post: E,
     front: Front<E, J>,
-    // No state and no answer is in here, so threads may share a post whatever these are.
+    // This holds no state and no answer, so threads may share it whatever `S` and `T` are.
     of: PhantomData<Snapshot<(S, T)>>,
 }
 
@@ -100,7 +104,7 @@ impl<S: Follow<E, T>, E: Drop, T: Drop, J: Naming + Origin<S>> Posted<S, E, T, J
     }
 }
 
-/// A state of one's own, and the posts that it has followed. Contracts see it as these posts.
+/// A thread's own state, and the posts that it has followed. Contracts see these posts.
 #[derive(Drop)]
 pub struct Follower<S: Follow<E, T>, E: Drop, T: Drop, J: Naming + Origin<S>> {
     state: S,
@@ -122,7 +126,7 @@ impl<S: Follow<E, T>, E: Drop, T: Drop, J: Naming + Origin<S>> Model for Followe
 }
 
 impl<S: Follow<E, T>, E: Drop, T: Drop, J: Naming + Origin<S>> Follower<S, E, T, J> {
-    /// One that has followed nothing.
+    /// A follower that has followed no post.
     pub fn new(state: S, front: Front<E, J>) -> Follower<S, E, T, J>
         requires start { J.start ≡ Some state }
         requires empty { front ≡ [] }
@@ -154,12 +158,12 @@ impl<S: Follow<E, T>, E: Drop, T: Drop, J: Naming + Origin<S>> Follower<S, E, T,
         self.count
     }
 
-    /// The first number that a post asks for, and how many.
+    /// The first number that `post` asks for, and how many numbers.
     pub fn asked(&self, post: &E) -> (u64, u64) {
         (self.state.first(post), self.state.count(post))
     }
 
-    /// Places for so many answers.
+    /// Allocates places for `count` answers.
     pub fn places(&self, alloc: Global, count: u64) -> Result<Vec<T>, AllocError> {
         let mut places = Vec::new(alloc);
         for _place in 0..count {
@@ -168,7 +172,7 @@ impl<S: Follow<E, T>, E: Drop, T: Drop, J: Naming + Origin<S>> Follower<S, E, T,
         Ok(places)
     }
 
-    /// Follows the post, if it is the next one, and says whether it did.
+    /// Follows the post if it is the next one. Returns whether it did.
     pub fn follow(&mut self, posted: &Posted<S, E, T, J>) -> bool
         ensures { result ≡ true → length self.new ≡ length self.old + 1 }
     {
@@ -183,9 +187,9 @@ impl<S: Follow<E, T>, E: Drop, T: Drop, J: Naming + Origin<S>> Follower<S, E, T,
     }
 }
 
-/// Answers for numbers in a row, and the posts that had been followed where they were judged. It travels; its answers stay where
-/// they were written, and are written over when it is used again. Contracts see these posts, the first number, how many places are
-/// answered, and the places.
+/// Answers for numbers in a row, and the posts after which they were judged. Threads hand sheets over without moving the answers. When
+/// a sheet is used again, its answers are overwritten. Contracts see the posts, the first number, how many places have answers, and
+/// the places.
 #[derive(Drop)]
 pub struct Sheet<S: Follow<E, T>, E: Drop, T: Drop, J: Naming + Origin<S>> {
     front: Front<E, J>,
@@ -209,7 +213,7 @@ impl<S: Follow<E, T>, E: Drop, T: Drop, J: Naming + Origin<S>> Model for Sheet<S
 }
 
 impl<S: Follow<E, T>, E: Drop, T: Drop, J: Naming + Origin<S>> Sheet<S, E, T, J> {
-    /// One with places that hold no answer yet.
+    /// A sheet whose places hold no answer yet.
     pub fn new(front: Front<E, J>, places: Vec<T>) -> Sheet<S, E, T, J>
         ensures { result ≡ (front, 0, 0, places.items) }
     {
@@ -222,7 +226,7 @@ impl<S: Follow<E, T>, E: Drop, T: Drop, J: Naming + Origin<S>> Sheet<S, E, T, J>
         }
     }
 
-    /// Wipes the answers. The next are to be for numbers from this one on, where these posts were followed.
+    /// Removes the answers. The next answers are for numbers from `first` on, judged after the posts of `front`.
     pub fn wipe(&mut self, front: Front<E, J>, first: u64)
         ensures { self.new ≡ (front, first, 0, self.old.3) }
     {
@@ -231,21 +235,21 @@ impl<S: Follow<E, T>, E: Drop, T: Drop, J: Naming + Origin<S>> Sheet<S, E, T, J>
         self.first = first;
     }
 
-    /// Whether there is an answer for the number.
+    /// Whether there is an answer for `number`.
     pub fn has(&self, number: u64) -> bool
         ensures { result ≡ true → (self.now.1 ≤ number) × (number - self.now.1 < self.now.2) }
     {
         self.first <= number && number - self.first < self.filled
     }
 
-    /// Whether the answers were judged where these posts were followed, and no others.
+    /// Whether the answers were judged after exactly the posts of `front`.
     pub fn is_after(&self, front: &Front<E, J>) -> bool
         ensures { result ≡ true → self.now.0 ≡ front.now }
     {
         self.front.is_same(front)
     }
 
-    /// The answer for the number, judged where the sheet's posts were followed.
+    /// The answer for `number`, judged after the sheet's posts.
     pub fn at(&self, number: u64) -> &T
         requires { (self.now.1 ≤ number) × (number - self.now.1 < self.now.2) }
         ensures { IsAnswerAfter S.after S.answer J.start self.now.0 number result.now }
@@ -253,8 +257,7 @@ impl<S: Follow<E, T>, E: Drop, T: Drop, J: Naming + Origin<S>> Sheet<S, E, T, J>
         &self.places[(number - self.first) as usize]
     }
 
-    /// The answers for numbers in a row from this one on, as many as there are, but at most so many. They were judged where the sheet's
-    /// posts were followed.
+    /// The sheet's answers from `number` on, but at most `most` of them. They were judged after the sheet's posts.
     pub fn answers(&self, number: u64, most: u64) -> &[T]
         requires { (self.now.1 ≤ number) × (number - self.now.1 < self.now.2) }
         ensures many { length result.now ≡ min most (self.now.2 - (number - self.now.1)) }
@@ -267,8 +270,8 @@ impl<S: Follow<E, T>, E: Drop, T: Drop, J: Naming + Origin<S>> Sheet<S, E, T, J>
         &self.places[begin as usize..(begin + count) as usize]
     }
 
-    /// Takes the answer for the number, judged where the sheet's posts were followed, and leaves another value in its place. The answers
-    /// for later numbers are wiped.
+    /// Takes the answer for `number`, judged after the sheet's posts, and leaves `other` in its place. The answers for later numbers are
+    /// removed.
     pub fn take(&mut self, number: u64, other: T) -> T
         requires { (self.old.1 ≤ number) × (number - self.old.1 < self.old.2) }
         ensures answer { IsAnswerAfter S.after S.answer J.start self.old.0 number result }
@@ -280,12 +283,14 @@ impl<S: Follow<E, T>, E: Drop, T: Drop, J: Naming + Origin<S>> Sheet<S, E, T, J>
         mem::replace(&mut self.places[place as usize], other)
     }
 
-    /// Judges so many numbers from the sheet's first one on into its places: at most 32, and as many as there are places.
+    /// Judges `count` numbers from the sheet's first one on into its places, but at most 32, and at most one for each place.
     pub fn judge(&mut self, by: &mut Follower<S, E, T, J>, count: u64)
         requires { self.old.0 ≡ by.old }
         ensures same { by.new ≡ by.old }
         ensures posts { self.new.0 ≡ self.old.0 }
         ensures first { self.new.1 ≡ self.old.1 }
+        ensures filled { (s : S) → J.start ≡ Some s → S.ready (followed S.after s by.old) →
+            self.old.1 < 2 ^ 62 → self.new.2 ≡ min count (min (length self.old.3) 32) }
     {
         let count = count.min(self.places.len() as u64).min(LONGEST);
         self.filled = 0;
@@ -298,10 +303,10 @@ impl<S: Follow<E, T>, E: Drop, T: Drop, J: Naming + Origin<S>> Sheet<S, E, T, J>
     }
 }
 
-/// At most so many numbers are judged together.
+/// The most numbers that are judged together.
 const LONGEST: u64 = 32;
 
-/// Judges so many numbers from a first one on into the sheet's places.
+/// Judges the `count` numbers from `first` on into the sheet's places, within the limits of [`Sheet::judge`].
 pub fn judge_unit<S: Follow<E, T>, E: Drop, T: Drop, J: Naming + Origin<S>>(
     by: &mut Follower<S, E, T, J>,
     first: u64,

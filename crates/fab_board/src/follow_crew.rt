@@ -12,7 +12,7 @@ use crate::book::{Book, Front, Naming};
 use crate::claimer::{Boarding, Claimer, CrewBoard};
 use crate::follow::{Follow, Follower, Origin, Posted, Sheet, judge_unit};
 use crate::plan::Plan;
-use crate::waiting::{PaddedAtomic, look_past, wait_past};
+use crate::waiting::{PaddedAtomic, look_past, store_and_wake, wait_past};
 use std::alloc::{AllocError, Global};
 use std::marker::Model;
 use std::sync::atomic::{AtomicU64, Ordering};
@@ -20,7 +20,7 @@ use std::sync::{Arc, Mutex, RwLock, Wait};
 use std::thread::{Threads, join_mut};
 use std::{mem, thread};
 
-/// Where a judged unit waits for the owner, and the used sheet of an earlier one for a worker.
+/// Where the sheet of a judged unit waits for the owner, or a used sheet for a worker.
 #[derive(Drop)]
 pub(crate) struct Place<S: Follow<E, T>, E: Drop, T: Drop, J: Naming + Boarding + Origin<S>> {
     /// Which unit was taken here last, and whether it is judged. It only grows.
@@ -40,9 +40,9 @@ struct Kit<S: Follow<E, T>, E: Drop, T: Drop, J: Naming + Boarding + Origin<S>> 
 /// A worker's place in the crew.
 #[derive(Drop)]
 struct WorkerSlot<S: Follow<E, T>, E: Drop, T: Drop, J: Naming + Boarding + Origin<S>> {
-    /// What the worker begins with, until it does.
+    /// What the worker begins with, until it begins or is left out.
     start: Mutex<Option<Kit<S, E, T, J>>>,
-    /// The same, once the worker has ended.
+    /// The same, once the worker has ended or is left out.
     end: Mutex<Option<Kit<S, E, T, J>>>,
     /// How many posts the worker has followed.
     followed: PaddedAtomic,
@@ -61,13 +61,13 @@ pub struct Shared<S: Follow<E, T>, E: Drop, T: Drop, J: Naming + Boarding + Orig
     room: Mutex<Vec<ClaimSeat>>,
     /// How many posts there are.
     posted: PaddedAtomic,
-    /// A lower bound of the claims that were made.
+    /// How many claims were made, at least.
     claimed: PaddedAtomic,
     asleep: PaddedAtomic,
     owner_asleep: PaddedAtomic,
-    /// How many workers have begun or are left out, plus how many slept until then and are awake again.
+    /// Start barrier: counts each worker when it starts or is left out, and once more when it wakes from the barrier.
     begun: PaddedAtomic,
-    /// How many workers fell asleep, or are about to, until all have begun.
+    /// Start barrier: how many workers have gone to sleep there, or are about to.
     slept: PaddedAtomic,
     stop: PaddedAtomic,
 }
@@ -82,10 +82,10 @@ impl<S: Follow<E, T>, E: Drop, T: Drop, J: Naming + Boarding + Origin<S>> Model
     ghost view = { λ c. length c.workers.items };
 }
 
-/// What the owner finds where it looks for a unit.
+/// What the owner finds when it looks for a unit.
 #[derive(Clone, Copy, PartialEq, Eq)]
 pub(crate) enum Fetched {
-    /// Its sheet.
+    /// The unit is judged, and its sheet is here.
     Here,
     /// Somebody judges it.
     Taken,
@@ -98,15 +98,16 @@ fn taken(unit: u64) -> u64 {
     unit.min(1 << 61) * 2 + 1
 }
 
-/// The word of a place whose unit is judged, or is judged by the owner.
+/// The word of a place whose unit is judged, or is the owner's.
 fn ready(unit: u64) -> u64 {
     unit.min(1 << 61) * 2 + 2
 }
 
-/// The count of posts of a worker that is gone. Sleepers compare the low 32 bits of a word; no real count has these.
+/// The count of followed posts of a worker that has ended or is left out. Sleepers compare the low 32 bits of a word; no real count has
+/// the low 32 bits of this one.
 const GONE: u64 = u64::MAX;
 
-/// How many posts may wait for a worker that is late.
+/// How many posts may wait for a late worker: the ring has this many slots.
 const POSTS: u64 = 64;
 
 /// How many turns have places at a time.
@@ -119,7 +120,7 @@ impl<S: Follow<E, T>, E: Drop, T: Drop, J: Naming + Boarding + Origin<S>> Shared
         self.places.get((unit % ring) as usize)
     }
 
-    /// Takes the next post of the ring. Returns whether it could.
+    /// Follows the next post of the ring. Returns whether it could.
     fn follow_next<R: Wait>(&self, rt: &R, by: &mut Follower<S, E, T, J>) -> bool
         ensures { result ≡ true → length by.new ≡ length by.old + 1 }
     {
@@ -133,7 +134,7 @@ impl<S: Follow<E, T>, E: Drop, T: Drop, J: Naming + Boarding + Origin<S>> Shared
         }
     }
 
-    /// Follows posts until it has followed so many. Returns whether it could.
+    /// Follows posts until `by` has followed `goal` of them. Returns whether it could.
     pub(crate) fn follow_to<R: Wait>(
         &self,
         rt: &R,
@@ -149,7 +150,7 @@ impl<S: Follow<E, T>, E: Drop, T: Drop, J: Naming + Boarding + Origin<S>> Shared
         true
     }
 
-    /// Judges a unit whose turn's post was followed last.
+    /// Judges `unit`. The post of its turn is the one that `by` followed last.
     pub(crate) fn judge_unit(
         &self,
         by: &mut Follower<S, E, T, J>,
@@ -167,14 +168,14 @@ impl<S: Follow<E, T>, E: Drop, T: Drop, J: Naming + Boarding + Origin<S>> Shared
         );
     }
 
-    /// How many numbers a unit has, whose turn's post was followed last.
+    /// How many numbers `unit` has. The post of its turn is the one that `by` followed last.
     pub(crate) fn count_of(&self, by: &Follower<S, E, T, J>, unit: u64) -> u64 {
         by.count()
             .saturating_sub(self.plan.begin_of(unit))
             .min(self.plan.size())
     }
 
-    /// Takes a unit. Returns whether it could: not if somebody has taken it before.
+    /// Takes `unit`, unless somebody has taken it before. Returns whether it did.
     pub(crate) fn take(&self, unit: u64) -> bool {
         let Some(place) = self.place_of(unit) else {
             return false;
@@ -189,21 +190,18 @@ impl<S: Follow<E, T>, E: Drop, T: Drop, J: Naming + Boarding + Origin<S>> Shared
             .is_ok()
     }
 
-    /// Hands a sheet over for a used one.
+    /// Puts the judged sheet of `unit` into the unit's place, and takes the used sheet from there.
     pub(crate) fn hand_over<R: Wait>(&self, rt: &R, sheet: &mut Sheet<S, E, T, J>, unit: u64) {
         if let Some(place) = self.place_of(unit) {
             mem::swap(&mut *place.sheet.lock(rt), sheet);
-            place.word.store(ready(unit), Ordering::SeqCst);
-            if self.owner_asleep.load() != 0 {
-                place.word.wake_all();
-            }
+            store_and_wake(&place.word, ready(unit), &self.owner_asleep);
         }
     }
 
-    /// Waits until the turn of the unit that the worker has claimed is posted, or without one the turn of the next unit that nobody has
-    /// claimed, and follows the post. Returns false if the crew was sent home.
+    /// Waits until the turn of `unit`, which the worker has claimed, is posted, and follows its post. If `unit` is `None`, the turn is that
+    /// of the next unit that nobody has claimed. Returns false if the crew was sent home.
     ///
-    /// A worker that waits has followed all that is posted. The owner may wait for that, before it posts again.
+    /// A worker that waits here has followed all that is posted. Before the owner posts again, it may wait for that.
     fn wait_for_turn<R: Wait>(
         &self,
         rt: &R,
@@ -253,12 +251,9 @@ impl<S: Follow<E, T>, E: Drop, T: Drop, J: Naming + Boarding + Origin<S>> Shared
         }
     }
 
-    /// Tells the owner how many posts a worker has followed. It may sleep until some are.
+    /// Tells the owner how many posts a worker has followed. The owner may be asleep until then.
     fn tell_followed(&self, followed: &PaddedAtomic, posts: u64) {
-        followed.store(posts);
-        if self.owner_asleep.load() != 0 {
-            followed.word.wake_all();
-        }
+        store_and_wake(&followed.word, posts, &self.owner_asleep);
     }
 
     /// Counts a worker that begins, is left out, or is awake again. Returns how many were counted before.
@@ -270,7 +265,7 @@ impl<S: Follow<E, T>, E: Drop, T: Drop, J: Naming + Boarding + Origin<S>> Shared
         before
     }
 
-    /// Sleeps until so many are counted.
+    /// Sleeps until `begun` is at least `goal`.
     fn sleep_until_begun<R: Wait>(&self, rt: &R, goal: u64) {
         for _ in rt.forever() {
             let begun = self.begun.load();
@@ -294,7 +289,7 @@ impl<S: Follow<E, T>, E: Drop, T: Drop, J: Naming + Boarding + Origin<S>> Shared
         }
     }
 
-    /// A worker's life.
+    /// All that a worker does, from its start to its end.
     fn work<R: Wait>(&self, rt: &R, me: usize) {
         let Some(worker) = self.workers.get(me) else {
             return;
@@ -308,7 +303,7 @@ impl<S: Follow<E, T>, E: Drop, T: Drop, J: Naming + Boarding + Origin<S>> Shared
         self.tell_followed(&worker.followed, GONE);
     }
 
-    /// How many posts each worker has followed at least.
+    /// The least number of posts that any worker has followed.
     pub(crate) fn followed_by_all(&self) -> u64 {
         let mut least = GONE;
         for worker in &self.workers {
@@ -317,8 +312,8 @@ impl<S: Follow<E, T>, E: Drop, T: Drop, J: Naming + Boarding + Origin<S>> Shared
         least
     }
 
-    /// Waits until each worker has followed so many posts. A worker that has not begun by then, since the system is slow to start its
-    /// thread or refuses to, is left out. All together get the time of one to begin.
+    /// Waits until each worker has followed at least `goal` posts. If the system is slow to start a worker's thread, or refuses to, the
+    /// worker is left out. All workers together get only the time of one to begin.
     pub(crate) fn wait_for_all<R: Wait>(&self, rt: &R, goal: u64) {
         self.leave_out_late(rt);
         for worker in &self.workers {
@@ -326,8 +321,8 @@ impl<S: Follow<E, T>, E: Drop, T: Drop, J: Naming + Boarding + Origin<S>> Shared
         }
     }
 
-    /// Leaves the workers out that do not begin in time. Who has begun may sleep until all have, so they are left out before anybody is
-    /// waited for.
+    /// Leaves out the workers that do not begin in time. A worker that has begun may sleep until all have. So the owner does this before it
+    /// waits for any worker.
     fn leave_out_late<R: Wait>(&self, rt: &R) {
         let mut has_time = true;
         for worker in &self.workers {
@@ -340,7 +335,7 @@ impl<S: Follow<E, T>, E: Drop, T: Drop, J: Naming + Boarding + Origin<S>> Shared
         }
     }
 
-    /// Takes what a worker begins with, if it has not begun, so that it never begins.
+    /// If the worker has not begun, takes what it begins with, so that it never begins.
     fn leave_out<R: Wait>(&self, rt: &R, worker: &WorkerSlot<S, E, T, J>) {
         let taken = worker.start.lock(rt).take();
         if let Some(kit) = taken {
@@ -350,14 +345,14 @@ impl<S: Follow<E, T>, E: Drop, T: Drop, J: Naming + Boarding + Origin<S>> Shared
         }
     }
 
-    /// Leaves a worker out that was not started.
+    /// Leaves out a worker whose thread was not started.
     fn go_without<R: Wait>(&self, rt: &R, me: usize) {
         if let Some(worker) = self.workers.get(me) {
             self.leave_out(rt, worker);
         }
     }
 
-    /// Waits until a worker has followed so many posts.
+    /// Waits until a worker has followed at least `goal` posts.
     fn wait_for_one<R: Wait>(&self, rt: &R, followed: &PaddedAtomic, goal: u64) {
         let mut seen = followed.load();
         for _ in rt.forever() {
@@ -368,7 +363,7 @@ impl<S: Follow<E, T>, E: Drop, T: Drop, J: Naming + Boarding + Origin<S>> Shared
         }
     }
 
-    /// Puts a post into the ring, and gives back the one whose slot it takes.
+    /// Puts a post into the ring, and returns the post whose slot it takes.
     pub(crate) fn put<R: Wait>(
         &self,
         rt: &R,
@@ -379,10 +374,7 @@ impl<S: Follow<E, T>, E: Drop, T: Drop, J: Naming + Boarding + Origin<S>> Shared
         if let Some(slot) = self.posts.get((number % POSTS) as usize) {
             mem::swap(&mut *slot.write(rt), &mut old);
         }
-        self.posted.store(number.saturating_add(1));
-        if self.asleep.load() != 0 {
-            self.posted.word.wake_all();
-        }
+        store_and_wake(&self.posted.word, number.saturating_add(1), &self.asleep);
         match old {
             Some(posted) => Some(posted.into_post()),
             None => None,
@@ -416,7 +408,7 @@ impl<S: Follow<E, T>, E: Drop, T: Drop, J: Naming + Boarding + Origin<S>> Shared
         }
     }
 
-    /// Keeps a unit, whose turn is not posted yet, from the workers.
+    /// Keeps `unit` for the owner, so that no worker takes it. Its turn is not posted yet.
     pub(crate) fn keep(&self, unit: u64) {
         if let Some(place) = self.place_of(unit) {
             place.word.store(ready(unit), Ordering::SeqCst);
@@ -430,17 +422,17 @@ impl<S: Follow<E, T>, E: Drop, T: Drop, J: Naming + Boarding + Origin<S>> Shared
         }
     }
 
-    /// Whether post `number` has a slot, where each worker has followed so many posts.
+    /// Whether post `number` has a slot, if each worker has followed at least `followed` posts.
     pub(crate) fn is_room(&self, followed: u64, number: u64) -> bool {
         followed.saturating_add(POSTS) > number
     }
 
-    /// So many posts have to be followed by all before post `number` has a slot.
+    /// How many posts all workers must have followed before post `number` has a slot.
     pub(crate) fn goal_for(&self, number: u64) -> u64 {
         number.saturating_sub(POSTS).saturating_add(1)
     }
 
-    /// Sends the crew home.
+    /// Sends the crew home, so that its workers end.
     pub(crate) fn send_home(&self) {
         self.stop.store(1);
         self.posted.add_one();
@@ -524,7 +516,7 @@ fn all_workers<S: Follow<E, T>, E: Drop, T: Drop, J: Naming + Boarding + Origin<
     Ok((workers, claims))
 }
 
-/// What the workers of a crew are made of: a seat of the claim board and a state for each, and how the numbers are shared out.
+/// What the workers of a crew are made of: a seat of the claim board and a state for each, and how the numbers are cut into units.
 pub(crate) struct Hands<S> {
     pub(crate) board: Board,
     pub(crate) claims: Vec<ClaimSeat>,
@@ -532,7 +524,7 @@ pub(crate) struct Hands<S> {
     pub(crate) plan: Plan,
 }
 
-/// What the threads of a crew share before any has joined: a worker for each of the states, with a seat of the board.
+/// What the threads of a crew share, before any worker has begun. There is a worker for each state of `hands`, with a seat of the board.
 pub(crate) fn new_shared<S: Follow<E, T>, E: Drop, T: Drop, J: Naming + Boarding + Origin<S>>(
     alloc: Global,
     book: Book<E, J>,
@@ -575,7 +567,7 @@ pub(crate) fn new_shared<S: Follow<E, T>, E: Drop, T: Drop, J: Naming + Boarding
 }
 
 /// Runs the workers of a crew: one in this thread, and each other one in its own. Returns when the crew was sent home and all have ended.
-/// A worker that the system refuses to start leaves its work to the others.
+/// If the system refuses to start a worker, the others do its work.
 fn work_all<
     S: Follow<E, T> + Send,
     E: Drop + Send + Sync,
@@ -602,8 +594,8 @@ fn called<O, X, F: FnMut(&mut O) -> X>(make: &mut F, owner: &mut O) -> X
     make(owner)
 }
 
-/// Runs `make` on the owner while the workers of the crew work, each in a thread of its own, then sends the crew home, and returns when all
-/// workers have ended. So it returns if `make` and the judgements of the workers do. Where the system starts no thread, the owner judges
+/// Runs `make` on the owner while the workers of the crew work, each in a thread of its own. Then sends the crew home, and returns when all
+/// workers have ended. So it returns if `make` and the judgements of the workers return. If the system starts no thread, the owner judges
 /// alone.
 // The owner's type is a parameter, since the threads' closures do not support a type that both borrows and has parameters.
 pub fn beside<
@@ -637,7 +629,7 @@ pub fn beside<
     made
 }
 
-/// The claim board of a crew that has ended, with the seats of all its workers. Contracts see the numbers that these claimed.
+/// The claim board of a crew that has ended, with the seats of all its workers. Contracts see the numbers that the workers claimed.
 pub struct Retired {
     board: Board,
     seats: Vec<ClaimSeat>,
@@ -656,8 +648,8 @@ impl Model for Retired {
 }
 
 impl Retired {
-    /// Closes the board, and returns how many units of work were claimed: those of all workers together are the units below that number,
-    /// each claimed once.
+    /// Closes the board, and returns how many units of work were claimed. The workers together claimed the units below that number, each
+    /// once.
     pub fn close(self) -> Claims
         ensures { IsPermutation (range_with_len 0 result.taken) self }
     {
@@ -666,7 +658,7 @@ impl Retired {
     }
 }
 
-/// The claim board of a crew with the seats of all its workers, which have ended. `None` if one of them is still at work.
+/// The claim board of a crew whose workers have ended, with all their seats. `None` if a worker is still at work.
 pub fn retire<S: Follow<E, T>, E: Drop, T: Drop, J: Naming + Boarding + Origin<S>>(
     crew: Arc<Shared<S, E, T, J>>,
 ) -> Option<Retired> {
@@ -682,7 +674,7 @@ pub fn retire<S: Follow<E, T>, E: Drop, T: Drop, J: Naming + Boarding + Origin<S
     Some(Retired { board, seats })
 }
 
-/// Closes the claim board of a crew that has ended. Returns how many units of work its workers claimed; `None` if one of them is still at
+/// Closes the claim board of a crew that has ended. Returns how many units of work its workers claimed. `None` if a worker is still at
 /// work.
 pub fn close_board<S: Follow<E, T>, E: Drop, T: Drop, J: Naming + Boarding + Origin<S>>(
     crew: Arc<Shared<S, E, T, J>>,

@@ -16,18 +16,18 @@ use std::marker::Model;
 use std::mem;
 use std::sync::{Arc, Wait};
 
-/// The owner's end of a crew. Contracts see it as all that it posted, and those posts on which the answers of this turn are judged: all but
-/// the last.
+/// The owner's end of a crew. Contracts see two lists: all that it posted, and the posts after which the answers of this turn are judged.
+/// These are all but the last.
 pub struct Lead<S: Follow<E, T>, E: Drop, T: Drop, J: Naming + Boarding + Origin<S>> {
     shared: Arc<Shared<S, E, T, J>>,
     front: Front<E, J>,
     base: Front<E, J>,
     mine: Follower<S, E, T, J>,
-    /// What the last post asks for: the first number, and how many.
+    /// What the last post asks for: the first number, and how many numbers.
     asked: (u64, u64),
     /// What the post before it asks for.
     due: (u64, u64),
-    /// A lower bound of the posts that each worker had followed when that was last looked at.
+    /// How many posts each worker had followed at least, when the owner last looked.
     followed: u64,
     /// The first unit that the owner has not tried to help with.
     helped: u64,
@@ -47,7 +47,8 @@ impl<S: Follow<E, T>, E: Drop, T: Drop, J: Naming + Boarding + Origin<S>> Model
 }
 
 impl<S: Follow<E, T>, E: Drop, T: Drop, J: Naming + Boarding + Origin<S>> Lead<S, E, T, J> {
-    /// Posts, and gives an older post back, which may be filled anew. An error gives this one back: the crew was not given it.
+    /// Posts `post`. May return an older post, whose memory can be used for a new one. An error returns `post` itself: the crew did not
+    /// get it.
     #[tactic(auto, using(crate::proofs::Placing::latest_push, crate::proofs::Steps::may_push))]
     pub fn post<R: Wait>(&mut self, rt: &R, post: E) -> Result<Option<E>, E>
         requires may { MayNow S.may S.after J.start self.old.0 post }
@@ -71,7 +72,7 @@ impl<S: Follow<E, T>, E: Drop, T: Drop, J: Naming + Boarding + Origin<S>> Lead<S
         Ok(old)
     }
 
-    /// Waits until every worker has followed the post whose slot is used again.
+    /// Waits until every worker has followed the post whose slot post `number` takes.
     fn make_room<R: Wait>(&mut self, rt: &R, number: u64)
         ensures { self.new ≡ self.old }
     {
@@ -85,14 +86,15 @@ impl<S: Follow<E, T>, E: Drop, T: Drop, J: Naming + Boarding + Origin<S>> Lead<S
         self.followed = self.shared.followed_by_all();
     }
 
-    /// From now on the owner's own state follows nothing, and what no worker judges is left to the owner. [`Lead::look`] says so.
+    /// From now on the owner's own state follows no post, and the caller has to judge what no worker judges. [`Lead::look`] returns which
+    /// numbers these are.
     pub fn leave_to_owner(&mut self)
         ensures { self.new ≡ self.old }
     {
         self.own_units = Some(OwnUnits::none());
     }
 
-    /// Before a turn is posted, keeps some of its units from the workers.
+    /// Before turn `turn` is posted: keeps some of its units for the owner, so that no worker takes them.
     fn keep_units(&mut self, turn: u64)
         ensures { self.new ≡ self.old }
     {
@@ -106,9 +108,10 @@ impl<S: Follow<E, T>, E: Drop, T: Drop, J: Naming + Boarding + Origin<S>> Lead<S
         }
     }
 
-    /// Brings the sheet with the number's answer, as [`Lead::seek`] does, if a worker has taken it, once it is judged. Returns how many
-    /// numbers from this one on are left to the owner; 0 if the answer is ready, or if there is none. If the owner judges on its own state,
-    /// it seeks the answer.
+    /// If a worker has taken the unit of `number`: waits until it is judged, exchanges `sheet` for the sheet with the answer, and returns
+    /// 0. If the unit is left to the owner: returns the size of a unit. If `number` is the unit's first, that many numbers from it on are
+    /// the owner's. Returns 0 too if this turn did not ask for `number`. If the owner judges on its own state, this does what
+    /// [`Lead::seek`] does, and returns 0.
     pub fn look<R: Wait>(&mut self, rt: &R, number: u64, sheet: &mut Sheet<S, E, T, J>) -> u64
         ensures { self.new ≡ self.old }
     {
@@ -129,7 +132,7 @@ impl<S: Follow<E, T>, E: Drop, T: Drop, J: Naming + Boarding + Origin<S>> Lead<S
         }
     }
 
-    /// Whether a unit is left to the owner. If not, brings its sheet once it is judged.
+    /// Whether `unit` is left to the owner. If not, waits until it is judged, and exchanges `sheet` for its sheet.
     fn is_left_to_owner<R: Wait>(
         &mut self,
         rt: &R,
@@ -157,7 +160,7 @@ impl<S: Follow<E, T>, E: Drop, T: Drop, J: Naming + Boarding + Origin<S>> Lead<S
         unreachable!()
     }
 
-    /// The unit of a number that this turn asked for; `None` if it did not.
+    /// The unit of `number`; `None` if this turn did not ask for the number.
     fn unit_of(&self, number: u64) -> Option<u64> {
         let begin = number.saturating_sub(self.due.0);
         let plan = self.shared.plan;
@@ -170,8 +173,8 @@ impl<S: Follow<E, T>, E: Drop, T: Drop, J: Naming + Boarding + Origin<S>> Lead<S
         Some(plan.unit_of(self.base.len().saturating_sub(1), begin))
     }
 
-    /// Brings the sheet with the number's answer, judged on the state after the posts of this turn's base, and leaves a used one. False if
-    /// there is no answer, since the owner's own state judges none.
+    /// Exchanges `sheet` for the sheet with the answer for `number`, or judges into it if nobody has taken the number. The answer is on the
+    /// state after the posts of this turn's base. Returns false if there is no answer, because the owner's own state gives none.
     pub fn seek<R: Wait>(&mut self, rt: &R, number: u64, sheet: &mut Sheet<S, E, T, J>) -> bool
         ensures same { self.new ≡ self.old }
         ensures after { result ≡ true → sheet.new.0 ≡ self.old.1 }
@@ -189,7 +192,7 @@ impl<S: Follow<E, T>, E: Drop, T: Drop, J: Naming + Boarding + Origin<S>> Lead<S
         sheet.has(number) && sheet.is_after(&self.base)
     }
 
-    /// The answer for the number, if the sheet has one that was judged on the state after the posts of this turn's base.
+    /// The answer for `number`, if the sheet has one that was judged on the state after the posts of this turn's base.
     pub fn answer<'s>(&self, number: u64, sheet: &'s Sheet<S, E, T, J>) -> Option<&'s T>
         ensures { IfSome result (λ x.
             IsAnswerAfter S.after S.answer J.start self.now.1 number x.now) }
@@ -200,8 +203,8 @@ impl<S: Follow<E, T>, E: Drop, T: Drop, J: Naming + Boarding + Origin<S>> Lead<S
         Some(sheet.at(number))
     }
 
-    /// The answers for numbers in a row from this one on, at most so many, if the sheet has them and they were judged on the state after
-    /// the posts of this turn's base; else none.
+    /// The sheet's answers from `number` on, at most `most` of them. Empty if it has none for `number`, or if they were not judged on the
+    /// state after the posts of this turn's base.
     pub fn answers<'s>(&self, number: u64, most: u64, sheet: &'s Sheet<S, E, T, J>) -> &'s [T]
         ensures most { length result.now ≤ most }
         ensures each { (k : ℕ) (d : T) → k < length result.now →
@@ -214,8 +217,8 @@ impl<S: Follow<E, T>, E: Drop, T: Drop, J: Naming + Boarding + Origin<S>> Lead<S
         sheet.answers(number, most)
     }
 
-    /// Takes the answer for the number out of the sheet, if it has one that was judged on the state after the posts of this turn's base,
-    /// and leaves another value in its place. The sheet's answers for later numbers are wiped.
+    /// Takes the answer for `number` out of the sheet, and leaves `other` in its place. `None` if the sheet has no answer for it that was
+    /// judged on the state after the posts of this turn's base. The sheet's answers for later numbers are removed.
     pub fn take(&self, number: u64, sheet: &mut Sheet<S, E, T, J>, other: T) -> Option<T>
         ensures { IfSome result (λ x. IsAnswerAfter S.after S.answer J.start self.now.1 number x) }
     {
@@ -225,8 +228,8 @@ impl<S: Follow<E, T>, E: Drop, T: Drop, J: Naming + Boarding + Origin<S>> Lead<S
         Some(sheet.take(number, other))
     }
 
-    /// Brings the sheet of the number's unit: from whoever has taken it, or judged here if nobody has. While somebody judges it, later
-    /// units of the turn are judged here that nobody has taken.
+    /// Brings the sheet of the unit of `number`. If nobody has taken the unit, judges it here. While somebody judges it, judges later
+    /// units of the turn that nobody has taken.
     fn fetch<R: Wait>(&mut self, rt: &R, number: u64, sheet: &mut Sheet<S, E, T, J>)
         ensures { self.new ≡ self.old }
     {
@@ -251,7 +254,7 @@ impl<S: Follow<E, T>, E: Drop, T: Drop, J: Naming + Boarding + Origin<S>> Lead<S
         }
     }
 
-    /// While somebody judges a unit, judges a later one before `end` that nobody has taken, or waits if there is none.
+    /// While somebody judges `unit`: judges a later unit before `end` that nobody has taken. If there is none, waits for `unit`.
     fn help_or_wait<R: Wait>(&mut self, rt: &R, unit: u64, end: u64)
         ensures { self.new ≡ self.old }
     {
@@ -277,7 +280,7 @@ impl<S: Follow<E, T>, E: Drop, T: Drop, J: Naming + Boarding + Origin<S>> Lead<S
         }
     }
 
-    /// Judges a unit that is taken, and puts it into its place.
+    /// Judges a unit that the owner has taken, and puts its sheet into the unit's place.
     fn judge_other<R: Wait>(&mut self, rt: &R, unit: u64)
         ensures { self.new ≡ self.old }
     {
@@ -307,7 +310,7 @@ impl<S: Follow<E, T>, E: Drop, T: Drop, J: Naming + Boarding + Origin<S>> Lead<S
 
 impl<S: Follow<E, T>, E: Drop, T: Drop, J: Naming + Boarding + Origin<S>> Drop
     for Lead<S, E, T, J> {
-    /// Sends the crew home.
+    /// Sends the crew home, so that its workers end.
     fn drop(self) {
         let Lead {
             shared,
@@ -326,7 +329,7 @@ impl<S: Follow<E, T>, E: Drop, T: Drop, J: Naming + Boarding + Origin<S>> Drop
 }
 
 /// What a crew is made of: a claim board with the seats of its workers, a state for the owner and one for each worker, and how the numbers
-/// are shared out.
+/// are cut into units.
 pub struct CrewParts<S> {
     pub board: Board,
     pub claims: Vec<ClaimSeat>,
@@ -335,8 +338,8 @@ pub struct CrewParts<S> {
     pub units: Plan,
 }
 
-/// Creates a crew that no worker has joined yet, with a worker for each of the other states, and its owner's end. An error means that
-/// memory ran out.
+/// Creates a crew whose workers have not begun, and its owner's end. The crew has one worker for each state in `parts.others`. An error
+/// means that memory ran out.
 pub fn new_crew<S: Follow<E, T>, E: Drop, T: Drop, J: Naming + Boarding + Origin<S>>(
     alloc: Global,
     opened: Opened<E>,

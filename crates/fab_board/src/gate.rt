@@ -1,8 +1,8 @@
 //! Calls that a caller hooks in before and after judgements, and before commits.
 
-/// What a caller does before and after each judgement that is made ahead, and before each commit. For example, a test holds one back
-/// until another is made. `k` is the number that is judged or committed. Threads call it concurrently, and each call must return. Where
-/// nothing is judged ahead, one thread makes all calls: before and after a judgement and then before its commit.
+/// What a caller does before and after each judgement that is made ahead, and before each commit. For example, a test holds one judgement
+/// back until another is made. `k` is the number that is judged or committed. Threads call the gate concurrently, and each call must
+/// return. If nothing is judged ahead, one thread makes all calls, in this order: before a judgement, after it, before its commit.
 pub trait Gate: Sync {
     fn before_judge(&self, k: u64);
 
@@ -10,9 +10,9 @@ pub trait Gate: Sync {
 
     fn before_commit(&self, k: u64);
 
-    /// Whether the calls do nothing, so that nobody can tell when they are made, by which thread, or whether they are. Only with a gate
-    /// that says so may a run judge no move ahead, or ask for the words of a move before the call for its judgement. A gate that counts,
-    /// notes or waits must not say so.
+    /// Whether the calls do nothing, so that nobody can find out whether, when or by which thread they are made. Only if this is true, a
+    /// run may do without judging ahead, and may ask for the words of a move before it calls `before_judge` for it. A gate that counts,
+    /// records or waits must return false.
     fn does_nothing(&self) -> bool {
         false
     }

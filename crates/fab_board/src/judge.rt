@@ -36,7 +36,7 @@ pub trait Judging: Drop {
 
     ghost gives: { Self → ℕ → Self.Answer → Type 0 };
 
-    /// The same, for another thread.
+    /// A copy, for another thread.
     fn again(&self) -> Self
         ensures { result ≡ self.now };
 
@@ -46,7 +46,7 @@ pub trait Judging: Drop {
         ensures { IfOk result (λ x. gives self.now number x) };
 }
 
-/// A closure that is lent.
+/// A borrowed closure.
 #[derive(Drop)]
 pub struct Called<'r, F> {
     by: &'r F,
@@ -70,7 +70,7 @@ impl<'r, T, F: Fn(u64) -> Result<T, AllocError>> Judging for Called<'r, F> {
     }
 }
 
-/// What a worker of a batch has: the judgement, the gate round it, and the numbers that it may be made of. Contracts see the judgement.
+/// What a worker of a batch has: the judgement, the gate, and the numbers that may be judged. Contracts see the judgement.
 #[derive(Drop)]
 pub struct Lent<'r, T, G, B: Judging<Answer = T>> {
     gate: &'r G,
@@ -99,6 +99,8 @@ impl<'r, T: Drop, G: Gate, B: Judging<Answer = T>> Follow<Ask, Option<T>> for Le
 
     ghost answer = { λ l k x. IfSome x (λ a. B.gives l k a) };
 
+    ghost ready = { λ l. l ≡ l };
+
     fn first(&self, post: &Ask) -> u64 {
         post.first
     }
@@ -113,8 +115,8 @@ impl<'r, T: Drop, G: Gate, B: Judging<Answer = T>> Follow<Ask, Option<T>> for Le
 
     fn follow(&mut self, _post: &Ask) {}
 
-    // A place without an answer is that of a number for which memory ran out. The loop stands here, since a gate that all threads share
-    // cannot be lent to a function of this thread.
+    // A place has no answer if memory ran out for its number. The loop is not in a function of its own, because a gate that all threads
+    // share cannot be lent to a function of this thread.
     fn judge(&mut self, first: u64, count: u64, places: &mut [Option<T>]) -> bool {
         'places: for i in 0..count as usize {
             let number = first + i as u64;
@@ -142,7 +144,7 @@ struct OwnerEnd<S: Follow<Ask, Option<T>>, T: Drop, J: Naming + Boarding + Origi
 /// which claim the numbers; the calling thread judges what none of them has claimed. Each calls `judge` for a number between the gate's two
 /// calls, and all have ended when this returns. Entry j is an answer for `first + j`.
 ///
-/// An error means that memory ran out, in `judge` or here. A worker that the system refuses to start leaves its numbers to the others.
+/// An error means that memory ran out, in `judge` or here. If the system refuses to start a worker, the others judge its numbers.
 pub fn judge_batch<
     T: Send + Drop,
     G: Gate,
@@ -176,7 +178,7 @@ pub fn judge_batch<
     )
 }
 
-/// Judges the numbers that are asked for by a judgement, as [`judge_batch`] does by a closure.
+/// Judges the numbers of `ask` with `by`, as [`judge_batch`] does with a closure.
 fn judge_with<T: Send + Drop, G: Gate, B: Judging<Answer = T> + Send, R: Threads + Wait + Sync>(
     rt: &R,
     alloc: Global,
@@ -200,7 +202,7 @@ fn judge_with<T: Send + Drop, G: Gate, B: Judging<Answer = T> + Send, R: Threads
     judged_by::<Lent<'_, T, G, B>, T, Brand, R>(rt, alloc, Opened::new(), parts, first, count)
 }
 
-/// What a crew of so many workers is made of, which judges these numbers.
+/// The parts of a crew of `workers` workers that judges the `count` numbers from `first` on.
 fn crew_parts<'r, T, G: Gate, B: Judging<Answer = T>>(
     alloc: Global,
     first: u64,
@@ -237,7 +239,7 @@ fn crew_parts<'r, T, G: Gate, B: Judging<Answer = T>>(
     })
 }
 
-/// The judgement, to be made of these numbers.
+/// The judgement, limited to the `count` numbers from `first` on.
 fn lend<'r, T, G: Gate, B: Judging<Answer = T>>(
     first: u64,
     count: u64,
@@ -256,7 +258,7 @@ fn lend<'r, T, G: Gate, B: Judging<Answer = T>>(
     }
 }
 
-/// Judges so many numbers with a crew of this name.
+/// Judges the `count` numbers from `first` on with a crew whose name is `J`.
 fn judged_by<
     S: Follow<Ask, Option<T>> + Send,
     T: Drop + Send,
@@ -302,8 +304,8 @@ fn judged_by<
     answers
 }
 
-/// Has the crew judge so many numbers, and gathers the answers. The last numbers are taken first, so that the owner, who judges what nobody
-/// has taken, comes towards the workers.
+/// Has the crew judge the `count` numbers from `first` on, and collects the answers. It takes the last numbers first: the owner judges what
+/// nobody has taken, so it works towards the workers.
 fn collect<S: Follow<Ask, Option<T>>, T: Drop, J: Naming + Boarding + Origin<S>, R: Wait>(
     rt: &R,
     alloc: Global,

@@ -1,5 +1,5 @@
-//! A board of numbers that threads claim, each number once; a crew of threads that claim on it, each with a state of its own that follows
-//! what the owner posts; and a batch of numbers that such a crew judges with one borrowed closure.
+//! Threads that judge numbers in parallel. They claim numbers on a board, each number once. A crew is threads that claim on one board; each
+//! has a state of its own, which follows what the owner posts. A batch of numbers is judged by a crew with one borrowed closure.
 #![tactic(auto)]
 
 mod board;

@@ -3,14 +3,14 @@
 ghost use Rattle.std.specs.Prelude.{◌≡◌, ◌+◌, ◌≤◌, ◌<◌, true, false, min, nat_lt};
 ghost use Rattle.fab_board.specs.OwnUnits.{late_with, reviewed, since_review, wanted_after};
 
-/// The units that the owner keeps are the first of each turn. Their number follows how often the owner waits.
+/// The owner keeps the first units of each turn for itself. How many depends on how often it has to wait.
 #[derive(Clone, Copy)]
 pub(crate) struct OwnUnits {
-    /// The units kept of the turn that is committed now.
+    /// How many units are kept of the turn that is committed now.
     due: u64,
-    /// The units kept of the turn that was posted last.
+    /// How many units are kept of the turn that was posted last.
     asked: u64,
-    /// The units to be kept of each next turn.
+    /// How many units to keep of each next turn.
     wanted: u64,
     /// Whether the owner had to wait in this turn.
     is_late: bool,
@@ -24,13 +24,13 @@ pub(crate) struct OwnUnits {
 /// The number of kept units is reviewed after this many turns.
 const TURNS: u64 = 16;
 
-/// The owner keeps one unit more if it had to wait in at least this many of these turns.
+/// A review adds one kept unit if the owner had to wait in at least this many of the `TURNS` turns.
 const MANY: u64 = 10;
 
-/// The owner keeps one unit less if it had to wait in fewer than this many.
+/// A review takes one kept unit away if the owner had to wait in fewer than this many of the `TURNS` turns.
 const FEW: u64 = 4;
 
-/// How many units the owner wants after a review, by the number of turns in which it had to wait.
+/// How many units the owner wants after a review: it wanted `wanted`, and had to wait in `late` turns.
 fn reviewed(late: u64, wanted: u64) -> u64
     requires { wanted ≤ 32768 }
     ensures { result ≡ reviewed late wanted }
@@ -98,7 +98,7 @@ impl OwnUnits {
         unit < self.due
     }
 
-    /// The owner waits for a unit.
+    /// Notes that the owner had to wait in this turn.
     pub(crate) fn was_late(&mut self)
         ensures { self.new ≡ record self.old { is_late = true } }
     {

@@ -14,7 +14,7 @@ pub fn vacant<T: Drop>(alloc: Global, count: u64) -> Result<Vec<Option<T>>, Allo
     Ok(slots)
 }
 
-/// Takes the answers out of their slots. An empty slot is that of a number for which memory ran out.
+/// Takes the answers out of their slots. Returns an error if a slot is empty: memory ran out for its number.
 pub fn unwrap_all<T: Drop>(alloc: Global, slots: Vec<Option<T>>) -> Result<Vec<T>, AllocError>
     ensures { IfOk result (λ v. map (λ answer. Some answer) v.items ≡ slots.items) }
 {

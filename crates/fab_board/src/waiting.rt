@@ -32,13 +32,13 @@ impl PaddedAtomic {
     }
 }
 
-// A sleeping processor is slow to wake: a millisecond or more on a virtual machine, and a turn takes less. So a thread first looks for some
-// microseconds and keeps its processor, then for some milliseconds and lends it to others, and only then sleeps.
+// A sleeping processor is slow to wake: a millisecond or more on a virtual machine, and a turn takes less. So a thread first spins for some
+// microseconds, then reads on for some milliseconds and yields its processor between reads, and only then sleeps.
 const SPINS: u64 = 4000;
 
 const YIELDS: u64 = 20000;
 
-/// Looks until the word is no longer `seen`, for a while. Returns what it saw last.
+/// Reads the word until it is no longer `seen`, for a limited time: spins, then yields. Returns the value that it read last.
 pub(crate) fn look_past(word: &AtomicU64, seen: u64) -> u64 {
     for _ in 0..SPINS {
         let now = word.load(Ordering::SeqCst);
@@ -57,8 +57,18 @@ pub(crate) fn look_past(word: &AtomicU64, seen: u64) -> u64 {
     word.load(Ordering::SeqCst)
 }
 
-/// Waits until the word is no longer `seen`: looks for a while, then sleeps. Whoever changes the word wakes its sleepers, if `asleep` says
-/// that there are some.
+/// Stores `x` in the word, and then wakes the threads that sleep on it, if `asleep` counts any. A thread counts itself in `asleep`, then
+/// reads the word once more, and only then sleeps ([`wait_past`]). So the store has to come before the read of `asleep`. In the other
+/// order, a thread that falls asleep between the two would sleep for ever.
+pub(crate) fn store_and_wake(word: &AtomicU64, x: u64, asleep: &PaddedAtomic) {
+    word.store(x, Ordering::SeqCst);
+    if asleep.load() != 0 {
+        word.wake_all();
+    }
+}
+
+/// Waits until the word is no longer `seen`: first as [`look_past`] does, then asleep. A thread that changes the word calls
+/// [`store_and_wake`].
 pub(crate) fn wait_past<R: Wait>(
     rt: &R,
     word: &AtomicU64,

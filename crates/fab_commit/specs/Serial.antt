@@ -38,7 +38,7 @@ at_start r sites =
       total = 0;
     }
 
--- 1 if so, else 0
+-- 1 if true, else 0
 abbrev pub one_if : Bool → ℕ
 one_if b = if b then 1 else 0
 

@@ -353,7 +353,7 @@ fn a_crew_makes_the_moves_of_single_turns(rt: HostRuntime) -> Result<(), Fail> {
     )
 }
 
-// Holds each judgement until `threads` threads are in one, for at most a minute.
+// Holds each judgement until `threads` threads are in one, for at most 40 seconds.
 #[derive(Drop)]
 pub(crate) struct Together<'a> {
     pub(crate) rt: &'a HostRuntime,

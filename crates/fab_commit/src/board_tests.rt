@@ -442,7 +442,7 @@ fn all_workers_of_a_batch_judge_at_once(rt: HostRuntime) -> Result<(), Fail> {
     )
 }
 
-// The last number's judgement waits until that of the first has begun, for at most a minute, and the first one's takes until all other
+// The last number's judgement waits until that of the first has begun, for at most 40 seconds, and the first one's takes until all other
 // threads sleep. The owner begins with the last number. So a worker judges the first one, and the owner has to sleep for it.
 #[derive(Drop)]
 struct Slow<'a> {

@@ -196,7 +196,7 @@ fn words_are_asked_for_once_for_each_judgement(rt: HostRuntime) -> Result<(), Fa
     )
 }
 
-// Waits until the count is at least `wanted`, for at most a minute; then the test has failed, and nothing is waited for any more.
+// Waits until the count is at least `wanted`, for at most 40 seconds; then the test has failed, and nothing is waited for any more.
 pub(crate) fn hold(rt: &HostRuntime, count: &AtomicU64, wanted: u64, failed: &AtomicU64) {
     for _turn in 0..HELD {
         if count.load(Ordering::SeqCst) >= wanted || failed.load(Ordering::SeqCst) != 0 {

@@ -1,5 +1,5 @@
 // A crew of fab_board whose workers have states of this test's own: an owner that gets far ahead of late workers, one that keeps its end of
-// a crew that has ended, and one to which is left what no worker judges.
+// a crew that has ended, one to which is left what no worker judges, and one that posts before its workers have begun.
 ghost use Rattle.std.specs.Prelude.{All, ◌≡◌, ◌<◌, ◌≤◌, Some, IfOk, length};
 ghost use Rattle.std.specs.Thread.{IsSync};
 
@@ -25,10 +25,27 @@ const NUMBERS: u64 = 200;
 
 const LEFT: u64 = 63;
 
+// How many crews an owner has that posts at once, and how many of them have a worker that claims at least. The system is mostly quick enough
+// to start one.
+const CREWS: u64 = 16;
+
+const WITH_A_WORKER: u64 = 12;
+
 // What is posted: a number to judge.
 #[derive(Clone, Copy)]
 struct Step {
     number: u64,
+}
+
+// How the workers of a crew work.
+#[derive(Clone, Copy, PartialEq, Eq)]
+enum Pace {
+    // They are late with their first post.
+    Late,
+    // They are late with it, and take a millisecond over each number.
+    Slow,
+    // They wait for nothing.
+    Prompt,
 }
 
 // How many workers have begun, how many numbers they have judged, and whether one of these was waited for in vain.
@@ -38,32 +55,32 @@ struct Watch<'a> {
     begun: AtomicU64,
     judged: AtomicU64,
     failed: AtomicU64,
-    // Whether a worker takes a millisecond over each number. Then how many numbers were left to the owner, and how many answers were right.
-    is_slow: bool,
+    pace: Pace,
+    // Beside slow workers: how many numbers were left to the owner, and how many answers were right.
     left: AtomicU64,
     right: AtomicU64,
 }
 
 impl<'a> Watch<'a> {
-    fn new(rt: &'a HostRuntime, is_slow: bool) -> Watch<'a> {
+    fn new(rt: &'a HostRuntime, pace: Pace) -> Watch<'a> {
         Watch {
             rt,
             begun: AtomicU64::new(0),
             judged: AtomicU64::new(0),
             failed: AtomicU64::new(0),
-            is_slow,
+            pace,
             left: AtomicU64::new(0),
             right: AtomicU64::new(0),
         }
     }
 }
 
-// Counts the posts that it has followed, and answers with that count. A worker's waits at its first post: until `LEFT` numbers were left to
-// the owner, or until all other threads sleep. Contracts see nothing of it.
+// Counts the posts that it has followed, and answers with that count. A worker's waits at its first post, unless it is prompt: until `LEFT`
+// numbers were left to the owner, or until all other threads sleep. Contracts see nothing of it.
 #[derive(Drop)]
 struct Counted<'a> {
     watch: &'a Watch<'a>,
-    is_late: bool,
+    is_worker: bool,
     posts: u64,
 }
 
@@ -76,25 +93,28 @@ impl<'a> Model for Counted<'a> {
 }
 
 impl<'a> Counted<'a> {
-    fn new(watch: &'a Watch<'a>, is_late: bool) -> Counted<'a>
+    fn new(watch: &'a Watch<'a>, is_worker: bool) -> Counted<'a>
         ensures { result ≡ 0 }
     {
         Counted {
             watch,
-            is_late,
+            is_worker,
             posts: 0,
         }
     }
 }
 
 impl<'a> Follow<Step, u64> for Counted<'a> {
-    ghost use Rattle.std.specs.Prelude.{◌≡◌};
+    ghost use Rattle.std.specs.Prelude.{◌≡◌, true, false};
 
     ghost may = { λ s e. e ≡ e };
 
     ghost after = { λ s e. s };
 
     ghost answer = { λ s k x. x ≡ x };
+
+    // It judges one number and no more.
+    ghost ready = { λ s. true ≡ false };
 
     fn first(&self, post: &Step) -> u64 {
         post.number
@@ -109,13 +129,17 @@ impl<'a> Follow<Step, u64> for Counted<'a> {
     }
 
     fn follow(&mut self, _post: &Step) {
-        if self.is_late && self.posts == 0 {
+        if self.is_worker && self.posts == 0 {
             let watch = self.watch;
             watch.begun.fetch_add(1, Ordering::SeqCst);
-            if watch.is_slow {
-                hold(watch.rt, &watch.left, LEFT, &watch.failed);
-            } else if was_busy(watch.rt) {
-                watch.failed.store(1, Ordering::SeqCst);
+            match watch.pace {
+                Pace::Late => {
+                    if was_busy(watch.rt) {
+                        watch.failed.store(1, Ordering::SeqCst);
+                    }
+                }
+                Pace::Slow => hold(watch.rt, &watch.left, LEFT, &watch.failed),
+                Pace::Prompt => {}
             }
         }
         self.posts = self.posts.saturating_add(1);
@@ -127,8 +151,8 @@ impl<'a> Follow<Step, u64> for Counted<'a> {
             return false;
         }
         places[0] = self.posts;
-        if self.is_late {
-            if self.watch.is_slow {
+        if self.is_worker {
+            if self.watch.pace == Pace::Slow {
                 thread::sleep(self.watch.rt, Duration::from_millis(1));
             }
             self.watch.judged.fetch_add(1, Ordering::SeqCst);
@@ -202,8 +226,9 @@ fn run_ahead<S: Follow<Step, u64>, J: Naming + Boarding + Origin<S>, R: Wait>(
     hold(watch.rt, &watch.judged, POSTS / 2, &watch.failed);
 }
 
-// Posts numbers beside slow workers, and looks for each when it is due, for the later ones when workers have judged one more. What these have
-// not judged is left to the owner.
+// Posts numbers beside slow workers, and looks for each when it is due. What these have not judged is left to the owner. Until an answer is
+// right, the owner looks for the later numbers only when workers have judged one more: such an owner has waited for no worker, so it keeps no
+// number from them. An owner that waits often does.
 fn leave<S: Follow<Step, u64>, J: Naming + Boarding + Origin<S>, R: Wait>(
     rt: &R,
     owner_end: &mut OwnerEnd<S, J>,
@@ -219,7 +244,7 @@ fn leave<S: Follow<Step, u64>, J: Naming + Boarding + Origin<S>, R: Wait>(
         let one_more = watch.judged.load(Ordering::SeqCst).saturating_add(1);
         let _ = owner_end.lead.post(rt, Step { number });
         let due = number.saturating_sub(1);
-        if number > NUMBERS / 2 {
+        if number > NUMBERS / 2 && watch.right.load(Ordering::SeqCst) == 0 {
             hold(watch.rt, &watch.judged, one_more, &watch.failed);
         }
         if owner_end.lead.look(rt, due, &mut owner_end.sheet) > 0 {
@@ -254,8 +279,24 @@ fn go_on<S: Follow<Step, u64>, J: Naming + Boarding + Origin<S>, R: Wait>(
     right
 }
 
-// Runs ahead of a crew of this name, and goes on where it has ended; or, beside slow workers, makes what is left to the owner. Returns how
-// many answers were right then, and how many units were claimed, if all workers have ended.
+// What the owner does beside its crew.
+fn begin<S: Follow<Step, u64>, J: Naming + Boarding + Origin<S>, R: Wait>(
+    rt: &R,
+    owner_end: &mut OwnerEnd<S, J>,
+    watch: &Watch<'_>,
+    workers: u64,
+)
+    requires may { (s : S) (e : Step) → S.may s e }
+{
+    match watch.pace {
+        Pace::Late => run_ahead(rt, owner_end, watch, workers),
+        Pace::Slow => leave(rt, owner_end, watch, workers),
+        Pace::Prompt => post_each(rt, owner_end, 0, POSTS),
+    }
+}
+
+// Runs ahead of a crew of this name, and goes on where it has ended; or, beside slow workers, makes what is left to the owner; or posts at
+// once. Returns how many answers were right then, and how many units were claimed, if all workers have ended.
 fn posted_by<
     S: Follow<Step, u64> + Send,
     J: Naming + Boarding + Origin<S> + Send + Sync,
@@ -285,18 +326,12 @@ fn posted_by<
         &mut owner_end,
         &mut |d: &mut OwnerEnd<S, J>| -> ()
             requires { IsSync R.row × ((s : S) (e : Step) → S.may s e) }
-        {
-            if watch.is_slow {
-                leave(rt, d, watch, workers);
-            } else {
-                run_ahead(rt, d, watch, workers);
-            }
-        },
+        { begin(rt, d, watch, workers) },
     );
-    let right = if watch.is_slow {
-        watch.right.load(Ordering::SeqCst)
-    } else {
-        go_on(rt, &mut owner_end)
+    let right = match watch.pace {
+        Pace::Late => go_on(rt, &mut owner_end),
+        Pace::Slow => watch.right.load(Ordering::SeqCst),
+        Pace::Prompt => 0,
     };
     drop(owner_end);
     let Some(retired) = retire(crew) else {
@@ -316,16 +351,16 @@ struct Told {
 }
 
 // What comes of a crew of so many workers.
-fn late_run<R: Threads + Wait + Sync>(
+fn crew_run<R: Threads + Wait + Sync>(
     rt: &R,
     alloc: Global,
     clock: &HostRuntime,
     workers: u64,
-    is_slow: bool,
+    pace: Pace,
 ) -> Result<Told, AllocError>
     requires { (0 < workers) × (workers ≤ 64) }
 {
-    let watch = Watch::new(clock, is_slow);
+    let watch = Watch::new(clock, pace);
     let founded = found(alloc, &watch, workers)?;
     let (right, taken) = posted_by::<Counted<'_>, Brand, R>(
         rt,
@@ -351,7 +386,7 @@ fn an_owner_waits_for_late_workers_and_outlives_its_crew(rt: HostRuntime) -> Res
         &rt,
         &mut || -> Result<(), Fail> {
             for workers in 1..3u64 {
-                let told = late_run(&rt, rt.alloc(), &rt, workers, false)?;
+                let told = crew_run(&rt, rt.alloc(), &rt, workers, Pace::Late)?;
                 assert_eq!(rt; (told.failed, told.right), (0, POSTS), "{workers} workers");
                 let Some(taken) = told.taken else {
                     return Err(Fail::from("a worker has not ended"));
@@ -371,7 +406,7 @@ fn what_no_worker_judges_is_left_to_the_owner(rt: HostRuntime) -> Result<(), Fai
         &rt,
         &mut || -> Result<(), Fail> {
             for workers in 1..3u64 {
-                let told = late_run(&rt, rt.alloc(), &rt, workers, true)?;
+                let told = crew_run(&rt, rt.alloc(), &rt, workers, Pace::Slow)?;
                 assert_eq!(rt;
                     told.left.saturating_add(told.right),
                     NUMBERS - 1,
@@ -383,6 +418,28 @@ fn what_no_worker_judges_is_left_to_the_owner(rt: HostRuntime) -> Result<(), Fai
                 assert!(rt; told.right <= told.judged, "{workers} workers");
                 assert!(rt; told.taken.is_some(), "{workers} workers");
             }
+            Ok(())
+        },
+    )
+}
+
+// The owner posts more often than the ring has slots before its workers have begun. It waits until they have, so they claim.
+#[test]
+fn workers_that_have_not_begun_yet_are_waited_for(rt: HostRuntime) -> Result<(), Fail> {
+    in_time(
+        &rt,
+        &mut || -> Result<(), Fail> {
+            let mut with_a_worker = 0u64;
+            for _crew in 0..CREWS {
+                let told = crew_run(&rt, rt.alloc(), &rt, 2, Pace::Prompt)?;
+                let Some(taken) = told.taken else {
+                    return Err(Fail::from("a worker has not ended"));
+                };
+                if taken > 0 {
+                    with_a_worker = with_a_worker.saturating_add(1);
+                }
+            }
+            assert!(rt; with_a_worker >= WITH_A_WORKER, "{with_a_worker} crews");
             Ok(())
         },
     )

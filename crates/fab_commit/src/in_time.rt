@@ -8,11 +8,12 @@ use std::thread;
 use std::thread::{Threads, join_mut};
 use std::time::{Clock, Duration};
 
-// How long such a test may take, in milliseconds: many times what it takes on a machine at rest, since others may use this one.
-const LIMIT: u64 = 100_000;
+// How long such a test may take, in milliseconds: many times what it takes on an idle machine, since other programs may use this one.
+const LIMIT: u64 = 50_000;
 
-/// How long a thread is held for what a test wants to see, in milliseconds: a limit that only a test that fails comes to.
-pub(crate) const HELD: u64 = 60_000;
+/// How long a test holds a thread back for what it wants to see, in milliseconds. Only a test that fails reaches this limit. Both limits
+/// are below the minute after which `rt` ends a test.
+pub(crate) const HELD: u64 = 40_000;
 
 // Ends the test as failed, unless `ended` is set within the limit.
 fn watch<R: Abort + Clock>(rt: &R, ended: &AtomicU64) {

@@ -9,8 +9,9 @@ ghost use Rattle.fab_commit.specs.Laws.Turns.{CutTurnsLeadOn, EveryBatchIsSerial
 
 use fab_site::Words;
 
-/// Law: from a standing with nothing claimed or judged, every list of events leads to the same live standing as making moves one at a
-/// time, as many as the events committed. Each verdict that is taken is the judgement of its move on the live placement.
+/// Law: start from a standing with nothing claimed or judged, and take any list of events. It leads to the same live standing as n moves
+/// made one at a time, if n is the number of moves that the events committed. Each verdict that is taken is the judgement of its move on
+/// the live placement.
 pub fn every_schedule_is_serial()
     ensures { EveryScheduleIsSerial }
 {}
@@ -20,39 +21,39 @@ pub fn moves_compose()
     ensures { MovesCompose }
 {}
 
-/// Law: from a legal placement moves lead only to legal ones, by words below 2^32. The words of each seed are (`seeds`). Legal means that
-/// each block is on a site of its kind, no two blocks share a site, and each fixed block is at its site. The same holds for words of any
-/// size that propose sites of the block's kind (`kinds`).
+/// Law: if all words are below 2^32, moves lead from a legal placement only to legal ones. The words of each seed are below 2^32 (`seeds`).
+/// Legal means that each block is on a site of its kind, no two blocks share a site, and each fixed block is at its site. The same holds
+/// for words of any size that propose sites of the block's kind (`kinds`).
 pub fn placements_stay_legal()
     ensures legal { PlacementsStayLegal }
     ensures seeds { SeedsGiveWords }
     ensures kinds { PlacementsStayLegalByKinds }
 {}
 
-/// Law: after every list of events, each verdict is the judgement of its move on the placement of its base, which is a placement that
-/// moves made one at a time lead through. The move belongs to the stage and is not made yet.
+/// Law: after every list of events, each verdict is the judgement of its move on the placement of its base. Moves made one at a time lead
+/// through that placement. The move belongs to the stage and is not made yet.
 pub fn verdicts_are_of_their_base()
     ensures { VerdictsAreOfTheirBase }
 {}
 
-/// Law: after every list of events, the accepted swaps are those of moves made one at a time. Together with a verdict's base these
-/// determine whether the verdict is spoiled.
+/// Law: after every list of events, the accepted swaps are those of moves made one at a time. These swaps and a verdict's base determine
+/// whether the verdict is stale.
 pub fn spoiled_verdicts_are_serial()
     ensures accepted { AcceptedSwapsAreSerial }
     ensures redone { RedoneIsSerial }
 {}
 
-/// Law: for each mark it suffices to keep the number of the last accepted move that touched it. This tells as much as the list of
-/// accepted swaps.
+/// Law: for each mark it suffices to keep the number of the last accepted move that touched it. These numbers decide what was touched since
+/// a base exactly as the list of accepted swaps does.
 pub fn stamps_tell()
     ensures { StampsTell }
 {}
 
 /// Law of a turn. The turn discards the verdicts beyond its batch, judges the missing moves of the batch and then the next batch of
 /// the stage, commits the batch, and refreshes the older placement. This leads from the world after one turn to the world after the
-/// next. There both placements are those of moves made one at a time, nothing is claimed, and the only verdicts are those of the next
-/// batch, on the placement at the turn's start. After a turn that is cut short because memory ran out there are no verdicts. A move
-/// is redone exactly if a stamp of a mark that it rests on is above its base.
+/// next. In that world both placements are those of moves made one at a time, nothing is claimed, and the only verdicts are those of the
+/// next batch, on the placement at the turn's start. If a turn is cut short because memory ran out, there are no verdicts after it. A
+/// move is redone exactly if a stamp of a mark of its footprint is above its base.
 pub fn turns_are_serial()
     ensures reached { TurnsAreReached }
     ensures turn { TurnsLeadOn }
@@ -62,10 +63,10 @@ pub fn turns_are_serial()
     ensures stamps { RedoneByStamps }
 {}
 
-/// Law of how many moves are redone. For the first moves of a turn, for a turn, and for turns of any batches, moves made one at a time
-/// and their bases tell how many moves are redone. If all turns have the same batch, arithmetic alone tells the bases: the run's part
-/// of a stage is cut into batches, and a move is first judged on the placement where the batch before its own began, or where its own
-/// batch began if that is the first.
+/// Law of how many moves are redone, for the first moves of a turn, for a turn, and for turns of any batches. The number follows from moves
+/// made one at a time and their bases. If all turns have the same batch, the bases follow from arithmetic alone: the run's part of a stage
+/// is cut into batches, and a move is first judged on the placement at the start of the batch before its own. A move of the first batch is
+/// first judged on the placement at the start of that batch.
 pub fn redone_is_told()
     ensures beginning { WaysOfABeginning }
     ensures turn { WaysOfATurn }

@@ -1,5 +1,5 @@
-//! Annealing: moves are judged and committed, and lead to a placement. `run` is what runs execute, those of the program and those by single
-//! turns. `model` is executed by tests alone: contracts speak of it, and another scheduler can be built on it. `laws` are theorems for
+//! Annealing: moves are judged and committed, and lead to a placement. `run` is what runs execute: runs of the program, and runs by single
+//! turns. `model` is what contracts mention; only tests execute it, and another scheduler can be built on it. `laws` are theorems for
 //! callers.
 #![tactic(auto)]
 

@@ -1,5 +1,5 @@
-//! What a run executes: an annealer, whose owner commits moves while workers judge the next ones. Callers that make single turns
-//! execute `single_turn`, `crew_turn`, `turn` and `verdicts`; a run of the program does not.
+//! What a run executes: an annealer. Its owner commits moves while workers judge the next ones. `single_turn`, `crew_turn`, `turn` and
+//! `verdicts` are for callers that make single turns; a run of the program does not execute them.
 
 pub mod alone;
 pub mod annealer;

@@ -519,7 +519,7 @@ fn a_move_is_judged_again_behind_the_call_for_its_commit(rt: HostRuntime) -> Res
 }
 
 /// Holds the judgement of move 0 until that of move 1 is over, the commit of move 0 until a move of the next batch is
-/// judged, and the judgement of move 4 until move 1 is committed. Each is held for at most a minute.
+/// judged, and the judgement of move 4 until move 1 is committed. Each is held for at most 40 seconds.
 #[derive(Drop)]
 struct Overlap<'a> {
     rt: &'a HostRuntime,
@@ -530,7 +530,7 @@ struct Overlap<'a> {
 }
 
 impl Overlap<'_> {
-    /// Waits until this is no longer 0, for at most a minute.
+    /// Waits until this is no longer 0, for at most 40 seconds.
     fn hold(&self, until: &AtomicU64) {
         for _turn in 0..HELD {
             if until.load(Ordering::SeqCst) != 0 {

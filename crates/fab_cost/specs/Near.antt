@@ -7,12 +7,12 @@ use Rattle.fab_cost.specs.declared.records.Record.{Record}
 use Rattle.fab_cost.specs.Runs.{is_large}
 use Rattle.fab_cost.specs.Swapping.{blocks_of}
 
--- of the numbers by block, those that pass a test and are below x are x now, and the others are as they were
+-- the numbers of the blocks that pass the test were raised to x, if they were lower. All others are as they were
 pub record AreLifted (test : ℕ → Bool) (x : ℕ) (old new : List ℕ) : Type 0 where
   pub long : length new ≡ length old
   pub each : (k : ℕ) → k < length old → slice_index new k ≡ (if test k then max (slice_index old k) x else slice_index old k)
 
--- the numbers in some records, which are those of blocks, or the one past the last block
+-- the numbers in some records. Each is that of a block, or the one past the last block
 abbrev pub blocks_in : {W : ℕ} → List (Record W) → List ℕ
 blocks_in [] = []
 blocks_in (r ∷ rs) = r.others ++ blocks_in rs

@@ -1,4 +1,4 @@
--- Positions as vectors of lanes, the nets of a block as records of the other blocks on them, and what is kept so (our own).
+-- Positions as vectors of lanes, the nets of a block as records of the other blocks on them, and how kept values fit together (our own).
 use Rattle.std.specs.Prelude.{ℕ, ◌≡◌, ◌+◌, ◌*◌, ◌^◌, ◌-◌, ◌<◌, ◌≤◌, ◌==◌, ◌&&◌, ◌||◌, not, nat_lt, nat_le, min, if◌then◌else◌, Bool, true, false, List, [], ◌∷◌, ◌++◌, map, replicate, take, filter, length, slice_index, slice_index_or, refl}
 use Rattle.std.specs.List.{sum_by, range_with_len}
 use lib.Lanes.{Each1, zip2, fold_l, sum_l}
@@ -26,7 +26,7 @@ pub record AreFourBelow (a b c d e f g h : ℕ) : Type 0 where
   pub third : c < g
   pub fourth : d < h
 
--- a position as four lanes: column, 1001 less column, row, 1001 less row. So one minimum finds all four edges of a box
+-- a position as four lanes: column, 1001 minus column, row, 1001 minus row. So one minimum finds all four edges of a box
 abbrev pub lanes_for : Position → List ℕ
 lanes_for p = four p.x (1001 - p.x) p.y (1001 - p.y)
 
@@ -38,15 +38,16 @@ lanes_at g s = lanes_for (position_at g s)
 abbrev pub least_of : List ℕ → List ℕ → List ℕ
 least_of a b = zip2 (λ x y. min x y) a b
 
--- the edges of a box as lanes: the least column and row, and how far the greatest is from the far end
+-- the edges of a box as lanes: the least column and row, and 1001 minus the greatest column and row
 abbrev pub edge_lanes : CountedBox → List ℕ
 edge_lanes b = four b.x.least.at (1001 - b.x.greatest.at) b.y.least.at (1001 - b.y.greatest.at)
 
--- the lane of an edge, less 1 if the edge has more than `most` terminals
+-- the lane of an edge, or 1 less if the edge has more than `most` terminals
 abbrev pub lowered : ℕ → ℕ → ℕ → ℕ
 lowered most count lane = if nat_lt most count then lane - 1 else lane
 
--- the edges of a box as lanes that a site's lane exceeds if the site is inside, or on an edge with more than `most` terminals
+-- the edges of a box as lanes. A site's lanes are all greater if the site is inside the box, or only on edges with more than `most`
+-- terminals
 abbrev pub inner_lanes : ℕ → CountedBox → List ℕ
 inner_lanes most b =
     four (lowered most b.x.least.count b.x.least.at) (lowered most b.x.greatest.count (1001 - b.x.greatest.at)) (lowered most b.y.least.count b.y.least.at) (lowered most b.y.greatest.count (1001 - b.y.greatest.at))
@@ -61,7 +62,7 @@ pub record AreInner (inner : List (List ℕ)) (most : List ℕ) (boxes : List Co
 pub record AreMost (most : List ℕ) (nets : List (List ℕ)) : Type 0 where
   pub each : (n b : ℕ) → times b (slice_index_or nets n []) ≤ slice_index_or most n 0
 
--- the numbers of a block's first `i` nets are raised to how many of the net's terminals are on the block, and none is lowered
+-- the number of each of a block's first `i` nets is raised to the count of the net's terminals on the block, and no number is lowered
 pub record AreRaised (d : Netlist) (b i : ℕ) (old new : List ℕ) : Type 0 where
   pub long : length new ≡ length old
   pub grown : (n : ℕ) → slice_index_or old n 0 ≤ slice_index_or new n 0
@@ -71,11 +72,11 @@ pub record AreRaised (d : Netlist) (b i : ℕ) (old new : List ℕ) : Type 0 whe
 abbrev pub reach_lanes : GridShape → Swap → List ℕ
 reach_lanes g s = least_of (lanes_at g s.from) (lanes_at g s.to)
 
--- where no block is
+-- the lanes for no block
 abbrev pub no_lanes : List ℕ
 no_lanes = four 65535 65535 65535 65535
 
--- the vectors of some sites by number, and past the last the one of no block
+-- the lanes of site number k; past the last site those for no block
 abbrev pub lanes_in : GridShape → List Site → ℕ → List ℕ
 lanes_in g sites k = slice_index_or (map (lanes_at g) sites) k no_lanes
 
@@ -83,26 +84,26 @@ lanes_in g sites k = slice_index_or (map (lanes_at g) sites) k no_lanes
 abbrev pub table_of : GridShape → List Site → List (List ℕ)
 table_of g sites = map (lanes_at g) sites ++ no_lanes ∷ []
 
--- the positions by which a table is made: its last vector is that of no block
+-- the positions from which a table is made. The table's last vector is for no block
 abbrev pub positions_in : List (List ℕ) → List Position
 positions_in table = map (λ v. record { x = slice_index v 0; y = slice_index v 2 }) (take (length table - 1) table)
 
--- the table of some positions; its last vector is that of no block
+-- the table of some positions. Its last vector is for no block
 abbrev pub table_from : List Position → List (List ℕ)
 table_from positions = map lanes_for positions ++ no_lanes ∷ []
 
--- the vector of a block, where one block is seen at another place
+-- the vector of block k: `to` if it is the block `moved`, else the one in the table
 abbrev pub seen_in : List (List ℕ) → ℕ → List ℕ → ℕ → List ℕ
 seen_in table moved to k = if k == moved then to else slice_index_or table k no_lanes
 
--- block 1 is seen at another place than the table's, block 0 at its own
+-- block 1 has another vector than the table's
 pub seen_at_another_place : seen_in (four 1 9 2 8 ∷ four 3 7 4 6 ∷ []) 1 (four 5 5 5 5) 1 ≡ four 5 5 5 5
 seen_at_another_place = refl
 
 pub seen_at_its_own_place : seen_in (four 1 9 2 8 ∷ four 3 7 4 6 ∷ []) 1 (four 5 5 5 5) 0 ≡ four 1 9 2 8
 seen_at_its_own_place = refl
 
--- each block is seen at its site, if one block is seen at another place than the table's
+-- each block has the vector of its site, if the block `moved` has `to` instead of the one in the table
 pub record AreSeen (g : GridShape) (sites : List Site) (table : List (List ℕ)) (moved : ℕ) (to : List ℕ) : Type 0 where
   pub each : (k : ℕ) → seen_in table moved to k ≡ lanes_in g sites k
 
@@ -115,7 +116,7 @@ pub record AreLanes (v : List ℕ) : Type 0 where
 abbrev pub least_among : (ℕ → List ℕ) → List ℕ → List ℕ
 least_among f ks = fold_l (λ v k. least_of v (f k)) no_lanes ks
 
--- net n of block b as the other blocks on it, and its cross count; a number past the last block says nothing
+-- net n of block b as the other blocks on it, and its cross count. A number past the last block stands for none
 pub record IsRecord (d : Netlist) (b n : ℕ) (others : List ℕ) (q : ℕ) : Type 0 where
   pub counts : Counts d n
   pub on : has_number b (blocks_of d n) ≡ true
@@ -135,7 +136,8 @@ nets_between d above most b = filter (is_sized d above most) (nets_of d b)
 abbrev pub is_large : Netlist → ℕ → Bool
 is_large d n = nat_lt 16 (length (blocks_of d n))
 
--- a net's share of a sum: its cross count times the sum of the least lanes; v is the vector of its own block, f gives those of the others
+-- a net's share of a sum: its cross count times the sum of the least lanes. v is the vector of the net's own block, and f returns the
+-- vectors of the others
 abbrev pub weight : {W : ℕ} → (ℕ → List ℕ) → List ℕ → Record W → ℕ
 weight f v r = r.factor * sum_l (least_of (least_among f r.others) v)
 
@@ -148,43 +150,43 @@ pub record AreRecords {W : ℕ} (d : Netlist) (b : ℕ) (ns : List ℕ) (rs : Li
   pub long : length rs ≡ length ns
   pub each : (i : ℕ) (z : Record W) → i < length ns → IsRecord d b (slice_index ns i) (slice_index_or rs i z).others (slice_index_or rs i z).factor
 
--- the places, among the nets of a block, of those with many terminals
+-- the places among a block's nets of those with many terminals
 pub record AreLarge (d : Netlist) (b : ℕ) (is : List ℕ) : Type 0 where
   pub within : (k : ℕ) → k < length is → slice_index is k < length (nets_of d b)
   pub nets : map (λ i. slice_index (nets_of d b) i) is ≡ filter (is_large d) (nets_of d b)
 
--- of each block the nets with more than `above` terminals, and at most `most`
+-- for each block, the records of its nets with more than `above` and at most `most` terminals
 pub record HasRows {W : ℕ} (d : Netlist) (above most : ℕ) (rows : List (List (Record W))) : Type 0 where
   pub long : length rows ≡ length d.kinds
   pub each : (b : ℕ) → b < length d.kinds → AreRecords d b (nets_between d above most b) (slice_index_or rows b [])
 
--- each block has the places of its nets with many terminals
+-- for each block, the places of its nets with many terminals
 pub record HasLarge (d : Netlist) (rows : List (List ℕ)) : Type 0 where
   pub long : length rows ≡ length d.kinds
   pub each : (b : ℕ) → b < length d.kinds → AreLarge d b (slice_index_or rows b [])
 
--- of each block a record of each net with 2 to 4, 5 to 8 and 9 to 16 terminals, and the places of those with more
+-- for each block, a record of each net with 2 to 4, 5 to 8 and 9 to 16 terminals, and the places of those with more
 pub record HasRecords (p : Runs) (d : Netlist) : Type 0 where
   pub small : HasRows {W = 3} d 1 4 p.rows.small
   pub middle : HasRows {W = 7} d 4 8 p.rows.middle
   pub wide : HasRows {W = 15} d 8 16 p.rows.wide
   pub large : HasLarge d p.rows.large
 
--- what those of these nets cost that have up to 16 terminals
+-- the cost of those of the nets `ns` that have up to 16 terminals
 abbrev pub few_cost : Netlist → GridShape → List Site → List ℕ → ℕ
 few_cost d g sites ns = sum_by (net_cost d g sites) (filter (λ n. not (is_large d n)) ns)
 
--- what all nets cost that count and have up to 16 terminals
+-- the cost of all nets that count and have up to 16 terminals
 abbrev pub few_all : Netlist → GridShape → List Site → ℕ
 few_all d g sites = few_cost d g sites (counted d)
 
--- `gained` less `lost` is `after` less `before`; both are below 2^48
+-- `gained` minus `lost` is `after` minus `before`; both are below 2^48
 pub record IsStep (before after gained lost : ℕ) : Type 0 where
   pub balance : after + lost ≡ before + gained
   pub gained_few : gained < 2 ^ 48
   pub lost_few : lost < 2 ^ 48
 
--- of block c the nets, if it is below k; of block k the first j
+-- the nets of block c if c is below k, its first j nets if c is k, and else none
 abbrev pub nets_to : Netlist → ℕ → ℕ → ℕ → List ℕ
 nets_to d k j c = if nat_lt c k then nets_of d c else (if c == k then take j (nets_of d c) else [])
 
@@ -229,15 +231,15 @@ counted_over positions blocks =
       y = edges_of (map (λ k. (slice_index_or positions k no_position).y) blocks);
     }
 
--- the box of a net: by the positions of its blocks, or the one that is kept, if it has many terminals
+-- the box of a net. If it has many terminals, the kept one; else the box from the positions of its blocks
 abbrev pub box_seen : List (List ℕ) → List Position → List CountedBox → ℕ → CountedBox
 box_seen nets positions kept n = if nat_lt 16 (length (slice_index_or nets n [])) then counted_at kept n else counted_over positions (slice_index_or nets n [])
 
--- the boxes of all nets, where those with few terminals are made from positions
+-- the boxes of all nets. Those of nets with few terminals come from positions
 unfoldable pub boxes_seen : List (List ℕ) → List Position → List CountedBox → List CountedBox
 boxes_seen nets positions kept = map (box_seen nets positions kept) (range_with_len 0 (length nets))
 
--- what is kept fits together: whatever the design of these nets and blocks, the runs are its nets
+-- the kept values fit together. For every design with these nets and blocks, the runs are its nets
 pub record IsKept (table : List (List ℕ)) (r : Runs) (kept : List CountedBox) (most : List ℕ) (total : ℕ) : Type 0 where
   pub below : total < 2 ^ 43
   pub vectors : table ≡ table_from (positions_in table)

@@ -1,8 +1,8 @@
--- The nets of each block by size, in four tables whose rows begin where one table says (our own).
+-- The nets of each block by size, in four tables. One table has where the rows of all four begin (our own).
 use Rattle.std.specs.Prelude.{ℕ, ◌≡◌, ◌+◌, ◌<◌, ◌≤◌, List, [], ◌∷◌, length, map, slice_index, refl}
 use Rattle.fab_cost.specs.declared.records.Record.{Record}
 
--- of each block the records of its nets with 2 to 4, 5 to 8 and 9 to 16 terminals, and the places of those with more
+-- for each block, the records of its nets with 2 to 4, 5 to 8 and 9 to 16 terminals, and the places of those with more
 pub record SizedRowsOf : Type 0 where
   pub small : List (List (Record 3))
   pub middle : List (List (Record 7))

@@ -1,4 +1,4 @@
-//! The box of a net with its edge counts, from the sites of its terminals, and how a swap changes it.
+//! The box of a net with its edge counts, computed from the sites of its terminals, and how a swap changes it.
 
 ghost use Rattle.std.specs.Prelude.{◌≡◌, ℕ, ◌↔◌, ◌<◌, ◌≤◌, map, length, MatchOption, Some, IsTrue};
 ghost use Rattle.std.specs.List.{All};
@@ -24,7 +24,7 @@ fn is_other(other: Option<BlockId>, block: BlockId) -> bool
     }
 }
 
-/// The site of the block after the swap, if there is one.
+/// The site of the block after the swap; its present site if there is no swap.
 #[tactic(auto, using(crate::proofs::Sited::site_of_moved, crate::proofs::Sited::site_of_other, crate::proofs::Sited::site_of_rest))]
 fn site_after(placement: &Placement, swap: Option<Swap>, block: BlockId) -> Site
     requires { block.0 < length placement.now.sites }
@@ -45,7 +45,7 @@ fn site_after(placement: &Placement, swap: Option<Swap>, block: BlockId) -> Site
     }
 }
 
-/// The box of these terminals after the swap, if there is one.
+/// The box of these terminals after the swap; their present box if there is no swap.
 #[tactic(auto, using(crate::proofs::BoxMoves::x_small, crate::proofs::BoxMoves::y_small, crate::proofs::BoxMoves::box_whole))]
 pub(crate) fn counted_box(
     grid: &Grid,
@@ -74,7 +74,7 @@ pub(crate) fn counted_box(
     CountedBox { x, y }
 }
 
-/// The box after `count` terminals have gone from one site to another; `None` if an edge lost its last terminal.
+/// The box after `count` terminals went from `from` to `to`, or `None` if an edge lost its last terminal.
 #[tactic(auto, using(crate::proofs::BoxMoves::box_after))]
 fn shifted(old: CountedBox, grid: &Grid, from: Site, to: Site, count: u32) -> Option<CountedBox>
     requires some { 0 < count }

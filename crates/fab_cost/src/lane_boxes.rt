@@ -1,4 +1,4 @@
-//! The box of a net after a swap, made from the lanes of its blocks, for a judgement. No kept box changes.
+//! The box of a net after a swap, computed from the lanes of its blocks, for a judgement. No kept box changes.
 
 ghost use Rattle.std.specs.Prelude.{◌≡◌, ◌<◌, List, [], map, length, take, slice_index_or};
 ghost use Rattle.std.specs.List.{All};
@@ -19,7 +19,7 @@ use fab_net::{BlockId, Design, NetId, Terminal};
 use fab_site::{Placement, Swap};
 use std::simd::prelude::*;
 
-/// The lanes of the block after the swap, which takes its blocks to `to` and `from`.
+/// The lanes of `block` after the swap. The swap's block goes to the lanes `to`, and the block `back` to the lanes `from`.
 #[tactic(auto, using(crate::proofs::LaneBoxes::moved, crate::proofs::LaneBoxes::back, crate::proofs::LaneBoxes::still))]
 #[inline(always)]
 fn lanes_swapped(
@@ -47,7 +47,7 @@ fn lanes_swapped(
     }
 }
 
-/// The lane-wise least of the terminals' lanes after the swap.
+/// The lane-wise minimum of the terminals' lanes after the swap.
 #[tactic(auto, using(crate::proofs::LaneBoxes::low, crate::proofs::LaneBoxes::none, crate::proofs::LaneBoxes::all))]
 #[inline(always)]
 fn around_swapped(

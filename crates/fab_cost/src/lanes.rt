@@ -1,4 +1,4 @@
-//! Positions as vectors of four lanes: the box of some blocks is the least of their vectors, lane by lane.
+//! Positions as vectors of four lanes. The lane-wise minimum of some blocks' vectors is their box.
 
 ghost use Rattle.std.specs.Prelude.{◌≡◌, ℕ, ◌<◌, IsTrue};
 ghost use Rattle.fab_arch.specs.Grid.{GridShape};
@@ -14,14 +14,14 @@ use fab_arch::{Grid, Site};
 use fab_site::Swap;
 use std::simd::prelude::*;
 
-/// The lanes of no block: no box grows by it.
+/// The lanes for no block: they enlarge no box.
 pub(crate) fn nowhere() -> u16x4
     ensures { result ≡ four 65535 65535 65535 65535 }
 {
     u16x4::splat(65535)
 }
 
-/// The clipped column and row, and 1001 less each.
+/// The lanes of a site: its clipped column, 1001 minus that, its clipped row, and 1001 minus that.
 #[tactic(auto, unfolding(crate::specs::Cost::clip))]
 pub(crate) fn lanes_of(grid: &Grid, site: Site) -> u16x4
     ensures { result ≡ lanes_at grid.now site }
@@ -31,7 +31,7 @@ pub(crate) fn lanes_of(grid: &Grid, site: Site) -> u16x4
     u16x4::from_array([x, 1001 - x, y, 1001 - y])
 }
 
-/// The lane-wise least.
+/// The lane-wise minimum.
 #[inline(always)]
 pub(crate) fn joined(one: u16x4, other: u16x4) -> u16x4
     ensures { result ≡ least_of one other }
@@ -48,7 +48,7 @@ pub(crate) fn total(one: u16x4) -> u16
     one.strict_reduce_sum()
 }
 
-/// The least column and row of a box, and 1001 less the greatest column and row.
+/// The edges of a box as lanes: the least column, 1001 minus the greatest column, the least row, and 1001 minus the greatest row.
 pub(crate) fn edge_lanes_of(edges: CountedBox) -> u16x4
     ensures { result ≡ edge_lanes edges }
 {
@@ -60,7 +60,7 @@ pub(crate) fn edge_lanes_of(edges: CountedBox) -> u16x4
     ])
 }
 
-/// The lane of an edge, less 1 if the edge has more than `most` terminals.
+/// The lane `lane` of an edge with `count` terminals, or 1 less if the edge has more than `most` terminals.
 fn lowered(most: u32, count: u32, lane: u16) -> u16
     ensures { result ≡ less_if_many most count lane }
 {
@@ -71,7 +71,7 @@ fn lowered(most: u32, count: u32, lane: u16) -> u16
     }
 }
 
-/// The edges of a box as lanes, each less 1 if the edge has more than `most` terminals.
+/// The edges of a box as lanes. A lane is 1 less if its edge has more than `most` terminals.
 pub(crate) fn inner_lanes_of(most: u32, edges: CountedBox) -> u16x4
     ensures { result ≡ inner_lanes most edges }
 {
@@ -85,7 +85,7 @@ pub(crate) fn inner_lanes_of(most: u32, edges: CountedBox) -> u16x4
     ])
 }
 
-/// The lane-wise least of the two sites of a swap: the least column and row, and 1001 less the greatest column and row.
+/// The lane-wise minimum of the two sites of a swap: their least column and row, and 1001 minus their greatest column and row.
 #[inline(always)]
 pub(crate) fn reach_of(grid: &Grid, swap: &Swap) -> u16x4
     ensures { result ≡ reach_lanes grid.now swap.now }
@@ -111,7 +111,7 @@ fn are_below(one: u16x4, other: u16x4) -> bool
     one.simd_lt(other).all()
 }
 
-/// Whether no site is outside the box with these lanes, nor on an edge with `most` terminals or fewer.
+/// Whether no site of the swap is outside the box with the lanes `inner`, and none is on an edge with `most` terminals or fewer.
 #[inline(always)]
 pub(crate) fn holds(inner: u16x4, reach: u16x4) -> bool
     ensures { (most : ℕ) (g : GridShape) (b : CountedEdges) (s : SwapOf) →

@@ -27,7 +27,7 @@ use fab_net::{BlockId, Design, NetId, Terminal};
 use fab_site::{Placement, Swap};
 use std::simd::prelude::*;
 
-/// The box after `count` terminals have gone from one site to another; `None` if an edge lost its last terminal.
+/// The box after `count` terminals went from `from` to `to`, or `None` if an edge lost its last terminal.
 #[tactic(auto, using(crate::proofs::Changes::plain_after))]
 #[inline]
 fn moved(old: CountedBox, grid: &Grid, from: Site, to: Site, count: u32) -> Option<NetBox>
@@ -51,8 +51,8 @@ fn moved(old: CountedBox, grid: &Grid, from: Site, to: Site, count: u32) -> Opti
     }
 }
 
-/// The box of a net after the swap, with `mine` and `others` of its terminals on the swapped blocks. The two numbers
-/// differ. `None` if an edge lost its last terminal.
+/// The box of a net after the swap, with `mine` and `others` of its terminals on the swapped blocks; `None` if an edge lost its last
+/// terminal. `mine` and `others` must differ.
 #[tactic(auto, using(crate::proofs::Changes::plain_on, crate::proofs::Changes::plain_back))]
 #[inline]
 fn moved_by(old: CountedBox, grid: &Grid, swap: &Swap, mine: u32, others: u32) -> Option<NetBox>
@@ -73,7 +73,7 @@ fn moved_by(old: CountedBox, grid: &Grid, swap: &Swap, mine: u32, others: u32) -
     }
 }
 
-/// The box of a net after the swap, which has more terminals on one of the swapped blocks than on the other.
+/// The box of a net after the swap. The net must have more terminals on one of the swapped blocks than on the other.
 #[tactic(auto, using(crate::proofs::Changes::plain_given))]
 #[inline]
 fn new_box(
@@ -109,7 +109,7 @@ fn new_box(
     }
 }
 
-/// What a net of these terminals costs with the box after the swap, and with the box before it.
+/// The cost of a net of these terminals with the box `new`, after the swap, and with the box `old`, before it.
 #[tactic(auto, using(crate::proofs::Making::net_cost_from, crate::proofs::Nets::counted_cost_from, crate::proofs::Making::terminals_some, crate::proofs::Bounds::terminals_few))]
 fn tally_of_boxes(
     design: &Design,

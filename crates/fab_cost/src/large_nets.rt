@@ -1,5 +1,4 @@
-//! The nets with many terminals, whose boxes are kept with edge counts: how a swap changes their cost, and, by `renew_large`, their
-//! boxes after it.
+//! The nets with many terminals, whose boxes are kept with edge counts: how a swap changes their cost, and (by `renew_large`) their boxes.
 
 ghost use Rattle.std.specs.Prelude.{◌≡◌, ◌≢◌, ℕ, ◌<◌, ◌≤◌, ◌+◌, ◌^◌, ◌||◌, ◌==◌, true, false, if◌then◌else◌, List, length, map, take, IfOk, Some, slice_index, slice_index_or, slice_set};
 ghost use Rattle.std.specs.List.{All, list_any, sum_by};
@@ -32,18 +31,18 @@ use fab_site::{Placement, Swap};
 use std::alloc::{AllocError, Global};
 use std::simd::prelude::*;
 
-/// By net number the box of each large net, and its edges as lanes; a placeholder for every other net.
+/// By net number: the box of each large net and its edges as lanes, and a placeholder for every other net.
 pub(crate) struct LargeBoxes {
     pub(crate) boxes: Vec<CountedBox>,
     /// The most terminals that one block has on the net.
     pub(crate) most: Vec<u32>,
-    /// The edges as lanes. A lane is less by 1 if the edge has more terminals than one block can take away.
+    /// The edges as lanes. A lane is 1 less if the edge has more terminals than one block can take away.
     inner: Vec<u16x4>,
     ghost alike: { AreInner inner.items most.items boxes.items },
 }
 
 impl Drop for LargeBoxes {
-    // A written `drop` is one step of a proof wherever a value goes out of scope; a derived one is proved again each time.
+    // A `drop` by hand is proved once; a derived `drop` is proved again wherever a value goes out of scope.
     fn drop(self) {
         let LargeBoxes {
             boxes: _,
@@ -53,7 +52,7 @@ impl Drop for LargeBoxes {
     }
 }
 
-/// Adds to each box its edges as lanes.
+/// Adds the edges as lanes to each box.
 #[tactic(auto, using(crate::proofs::EdgeLanes::inner_to_none))]
 fn with_lanes(
     alloc: Global,
@@ -104,7 +103,7 @@ impl LargeBoxes {
         self.inner[net.0 as usize]
     }
 
-    /// Renews the box of the net.
+    /// Sets the box of the net, and its lanes.
     fn set(&mut self, net: NetId, new: CountedBox)
         requires { net.0 < length self.old.boxes.items }
         ensures boxes { self.new.boxes.items ≡ slice_set self.old.boxes.items net.0 new }
@@ -146,7 +145,7 @@ fn renewed(view: &SwapView<'_>, old: CountedBox, net: NetId, shares: PinCounts) 
     swapped_box(old, terminals, view.grid, view.placement, view.swap, shares)
 }
 
-/// What a net with this box costs, in ten-thousandths.
+/// The cost of a net with this box, in ten-thousandths.
 #[tactic(auto, using(crate::proofs::Nets::counted_cost_from, crate::proofs::Making::terminals_some, crate::proofs::Bounds::terminals_few))]
 pub(crate) fn cost_of_counted(design: &Design, net: NetId, kept: CountedBox) -> u64
     requires { Counts design.now net.0 }
@@ -158,7 +157,7 @@ pub(crate) fn cost_of_counted(design: &Design, net: NetId, kept: CountedBox) -> 
     kept.cost(terminals.len() as u32)
 }
 
-/// What the net costs with the box after the swap, and with the box before it.
+/// The cost of the net with the box `new`, after the swap, and with the box `old`, before it.
 fn tally_between(design: &Design, net: NetId, old: CountedBox, new: CountedBox) -> Tally
     requires { Counts design.now net.0 }
     ensures gained { (g : GridShape) (sites : List ArraySite) →
@@ -174,7 +173,7 @@ fn tally_between(design: &Design, net: NetId, old: CountedBox, new: CountedBox) 
     }
 }
 
-/// The box, if the net is a large one.
+/// The box `made` if the net is a large one, else a placeholder.
 #[tactic(auto, using(crate::proofs::Large::not_large))]
 fn if_large(design: &Design, net: NetId, made: CountedBox) -> CountedBox
     requires { Counts design.now net.0 }
@@ -222,8 +221,8 @@ pub(crate) fn boxes_for(
     Ok((with_lanes(alloc, boxes, most)?, total))
 }
 
-/// How the swap changes the cost of large net `k` of a block, of which `row` has the places; nothing if it is also a net of the
-/// block `but`.
+/// How the swap changes the cost of large net `k` of a block; nothing if it is also a net of the block `but`. `row` has the places of the
+/// block's large nets.
 #[tactic(auto, using(crate::proofs::Large::row_within))]
 #[inline(always)]
 fn change_of_kept(
@@ -334,8 +333,8 @@ pub(crate) fn change_of_large(
     }
 }
 
-/// Renews the box of large net `k` of a block, of which `row` has the places, unless it is also a net of the block `but`. Returns
-/// the net's cost after and before.
+/// Renews the box of large net `k` of a block, unless it is also a net of the block `but`. `row` has the places of the block's large nets.
+/// Returns the net's cost after and before.
 #[tactic(auto)]
 fn renew_kept(
     view: &SwapView<'_>,
@@ -370,7 +369,7 @@ fn renew_kept(
     tally_between(view.design, net, old, new)
 }
 
-/// Renews the box of large net `k` of a block, if the swap changes it and it is no net of the block `but`. Returns how the net's
+/// Renews the box of large net `k` of a block, if the swap may change it and it is not also a net of the block `but`. Returns how the net's
 /// cost changes.
 #[tactic(auto, using(crate::proofs::Large::row_within))]
 fn renew_net(
@@ -487,7 +486,7 @@ pub(crate) fn renew_large(
     }
 }
 
-/// Copies the boxes of these nets from another list.
+/// Copies the boxes of `nets` from `from`.
 fn take_nets(large: &mut LargeBoxes, from: &LargeBoxes, nets: &[NetId])
     requires within { All (λ (n : Net). n.0 < length large.old.boxes.items) nets.now }
     requires from { length from.now.boxes.items ≡ length large.old.boxes.items }
@@ -503,7 +502,7 @@ fn take_nets(large: &mut LargeBoxes, from: &LargeBoxes, nets: &[NetId])
     }
 }
 
-/// Copies the boxes of the nets of a swap's blocks from another list.
+/// Copies the boxes of the nets of a swap's blocks from `from`.
 pub(crate) fn take_boxes(large: &mut LargeBoxes, from: &LargeBoxes, design: &Design, swap: &Swap)
     requires block { swap.now.block.0 < length design.now.kinds }
     requires other { (b : Block) → swap.now.other ≡ Some b → b.0 < length design.now.kinds }

@@ -1,4 +1,4 @@
-//! How many terminals of a net one block has at most.
+//! The most terminals that one block has on a net.
 
 ghost use Rattle.std.specs.Prelude.{◌≡◌, ◌<◌, max, length, slice_index, slice_index_or, slice_set, IfOk};
 ghost use Rattle.fab_net.specs.Netlist.{nets_of};
@@ -10,7 +10,7 @@ use crate::block_nets::{count_of_nets, net_of, own_pins};
 use fab_net::{BlockId, Design};
 use std::alloc::{AllocError, Global};
 
-/// Raises the number of net `i` of a block to how many of the net's terminals are on the block.
+/// Raises the number of net `i` of a block to the count of the net's terminals on the block, if it is lower.
 fn raise_net(most: &mut Vec<u32>, design: &Design, block: BlockId, i: usize)
     requires block { block.0 < length design.now.kinds }
     requires within { i < length (nets_of design.now block.0) }
@@ -26,7 +26,7 @@ fn raise_net(most: &mut Vec<u32>, design: &Design, block: BlockId, i: usize)
     most[net] = most[net].max(pins);
 }
 
-/// Raises the number of each net of a block to how many of the net's terminals are on the block.
+/// Raises the number of each net of a block to the count of the net's terminals on the block, if it is lower.
 #[tactic(auto, using(crate::proofs::Most::raised_none, crate::proofs::Most::raised_all))]
 fn raise_nets(most: &mut Vec<u32>, design: &Design, block: BlockId)
     requires block { block.0 < length design.now.kinds }
@@ -40,7 +40,7 @@ fn raise_nets(most: &mut Vec<u32>, design: &Design, block: BlockId)
     }
 }
 
-/// By net number the most terminals that one block has on the net.
+/// For each net, the most terminals that one block has on it.
 pub(crate) fn most_pins(alloc: Global, design: &Design) -> Result<Vec<u32>, AllocError>
     ensures long { IfOk result (λ most. length most.items ≡ length design.now.terminals) }
     ensures most { IfOk result (λ most. AreMost most.items (counted_blocks design.now)) }

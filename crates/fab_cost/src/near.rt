@@ -1,4 +1,4 @@
-//! Numbers by block, raised near a block: those of the other blocks on its nets with few terminals.
+//! Numbers by block. They are raised near a block: for the other blocks on its nets with few terminals.
 
 ghost use Rattle.std.specs.Prelude.{◌≡◌, ◌==◌, ◌<◌, ◌≤◌, length};
 ghost use Rattle.fab_net.specs.Netlist.{has_number};
@@ -9,7 +9,7 @@ use crate::records::Record;
 use crate::runs::Runs;
 use fab_net::{BlockId, Design};
 
-/// Raises the number of a block to a stamp, if it is lower. Beyond the end there is none.
+/// Raises the number of `block` to `stamp`, if it is lower. Does nothing if `numbers` has no entry for `block`.
 pub fn lift_one(numbers: &mut Vec<u64>, block: usize, stamp: u64)
     ensures { AreLifted (λ k. k == block) stamp numbers.old.items numbers.new.items }
 {
@@ -18,7 +18,7 @@ pub fn lift_one(numbers: &mut Vec<u64>, block: usize, stamp: u64)
     }
 }
 
-/// Raises the numbers of the blocks on a record to a stamp.
+/// Raises the numbers of the blocks on a record to `stamp`, if they are lower.
 fn lift_record<const W: usize>(numbers: &mut Vec<u64>, net: &Record<W>, stamp: u64)
     ensures { AreLifted (λ k.
         has_number k net.now.others) stamp numbers.old.items numbers.new.items }
@@ -28,7 +28,7 @@ fn lift_record<const W: usize>(numbers: &mut Vec<u64>, net: &Record<W>, stamp: u
     }
 }
 
-/// Raises the numbers of the blocks on some records to a stamp.
+/// Raises the numbers of the blocks on some records to `stamp`, if they are lower.
 fn lift_records<const W: usize>(numbers: &mut Vec<u64>, records: &[Record<W>], stamp: u64)
     ensures { AreLifted (λ k.
         has_number k (blocks_in records.now)) stamp numbers.old.items numbers.new.items }
@@ -38,7 +38,7 @@ fn lift_records<const W: usize>(numbers: &mut Vec<u64>, records: &[Record<W>], s
     }
 }
 
-/// Raises to a stamp the numbers of the other blocks on those nets of a block that have up to 16 terminals.
+/// Raises numbers to `stamp`, if they are lower: those of the other blocks on the nets of `block` that have up to 16 terminals.
 pub(crate) fn lift_near(
     runs: &Runs,
     _design: &Design,

@@ -1,4 +1,4 @@
-//! The nets of a block, each as a record of the other blocks on it, and what they bring to a sum.
+//! The nets of a block, each as a record of the other blocks on it, and how their cost changes.
 
 ghost use Rattle.std.specs.Prelude.{◌≡◌, ◌+◌, ◌*◌, ◌<◌, ◌≤◌, ◌^◌, List, ℕ, length, slice_index, slice_index_or};
 ghost use Rattle.std.specs.List.{All, sum_by};
@@ -9,8 +9,8 @@ use crate::lanes::{joined, nowhere, total};
 use crate::tally::Tally;
 use std::simd::prelude::*;
 
-/// A net with few terminals, as one of its blocks sees it: the other blocks on it, filled up with the number past the last block, and
-/// its cross count.
+/// A net with few terminals, for one of its blocks: the other blocks on it, and its cross count. Unused entries of `others` have the number
+/// past the last block.
 #[derive(Clone, Copy)]
 pub struct Record<const W: usize> {
     pub others: [u16; W],
@@ -20,15 +20,15 @@ pub struct Record<const W: usize> {
 /// No block has this number.
 pub(crate) const NO_BLOCK: u32 = 65536;
 
-/// A block whose entry in the table is overridden by `place`, or `NO_BLOCK`.
+/// A block that has the lanes `place` instead of those in the table. If `block` is `NO_BLOCK`, there is none.
 #[derive(Clone, Copy)]
 pub(crate) struct Moved {
     pub(crate) block: u32,
     pub(crate) place: u16x4,
 }
 
-/// The lanes of a block, where one block is seen at another place. This chooses between two addresses, so that no branch is
-/// mispredicted.
+/// The lanes of block `other`: those in `moved` if that is the block, else those in the table. This chooses between two addresses, so that
+/// no branch is mispredicted.
 #[inline(always)]
 fn seen<'a>(table: &'a [u16x4], moved: &'a Moved, other: u16) -> &'a u16x4
     requires { other < length table.now }
@@ -41,7 +41,7 @@ fn seen<'a>(table: &'a [u16x4], moved: &'a Moved, other: u16) -> &'a u16x4
     }
 }
 
-/// The lane-wise least of the other blocks of a net.
+/// The lane-wise minimum of the other blocks of a net.
 #[tactic(auto, using(crate::proofs::Mins::least_more, crate::proofs::Mins::least_all))]
 #[inline(always)]
 fn around<const W: usize>(table: &[u16x4], moved: &Moved, net: &Record<W>) -> u16x4
@@ -57,8 +57,8 @@ fn around<const W: usize>(table: &[u16x4], moved: &Moved, net: &Record<W>) -> u1
     all
 }
 
-/// A cross count times how far the sum of a net's least lanes falls when its block goes from `base` to `target`, with 1,001 more for each
-/// lane, so that none is below 0: one sum in place of two.
+/// The cross count `factor`, times how far a lane sum falls when the net's block goes from `base` to `target`. The lanes are the minimum of
+/// the block's and of `all`, the other blocks'. Each lane gets 1,001 more, so that none is below 0: one sum is enough instead of two.
 #[inline(always)]
 fn weighed(factor: u16, all: u16x4, base: u16x4, target: u16x4) -> u64
     requires base { AreLanes base }
@@ -72,7 +72,7 @@ fn weighed(factor: u16, all: u16x4, base: u16x4, target: u16x4) -> u64
     u64::from(factor) * u64::from(fall)
 }
 
-/// How the cost of some records' nets changes when their block goes from `base` to `target`: a lane sum falls as a box grows.
+/// How the cost of the nets in `records` changes when their block goes from `base` to `target`. If a box grows, its lane sum falls.
 #[tactic(auto, using(crate::proofs::Mins::change_all))]
 #[inline(always)]
 pub(crate) fn change_of_records<const W: usize>(

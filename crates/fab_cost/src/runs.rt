@@ -1,5 +1,5 @@
-//! The nets of each block by size: up to 16 terminals as records of the other blocks on them, in three tables; larger ones as places
-//! among the block's nets.
+//! The nets of each block by size. Nets with up to 16 terminals are records of the other blocks on them, in three tables. Larger nets are
+//! places among the block's nets.
 
 ghost use Rattle.std.specs.Prelude.{◌≡◌, ℕ, ◌<◌, ◌≤◌, ◌+◌, ◌&&◌, ◌==◌, not, true, IfOk, OnOk, map, length, slice_index};
 ghost use Rattle.std.specs.List.{All};
@@ -17,15 +17,15 @@ use fab_net::rows::{Rows, gather};
 use fab_net::{BlockId, Design, NetId, Terminal};
 use std::alloc::{AllocError, Global};
 
-/// Of each block its nets with 2 to 4, 5 to 8 and 9 to 16 terminals, and the places, among the block's nets, of those with
-/// more. Of each net that is not global the block of each terminal. Nets of one terminal cost the same everywhere.
+/// For each block: its nets with 2 to 4, 5 to 8 and 9 to 16 terminals, and the places among its nets of those with more. Nets of one
+/// terminal are left out, since they cost the same everywhere. For each net that is not global: the block of each terminal.
 pub struct Runs {
     pub(crate) rows: SizedRows,
     pub(crate) terminals: Rows<u16>,
 }
 
 impl Drop for Runs {
-    // A written `drop` is one step of a proof wherever a value goes out of scope; a derived one is proved again each time.
+    // A `drop` by hand is proved once; a derived `drop` is proved again wherever a value goes out of scope.
     fn drop(self) {
         let Runs {
             rows: _,
@@ -37,7 +37,7 @@ impl Drop for Runs {
 const SMALL: usize = 4;
 
 const MIDDLE: usize = 8;
-/// Nets of up to this many terminals are looked at by the positions of their blocks; of larger ones the box is kept.
+/// For nets with up to this many terminals, changes are computed from the positions of their blocks. For larger nets the box is kept.
 pub(crate) const WIDE: usize = 16;
 
 /// Whether a net has more than 16 terminals.
@@ -63,7 +63,7 @@ fn record_of<const W: usize>(none: u16, block: BlockId, terminals: &[Terminal]) 
     ensures factor { result.factor ≡ cross_of (length terminals.now) }
 {
     let mut others = [none; W];
-    // One place less than terminals is enough, since the block itself is left out.
+    // One entry less than there are terminals is enough, since the block itself is left out.
     let mut skip: usize = 0;
     'terminals: for i in 0..terminals.len() {
         let other = terminals[i].block.0;
@@ -77,7 +77,7 @@ fn record_of<const W: usize>(none: u16, block: BlockId, terminals: &[Terminal]) 
     Record { others, factor }
 }
 
-/// Adds net `i` of a block, if it has more than `above` terminals, and at most `most`.
+/// Adds net `i` of a block, if it has more than `above` and at most `most` terminals.
 #[tactic(auto, using(crate::proofs::Packs::packed_pushed, crate::proofs::Packs::packed_passed, crate::proofs::Packs::record_is, crate::proofs::Packs::sized_by, crate::proofs::Packs::unsized_by))]
 fn push_record<const W: usize>(
     entries: &mut Vec<(u32, Record<W>)>,
@@ -105,7 +105,7 @@ fn push_record<const W: usize>(
     Ok(())
 }
 
-/// Adds the nets of a block.
+/// Adds the nets of a block that have more than `above` and at most `most` terminals.
 #[tactic(auto, using(crate::proofs::Packs::packed_next, crate::proofs::Steps::nets_few))]
 fn push_records<const W: usize>(
     entries: &mut Vec<(u32, Record<W>)>,
@@ -129,7 +129,7 @@ fn push_records<const W: usize>(
     Ok(())
 }
 
-/// Of each block the nets with more than `above` terminals, and at most `most`.
+/// For each block, its nets with more than `above` and at most `most` terminals.
 #[tactic(auto, using(crate::proofs::Packs::packed_none, crate::proofs::Packs::packed_all, crate::proofs::Packs::packed_few, crate::proofs::Packs::packed_within))]
 fn records_between<const W: usize>(
     alloc: Global,
@@ -154,7 +154,7 @@ fn records_between<const W: usize>(
     gather(alloc, blocks, &entries, blank)
 }
 
-/// Adds net `i` of a block, if it has many terminals.
+/// Adds the place `i` of a block's net, if the net has more than 16 terminals.
 #[tactic(auto, using(crate::proofs::Packs::larger_pushed, crate::proofs::Packs::larger_passed, crate::proofs::Packs::large_by, crate::proofs::Packs::not_large_by))]
 fn push_large(
     entries: &mut Vec<(u32, u32)>,
@@ -176,7 +176,7 @@ fn push_large(
     Ok(())
 }
 
-/// Adds the nets of a block with many terminals.
+/// Adds the places of a block's nets with more than 16 terminals.
 #[tactic(auto, using(crate::proofs::Packs::larger_next, crate::proofs::Steps::nets_few))]
 fn push_larges(
     entries: &mut Vec<(u32, u32)>,
@@ -195,7 +195,7 @@ fn push_larges(
     Ok(())
 }
 
-/// Of each block the places of its nets with many terminals.
+/// For each block, the places of its nets with more than 16 terminals.
 #[tactic(auto, using(crate::proofs::Packs::larger_none, crate::proofs::Packs::larger_all, crate::proofs::Packs::larger_few, crate::proofs::Packs::larger_within))]
 fn large_nets(alloc: Global, design: &Design) -> Result<Rows<u32>, AllocError>
     ensures { IfOk result (λ rows. HasLarge design.now rows) }
@@ -223,7 +223,7 @@ fn push_blocks(entries: &mut Vec<(u32, u16)>, design: &Design, net: NetId) -> Re
     Ok(())
 }
 
-/// Of each net that is not global the block of each terminal, and of a global net none.
+/// For each net, the block of each terminal; for a global net none.
 #[tactic(auto, using(crate::proofs::Listings::listed_none, crate::proofs::Listings::listed_passed, crate::proofs::Listings::listed_all, crate::proofs::Listings::listed_few, crate::proofs::Listings::listed_within))]
 fn blocks_by_net(alloc: Global, design: &Design) -> Result<Rows<u16>, AllocError>
     ensures { IfOk result (λ rows. rows ≡ counted_blocks design.now) }

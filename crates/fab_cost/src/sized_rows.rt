@@ -1,5 +1,5 @@
 //! The nets of each block by size, in four tables. The four places where a block's rows begin are stored together, so that one read fetches
-//! them.
+//! all four.
 
 ghost use Rattle.std.specs.Prelude.{◌≡◌, ℕ, ◌<◌, ◌≤◌, ◌+◌, [], length, IfOk, slice_index, slice_index_or};
 ghost use Rattle.fab_net.specs.Rows.{cut_at};
@@ -12,7 +12,7 @@ use std::marker::Model;
 
 /// The rows of each block in four tables.
 pub struct SizedRows {
-    /// For each block, and once more at the end, where its rows begin in the four tables.
+    /// For each block, where its rows begin in the four tables, and at the end where the last rows end.
     starts: Vec<[u32; 4]>,
     small: Vec<Record<3>>,
     middle: Vec<Record<7>>,
@@ -39,7 +39,7 @@ impl Model for SizedRows {
 }
 
 impl Drop for SizedRows {
-    // A written `drop` is one step of a proof wherever a value goes out of scope; a derived one is proved again each time.
+    // A `drop` by hand is proved once; a derived `drop` is proved again wherever a value goes out of scope.
     fn drop(self) {
         let SizedRows {
             starts: _,
@@ -77,7 +77,7 @@ fn cut<'a, T>(starts: &[[u32; 4]], items: &'a [T], kind: usize, r: usize) -> &'a
     &items[start..stop]
 }
 
-/// Four lists of starts, of one length, in one table.
+/// Puts four lists of starts, all of the same length, into one table.
 fn zipped(
     alloc: Global,
     small: &[u32],
@@ -100,7 +100,7 @@ fn zipped(
     Ok(starts)
 }
 
-/// Puts four tables of as many rows together.
+/// Puts four tables together, which have the same number of rows.
 pub(crate) fn together(
     alloc: Global,
     small: Rows<Record<3>>,
@@ -134,7 +134,7 @@ pub(crate) fn together(
     })
 }
 
-/// Reads a record, if there is one there.
+/// Reads record number `place`, if there is one.
 fn read_record<const W: usize>(records: &[Record<W>], place: u32) -> u64 {
     match records.get(place as usize) {
         Some(record) => u64::from(record.factor),
@@ -143,7 +143,7 @@ fn read_record<const W: usize>(records: &[Record<W>], place: u32) -> u64 {
 }
 
 impl SizedRows {
-    /// Reads where the rows of a block begin, and what lies there: its first records, or those of a later block. What it returns has no
+    /// Reads where the rows of block `r` begin, and the records there: its first ones, or those of a later block. The result has no
     /// meaning.
     pub(crate) fn read_early(&self, r: usize) -> u64 {
         match self.starts.get(r) {
@@ -165,7 +165,7 @@ impl SizedRows {
         cut(&self.starts, &self.small, 0, r)
     }
 
-    /// Those of its nets with 5 to 8.
+    /// The records of a block's nets with 5 to 8 terminals.
     #[inline(always)]
     pub(crate) fn middle_row(&self, r: usize) -> &[Record<7>]
         requires { r < length self.now.middle }
@@ -174,7 +174,7 @@ impl SizedRows {
         cut(&self.starts, &self.middle, 1, r)
     }
 
-    /// Those of its nets with 9 to 16.
+    /// The records of a block's nets with 9 to 16 terminals.
     #[inline(always)]
     pub(crate) fn wide_row(&self, r: usize) -> &[Record<15>]
         requires { r < length self.now.wide }
@@ -183,7 +183,7 @@ impl SizedRows {
         cut(&self.starts, &self.wide, 2, r)
     }
 
-    /// The places, among the block's nets, of those with more.
+    /// The places among a block's nets of those with more than 16 terminals.
     #[inline(always)]
     pub(crate) fn large_row(&self, r: usize) -> &[u32]
         requires { r < length self.now.large }

@@ -1,5 +1,5 @@
-//! What a swap makes of the nets with few terminals: two steps of one block each, where the second sees the first at its new
-//! site. The lane-wise least of the other blocks' lanes is their box; the block's own lanes extend it.
+//! How a swap changes the cost of nets with few terminals. It is two steps of one block each; in the second step the first block is at its
+//! new site. The lane-wise minimum of the other blocks' lanes is their box, and the block's own lanes extend it.
 
 ghost use Rattle.std.specs.Prelude.{◌≡◌, ℕ, ◌<◌, ◌≤◌, ◌+◌, ◌^◌, List, IfOk, Some, length, slice_set};
 ghost use Rattle.fab_net.specs.declared.netlist_types.BlockId.{BlockId as Block};
@@ -21,7 +21,7 @@ use fab_site::{Placement, Swap};
 use std::alloc::{AllocError, Global};
 use std::simd::prelude::*;
 
-/// The position of each block as a vector, and at the end that of no block.
+/// The lanes of each block, and at the end those for no block.
 #[tactic(auto, using(crate::proofs::Steps::table_start, crate::proofs::Steps::table_more, crate::proofs::Steps::table_done))]
 pub(crate) fn lanes_for(
     alloc: Global,
@@ -48,7 +48,7 @@ struct Step {
     to: Site,
 }
 
-/// How the cost of the small nets of a block changes by its step, where another block is seen at another place than the table's.
+/// How the cost of a block's small nets changes by its step. The block of `moved`, if there is one, has other lanes than the table's.
 #[tactic(auto, using(crate::proofs::Steps::rows_few, crate::proofs::Steps::rows_within, crate::proofs::Steps::lanes_low))]
 #[inline(always)]
 fn change_of_step(
@@ -83,8 +83,8 @@ fn change_of_step(
     plus(one, plus(two, three))
 }
 
-/// How the swap changes the cost of the small nets: first its block goes, then the other. The first step overrides no block, since a
-/// block's records do not contain it.
+/// How the swap changes the cost of the small nets: first its block goes, then the other. In the first step no block has other lanes than
+/// the table's: a block's records do not contain the block itself.
 #[inline(always)]
 #[tactic(auto, using(crate::proofs::Sited::block_below, crate::proofs::Steps::few_none, crate::proofs::Steps::few_some))]
 pub(crate) fn change_of_small(
@@ -151,7 +151,7 @@ pub(crate) fn renew_lanes(lanes: &mut Vec<u16x4>, grid: &Grid, swap: &Swap)
     }
 }
 
-/// The box of some blocks, with the number of them on each edge.
+/// The box of some blocks, with the number of blocks on each edge.
 #[tactic(auto, using(crate::proofs::Over::table_low, crate::proofs::Over::edges_few, crate::proofs::Over::box_whole))]
 pub(crate) fn box_over(lanes: &[u16x4], blocks: &[u16]) -> CountedBox
     requires table { lanes.now ≡ table_from (positions_in lanes.now) }

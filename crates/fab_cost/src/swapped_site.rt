@@ -9,8 +9,8 @@ use fab_arch::Site;
 use fab_net::BlockId;
 use fab_site::{Placement, Swap};
 
-/// The block that goes to the site that the swap's first block leaves: the other block. If there is none, this is the first
-/// block itself, which goes elsewhere.
+/// The block that goes to the site that the swap's first block leaves: the other block. If there is none, it is the first block itself,
+/// which goes elsewhere.
 pub(crate) fn comes_back(swap: &Swap) -> BlockId
     ensures { ComesBack swap.now.block swap.now.other result }
 {
@@ -20,7 +20,7 @@ pub(crate) fn comes_back(swap: &Swap) -> BlockId
     }
 }
 
-/// The site of the block after the swap. The same memory is read whatever the block, so that no branch is mispredicted.
+/// The site of the block after the swap. Reads the same memory for every block, so that no branch is mispredicted.
 #[tactic(auto, using(crate::proofs::Sited::site_of_moved, crate::proofs::Sited::site_of_back, crate::proofs::Sited::site_of_still))]
 #[inline(always)]
 pub(crate) fn site_swapped(

@@ -2,8 +2,8 @@
 
 ghost use Rattle.std.specs.Prelude.{◌≡◌, ◌+◌, ◌<◌, ◌^◌};
 
-/// By how much a swap changes the cost of some nets, in ten-thousandths: `gained` minus `lost`. Only the difference has a meaning:
-/// of large nets the two are costs after and before, of small nets weighted sums of lanes before and after.
+/// By how much a swap changes the cost of some nets, in ten-thousandths: `gained` minus `lost`. Only the difference has a meaning. For
+/// large nets the two are costs after and before; for small nets they are weighted sums of lanes before and after.
 #[derive(Clone, Copy)]
 pub(crate) struct Tally {
     pub(crate) gained: u64,

@@ -6,11 +6,11 @@ use Rattle.fab_dial.specs.declared.readings.Reading.{Reading}
 use Rattle.fab_dial.specs.declared.rule.View.{View}
 use Rattle.fab_dial.specs.Shown.{StartsWith, EndsWith}
 
--- the views of a shower that showed these readings, and so has seen them, and of a watcher that saw these readings
+-- the view of a shower that showed these readings, and so has seen them
 abbrev pub shower : List Reading → View
 shower shown = record { is_shower = true; shown = shown; seen = shown }
 
--- what a watcher knows that has read these
+-- the view of a watcher that has seen these readings
 abbrev pub watcher : List Reading → View
 watcher seen = record { is_shower = false; shown = []; seen = seen }
 
@@ -18,7 +18,7 @@ watcher seen = record { is_shower = false; shown = []; seen = seen }
 abbrev pub nobody : View
 nobody = watcher []
 
--- the view v, joined by what a watcher saw
+-- the view v, with what the view w has seen
 abbrev pub joined : View → View → View
 joined v w = record { is_shower = v.is_shower; shown = v.shown; seen = w.seen }
 
@@ -38,7 +38,7 @@ pub record Kept (held : Reading) (views : List View) : Type 0 where
 abbrev pub Stores : View → Reading → Reading → View → Type 0
 Stores v held new w = w ≡ shower (v.shown ++ new ∷ [])
 
--- after a load of `held` the list up to it is seen; for the shower that is everything that it showed
+-- after a load of `held`, the list up to it is seen. For the shower, that is everything that it showed
 pub record Loads (v : View) (held same : Reading) (w : View) : Type 0 where
   pub kept : w ≡ joined v w
   pub goes_on : StartsWith w.seen v.seen

@@ -2,11 +2,11 @@
 use Rattle.std.specs.Prelude.{◌≡◌, List, [], ◌∷◌, ◌++◌, refl}
 use Rattle.fab_dial.specs.declared.readings.Reading.{Reading}
 
--- the list begins with these
+-- the list begins with the readings `these`
 abbrev pub StartsWith : List Reading → List Reading → Type 0
 StartsWith list these = (rest : List Reading) × (list ≡ these ++ rest)
 
--- this is the last of the list
+-- the list ends with this reading
 abbrev pub EndsWith : List Reading → Reading → Type 0
 EndsWith list reading = (before : List Reading) × (list ≡ before ++ reading ∷ [])
 

@@ -59,8 +59,8 @@ impl Model for Watcher {
 }
 
 impl Dial {
-    /// Creates a dial that shows `first`, its shower, and `watchers` watchers, from 0 to 64, that have seen `first`. An error means that
-    /// memory ran out.
+    /// Creates a dial that shows `first`, its shower, and `watchers` watchers (0 to 64) that have seen `first`. An error means that memory
+    /// ran out.
     pub fn new<R: Wait>(
         rt: &R,
         alloc: Global,
@@ -94,8 +94,8 @@ impl Dial {
         self.store(rt, &mut shower.pass, reading);
     }
 
-    /// Returns the last reading of a list that begins with everything this watcher had seen, and that the watcher has seen now. By
-    /// contract the watcher is one of this dial. The reading need not be the newest in time.
+    /// Returns the reading that this watcher has now seen last. The list of what it has seen begins with all that it had seen before this
+    /// call. By contract the watcher is one of this dial. The reading need not be the newest in time.
     pub fn read<R: Wait>(&self, rt: &R, watcher: &mut Watcher) -> Reading
         requires own { watcher.old.dial ≡ self.now }
         ensures dial { watcher.new.dial ≡ watcher.old.dial }
@@ -105,8 +105,8 @@ impl Dial {
         self.load(rt, &mut watcher.pass)
     }
 
-    /// Ends the dial, and returns the last reading shown. What each of these watchers has seen is a prefix of what was shown. By contract
-    /// the shower and the watchers are of this dial. There may be fewer watchers than were made, or none.
+    /// Ends the dial, and returns the last reading shown. What each of `watchers` has seen is a prefix of what was shown. By contract the
+    /// shower and the watchers are of this dial. `watchers` may be fewer than were made, or none.
     pub fn gather<R: Wait>(self, rt: &R, mut shower: Shower, mut watchers: Vec<Watcher>) -> Reading
         requires own { shower.dial ≡ self }
         requires watchers { All (λ w. w.dial ≡ self) watchers.items }
@@ -130,7 +130,7 @@ impl Dial {
         }
     }
 
-    // Shows that what a watcher has seen is a prefix of what was shown.
+    // The prover sees from this that what a watcher has seen is a prefix of what was shown.
     fn check<R: Wait>(&self, rt: &R, shower: &mut Shower, watcher: Watcher)
         requires shower { shower.old.dial ≡ self.now }
         requires watcher { watcher.dial ≡ self.now }

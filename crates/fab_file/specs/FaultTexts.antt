@@ -1,4 +1,4 @@
--- How a fault is printed (our own): its code and its name, and the line or the block where it has one.
+-- How a fault is printed (our own): its code and its name, and the line or the block if it has one.
 use Rattle.std.specs.Prelude.{ℕ, ◌≡◌, List, ◌++◌, decimal, codes, refl}
 use Rattle.std.specs.Fmt.{digits}
 use Rattle.fab_file.specs.declared.fault.PlaceFault.{PlaceFault}

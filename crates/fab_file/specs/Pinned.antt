@@ -1,5 +1,5 @@
--- What a location text stands for (fixing after the VPR manual's pad file; that it may name any block, that its header
--- may be left out, and the last word `free` are our own): an optional header, and lines that give blocks their sites, in any order.
+-- What a location text stands for: an optional header, and lines that give blocks their sites, in any order (fixing after the VPR manual's
+-- pad file; our own are that it may name any block, that its header may be left out, and the last word `free`).
 use Rattle.std.specs.Prelude.{ℕ, ◌≡◌, Bool, true, false, ◌&&◌, ◌==◌, if◌then◌else◌, List, [], ◌∷◌, length, map, take, drop, codes, Option, Some, None}
 use Rattle.std.specs.List.{AllByRecursion}
 use Rattle.fab_text.specs.Lines.{TextLine}
@@ -14,7 +14,7 @@ use Rattle.fab_file.specs.declared.fault.PlaceFault.{PlaceFault}
 use Rattle.fab_file.specs.Place.{word_at, is_word, place_size_of, site_in, block_in}
 use Rattle.fab_file.specs.PlaceFaults.{is_block, place_header_fault, block_fault}
 
--- a first line with these first two words is the header's
+-- the first line of a text begins a header if it begins with these two words
 abbrev pub begins_header : TextLine → Bool
 begins_header l = is_word l 0 (codes "Netlist") && is_word l 1 (codes "file:")
 
@@ -23,11 +23,11 @@ abbrev pub has_header : List TextLine → Bool
 has_header [] = false
 has_header (first ∷ ls) = begins_header first
 
--- the lines after the header, or all if there is none
+-- the lines after the header, or all lines if there is none
 abbrev pub block_lines : List TextLine → List TextLine
 block_lines ls = if has_header ls then drop 2 ls else ls
 
--- a line of five words, the last of them `free`
+-- the line has five words, and the last is `free`
 abbrev pub is_free : TextLine → Bool
 is_free l = length l.words == 5 && is_word l 4 (codes "free")
 
@@ -35,7 +35,7 @@ is_free l = length l.words == 5 && is_word l 4 (codes "free")
 abbrev pub first_four : TextLine → TextLine
 first_four l = record { number = l.number; words = take 4 l.words; spans = take 4 l.spans }
 
--- a line without the last word `free`, if it has it: `name x y sub`
+-- the line without its last word, if that is the fifth and is `free`. So it is `name x y sub`
 abbrev pub without_free : TextLine → TextLine
 without_free l = if is_free l then first_four l else l
 
@@ -50,11 +50,11 @@ pub record Locates (d : Netlist) (l : TextLine) : Type 0 where
 abbrev pub site_for : Netlist → ℕ → TextLine → Option Site
 site_for d b l = if is_block b (block_in d l) then site_in l else None
 
--- the site where a line fixes a block, if it does so
+-- the site where a line fixes block `b`, if it does
 abbrev pub fixed_by : Netlist → ℕ → TextLine → Option Site
 fixed_by d b l = if is_free l then None else site_for d b (without_free l)
 
--- the site where a line only begins a block, if it does so
+-- the site where a line begins block `b` and does not fix it, if it does
 abbrev pub begun_by : Netlist → ℕ → TextLine → Option Site
 begun_by d b l = if is_free l then site_for d b (without_free l) else None
 
@@ -63,8 +63,8 @@ abbrev pub first_given : (TextLine → Option Site) → List TextLine → Option
 first_given by_line [] = None
 first_given by_line (l ∷ ls) = either_site (by_line l) (first_given by_line ls)
 
--- the text stands for these sites: a header, if there is one, gives the array's size; each line locates a block; no block has two
--- lines; blocks are fixed and begun where their lines say, and no others are; no site is given twice
+-- the text stands for these sites. A header, if there is one, gives the array's size. Each line locates a block, and no block has two
+-- lines. Blocks are fixed and begun where their lines say, and no others are. No site is given twice
 pub record IsLocated (d : Netlist) (g : GridShape) (ls : List TextLine) (fixed begun : List (Option Site)) : Type 0 where
   pub header : has_header ls ≡ true → place_size_of ls ≡ Some (g.nx, g.ny)
   pub lines : AllByRecursion (Locates d) (block_lines ls)
@@ -81,11 +81,11 @@ pin_fault d g before l = block_fault d g (map without_free before) (without_free
 abbrev pub header_fault : GridShape → List TextLine → Option PlaceFault
 header_fault g ls = if has_header ls then place_header_fault g ls else None
 
--- a whole text has no fault if its header and its block lines have none: it need not name every block
+-- if the header and the block lines have no fault, the whole text has none: it need not name every block
 abbrev pub no_text_fault : List TextLine → Option PlaceFault
 no_text_fault blocks = None
 
--- the first fault of a location text: the header's, else the first of the block lines' faults
+-- the first fault of a location text: the header's, or else the first of the block lines' faults
 abbrev pub pins_fault : Netlist → GridShape → List TextLine → Option PlaceFault
 pins_fault d g ls = or_else (header_fault g ls) (fault_of_all (pin_fault d g) no_text_fault (block_lines ls))
 

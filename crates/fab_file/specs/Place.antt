@@ -12,11 +12,11 @@ use Rattle.fab_net.specs.Names.{number_of, AllDistinct}
 use Rattle.fab_net.specs.Netlist.{Netlist}
 use Rattle.fab_site.specs.Placement.{site_of, IsLegal}
 
--- word i of a line; empty if there is none
+-- word i of a line, or an empty one if there is none
 abbrev pub word_at : TextLine → ℕ → List ℕ
 word_at l i = slice_index_or l.words i []
 
--- word i of a line is this
+-- word i of a line is `name`
 abbrev pub is_word : TextLine → ℕ → List ℕ → Bool
 is_word l i name = bytes_eq (word_at l i) name
 
@@ -25,7 +25,7 @@ abbrev pub small : Result ℕ NumFault → Option ℕ
 small (Ok n) = if nat_le n 65535 then Some n else None
 small (Err e) = None
 
--- a whole number of at most 65,535
+-- the whole number that a word writes, if it is at most 65,535
 abbrev pub small_number : List ℕ → Option ℕ
 small_number word = small (decimal_of word 0)
 
@@ -54,7 +54,7 @@ both (Some x) (Some y) = Some (x, y)
 abbrev pub size_in : TextLine → Option (ℕ × ℕ)
 size_in l = if is_size_line l then both (small_number (word_at l 2)) (small_number (word_at l 4)) else None
 
--- the size that a header gives, from those of its lines that exist
+-- the size that a header gives; `files` and `size` are its two lines, if they exist
 abbrev pub header_size : Option TextLine → Option TextLine → Option (ℕ × ℕ)
 header_size None size = None
 header_size (Some files) None = None
@@ -66,7 +66,7 @@ place_size_of [] = None
 place_size_of (files ∷ []) = header_size (Some files) None
 place_size_of (files ∷ size ∷ rest) = header_size (Some files) (Some size)
 
--- a site, if its three numbers are there
+-- the site with these three numbers, if there are all three
 abbrev pub site_from : Option ℕ → Option ℕ → Option ℕ → Option Site
 site_from None y sub = None
 site_from (Some x) None sub = None
@@ -87,12 +87,12 @@ pub record Places (d : Netlist) (sites : List Site) (l : TextLine) : Type 0 wher
   pub named : block_in d l ≡ Some block
   pub stands : site_in l ≡ Some (site_of sites block)
 
--- the line names this block
+-- the line names the block `name`
 abbrev pub names_block : List ℕ → TextLine → Bool
 names_block name l = bytes_eq name (word_at l 0)
 
--- the text stands for this placement: its header gives the size of the array, each line after it places a block, no block has two
--- lines, each has one, and the placement is legal
+-- the text stands for this placement. Its header gives the size of the array, and each line after it places a block. Each block has exactly
+-- one line, and the placement is legal
 pub record StandsFor (d : Netlist) (g : GridShape) (ls : List TextLine) (sites : List Site) : Type 0 where
   pub files : TextLine
   pub size : TextLine

@@ -13,7 +13,7 @@ use Rattle.fab_file.specs.declared.fault.PlaceFault.{PlaceFault}
 use Rattle.fab_file.specs.declared.fault.PlaceFault.TheVariants.{BadHeader, WrongSize, UnknownBlock, Repeated, NoSuchSite, WrongKind, Taken, Missing, BadLine, NoMemory}
 use Rattle.fab_file.specs.Place.{place_size_of, site_in, block_in, names_block, StandsFor}
 
--- the fault of a header that gives this size, or none; it must give this array's size
+-- the fault of a header: `BadHeader` if it gives no size, `WrongSize` if it gives a size that is not the array's
 abbrev pub size_fault_by : GridShape → Option (ℕ × ℕ) → Option PlaceFault
 size_fault_by g None = Some BadHeader
 size_fault_by g (Some size) = unless (size.0 == g.nx && size.1 == g.ny) WrongSize
@@ -26,7 +26,7 @@ place_header_fault g ls = size_fault_by g (place_size_of ls)
 abbrev pub sites_given : List TextLine → List Site
 sites_given ls = filter_map site_in ls
 
--- a block is named, and it is this one
+-- whether a block is named, and it is block number `block`
 abbrev pub is_block : ℕ → Option ℕ → Bool
 is_block block None = false
 is_block block (Some other) = other == block
@@ -42,13 +42,13 @@ same_kind site_kind.Logic site_kind.Pad = false
 same_kind site_kind.Pad site_kind.Logic = false
 same_kind site_kind.Pad site_kind.Pad = true
 
--- the fault of a block on a site of some kind: the site does not exist, or is not of the block's kind
+-- the fault of a block on a site of this kind: there is no such site, or it is not of the block's kind
 abbrev pub kind_fault : Netlist → ℕ → ℕ → Option SiteKind → Option PlaceFault
 kind_fault d n block None = Some (NoSuchSite n)
 kind_fault d n block (Some kind) = unless (same_kind kind (kind_wanted d block)) (WrongKind n)
 
--- the first fault of block line n, which follows others; `site` is the site that it gives, `named` the block that it names, each `None` if
--- absent
+-- the first fault of block line n, which follows the lines `before`; `site` is the site that it gives, and `named` the block that it names,
+-- if there is one
 abbrev pub block_fault_by : Netlist → GridShape → List TextLine → ℕ → Option Site → Option ℕ → Option PlaceFault
 block_fault_by d g before n None named = Some (BadLine n)
 block_fault_by d g before n (Some site) None = Some (UnknownBlock n)
@@ -70,7 +70,7 @@ missing_fault (Some block) = Some (Missing block)
 abbrev pub text_fault : Netlist → List TextLine → Option PlaceFault
 text_fault d blocks = missing_fault (position (λ name. not (list_any (names_block name) blocks)) d.names)
 
--- the first fault of a text: the header's, else the first of the block lines' faults, else that of the whole text
+-- the first fault of a text: the header's, or else the first of the block lines' faults, or else that of the whole text
 abbrev pub first_fault : Netlist → GridShape → List TextLine → Option PlaceFault
 first_fault d g ls = or_else (place_header_fault g ls) (fault_of_all (block_fault d g) (text_fault d) (drop 2 ls))
 
@@ -80,7 +80,7 @@ PlaceMeansOrFaults d g ls =
     ((sites : List Site) → StandsFor d g ls sites → first_fault d g ls ≡ None)
     × (first_fault d g ls ≡ None → (sites : List Site) × StandsFor d g ls sites)
 
--- a returned fault is this one, or out of memory, which may come for any text
+-- a returned fault is `fault`, or out of memory, which may come for any text
 abbrev pub FaultIs : PlaceFault → Option PlaceFault → Type 0
 FaultIs NoMemory fault = Unit {0}
 FaultIs e fault = fault ≡ Some e

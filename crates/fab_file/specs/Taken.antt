@@ -1,4 +1,4 @@
--- What block lines have said so far: the site that a line gave each block (our own).
+-- What the block lines read so far mean: for each block the site that a line gave it (our own).
 use Rattle.std.specs.Prelude.{ℕ, ◌≡◌, Bool, not, is_some, if◌then◌else◌, List, position, replicate, length, Option, Some, None, slice_get, slice_set}
 use Rattle.fab_text.specs.Lines.{TextLine}
 use Rattle.fab_text.specs.FirstFault.{or_else, unless}
@@ -21,7 +21,7 @@ pub record LinesOf : Type 0 where
   pub grid : GridShape
   pub sites : List (Option Site)
 
--- each site given is one of the array's, and of its block's kind; no two blocks have the same
+-- the array has each given site, and it is of its block's kind; no two blocks have the same site
 pub record AreFitting (d : Netlist) (g : GridShape) (sites : List (Option Site)) : Type 0 where
   pub fit : (b : ℕ) (s : Site) → slice_get sites b ≡ Some (Some s) → Fits d g b s
   pub apart : NoneShared sites
@@ -38,7 +38,7 @@ wanted k = if is_logic k then site_kind.Logic else site_kind.Pad
 abbrev pub has_site : List (Option Site) → ℕ → Bool
 has_site sites block = is_some (flat (slice_get sites block))
 
--- the first fault of one more block line, number n; `site` is the site that it gives, `named` the block that it names, each `None` if absent
+-- the first fault of one more block line, number n; `site` is the site that it gives, and `named` the block that it names, if there is one
 abbrev pub take_fault_by : LinesOf → ℕ → Option Site → Option ℕ → Option PlaceFault
 take_fault_by p n None named = Some (BadLine n)
 take_fault_by p n (Some site) None = Some (UnknownBlock n)
@@ -56,7 +56,7 @@ abbrev pub seated : LinesOf → Option ℕ → Option Site → LinesOf
 seated p None site = p
 seated p (Some block) site = record { netlist = p.netlist; grid = p.grid; sites = slice_set p.sites block site }
 
--- what is said, with one more block line that has no fault
+-- what the block lines mean with one more that has no fault
 abbrev pub with_line : LinesOf → TextLine → LinesOf
 with_line p l = seated p (block_in p.netlist l) (site_in l)
 

@@ -15,7 +15,7 @@ use Rattle.fab_site.specs.Placement.{site_of, site}
 use Rattle.fab_file.specs.declared.fault.PlaceFault.{PlaceFault}
 use Rattle.fab_file.specs.declared.fault.PlaceFault.TheVariants.{BadLabel, Write, NoMemory}
 
--- bytes that can be part of a header: one word whose last byte is no backslash
+-- whether bytes can be part of a header: one word whose last byte is not a backslash
 abbrev pub is_label : List ℕ → Bool
 is_label label = can_be_word label && not (is_continued label)
 
@@ -66,7 +66,7 @@ ended line = line ++ codes "\n"
 abbrev pub place_text : List ℕ → List ℕ → Netlist → GridShape → List Site → List ℕ
 place_text net arch d g sites = flat_map ended (head_lines net arch g) ++ flat_map ended (block_lines d sites)
 
--- what was written is a beginning of the text, and not all of it
+-- what was written is a beginning of the text, but not all of it
 abbrev pub IsCut : List ℕ → Option (List ℕ) → Option (List ℕ) → Type 0
 IsCut text old new = (n : ℕ) × (n < length text) × Appends old new (take n text)
 
@@ -77,7 +77,7 @@ IsWriteFault Write = Unit {0}
 IsWriteFault NoMemory = Unit {0}
 IsWriteFault e = ⊥
 
--- how often a writer has failed after this fault: once more only if the fault is the writer's
+-- how often a writer has failed after this fault. The count grows only if the fault is the writer's
 abbrev pub failed_with : PlaceFault → ℕ → ℕ
 failed_with Write n = grown n
 failed_with e n = n

@@ -1,4 +1,4 @@
-//! Block lines, taken one after another: `name x y sub`, in any order.
+//! Takes block lines one after another: `name x y sub`, in any order.
 
 ghost use Rattle.std.specs.Prelude.{◌≡◌, Some, None, [], map, IfOk, IfErr, OnOk, OnErr};
 ghost use Rattle.fab_text.specs.Shown.{shown};
@@ -16,7 +16,7 @@ use fab_text::Line;
 use std::alloc::{AllocError, Global};
 use std::marker::Model;
 
-/// What the block lines read so far mean: the site that a line gave each block of a design.
+/// What the block lines read so far mean: for each block of a design the site that a line gave it.
 #[derive(Drop)]
 pub struct PlaceLines<'a> {
     design: &'a Design,
@@ -59,9 +59,8 @@ impl<'a> PlaceLines<'a> {
         })
     }
 
-    /// Takes one block line, or returns its first fault: its form is wrong, its block is unknown, the block has its site
-    /// already, the array has no such site, the site is of another kind, or another block has it. A refused line
-    /// changes nothing.
+    /// Takes one block line, or returns its first fault: its form is wrong, its block is unknown, the block has its site already, the array
+    /// has no such site, the site is of another kind, or another block has it. A line with a fault changes nothing.
     pub fn take(&mut self, line: &Line) -> Result<(), PlaceFault>
         ensures ok { OnOk result (take_fault self.old (shown line.now) ≡ None) }
         ensures taken { OnOk result (self.new ≡ with_line self.old (shown line.now)) }
@@ -90,7 +89,7 @@ impl<'a> PlaceLines<'a> {
         Ok(())
     }
 
-    /// The placement, or the first block without a site. `NoMemory` is returned only if each block has a site.
+    /// Makes the placement, or returns the first block without a site. Returns `NoMemory` only if each block has a site.
     pub fn finish(self) -> Result<Placement, PlaceFault>
         ensures ok { OnOk result (end_fault self.entry ≡ None) }
         ensures grid { IfOk result (λ p. p.grid ≡ self.entry.grid) }
@@ -107,7 +106,7 @@ impl<'a> PlaceLines<'a> {
     }
 }
 
-/// Whether a site of this kind takes a block of this kind.
+/// Whether a block of kind `block` may be on a site of kind `site`.
 fn takes(site: SiteKind, block: BlockKind) -> bool
     ensures { result ≡ same_kind site (wanted block) }
 {

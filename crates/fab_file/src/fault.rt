@@ -1,4 +1,4 @@
-//! Why a text stands for no placement.
+//! Why a text does not stand for a placement.
 
 ghost use Rattle.std.specs.Prelude.{◌≡◌, Some};
 ghost use Rattle.fab_file.specs.FaultTexts.{place_fault_text};
@@ -8,13 +8,13 @@ use std::alloc::{AllocError, AllocFailed};
 use std::fmt;
 use thiserror::Error;
 
-/// Why a text stands for no placement, or why none was written: the first fault. A number is that of the faulty line,
-/// except in `Missing`, where it is that of a block.
+/// Why a text does not stand for a placement, or why none was written: the first fault. A number is that of the faulty line, except in
+/// `Missing`, where it is that of a block.
 #[derive(Clone, Copy, Debug, PartialEq, Eq, Error)]
 pub enum PlaceFault {
     /// One of the first two lines is missing or is not the header's.
     BadHeader,
-    /// The header gives another size than the array's.
+    /// The header gives a size that is not the array's.
     WrongSize,
     /// A line names no block of the design.
     UnknownBlock(u64),
@@ -28,9 +28,9 @@ pub enum PlaceFault {
     Taken(u64),
     /// No line names this block: the first such block, by number.
     Missing(u64),
-    /// A line of a checkpoint of the first version fixes a block that is no pad.
+    /// A line of a checkpoint of the first version fixes a block that is not a pad.
     NotAPad(u64),
-    /// A line is not a name with three numbers of at most 65,535 (or not what its format requires).
+    /// A line is not a name with three numbers of at most 65,535, or not what its format requires.
     BadLine(u64),
     /// A label cannot be part of a header.
     BadLabel,

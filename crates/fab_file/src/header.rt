@@ -53,7 +53,7 @@ pub(crate) fn size_in(line: &Line) -> Option<(u16, u16)>
     }
 }
 
-/// The columns and rows that a header gives, from those of its lines that exist, or `BadHeader`. Needs no memory.
+/// The columns and rows that a header gives, or `BadHeader`. `files` and `size` are its two lines, if they exist. Allocates nothing.
 fn header_size(files: &Option<Line>, size: &Option<Line>) -> Result<(u16, u16), PlaceFault>
     ensures size { IfOk result (λ r.
         header_size (option_map (λ l. shown l) files.now) (option_map (λ l. shown l) size.now) ≡
@@ -88,7 +88,7 @@ pub(crate) fn take_size(left: &mut Lines) -> Result<(u16, u16), PlaceFault>
     header_size(&files, &size)
 }
 
-/// Compares the columns and rows that a header gives with the array's, or returns `WrongSize`. Needs no memory.
+/// Compares the columns and rows that a header gives with those of the array. Returns `WrongSize` if they differ. Allocates nothing.
 pub(crate) fn check_size(grid: &Grid, nx: u16, ny: u16) -> Result<(), PlaceFault>
     ensures ok { OnOk result (size_fault_by grid.now (Some (nx, ny)) ≡ None) }
     ensures fault { IfErr result (λ e. size_fault_by grid.now (Some (nx, ny)) ≡ Some e) }
@@ -99,8 +99,8 @@ pub(crate) fn check_size(grid: &Grid, nx: u16, ny: u16) -> Result<(), PlaceFault
     Ok(())
 }
 
-/// The columns and rows that the header of a placement text gives, or `BadHeader`. The lines after the header are
-/// not read. `NoMemory` if memory runs out.
+/// The columns and rows that the header of a placement text gives, or `BadHeader`. Does not read the lines after the header. Returns
+/// `NoMemory` if memory runs out.
 pub fn place_size(alloc: Global, bytes: &[u8]) -> Result<(u16, u16), PlaceFault>
     ensures size { IfOk result (λ r. place_size_of (lines bytes.now) ≡ Some r) }
     ensures fault { IfErr result (λ e. FaultIs e (size_fault (place_size_of (lines bytes.now)))) }

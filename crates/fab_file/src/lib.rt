@@ -1,4 +1,4 @@
-//! The texts of placements, and location texts.
+//! Reads and writes placement texts, and reads location texts.
 #![tactic(auto)]
 
 #[cfg(test)]

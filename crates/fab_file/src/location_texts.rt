@@ -1,4 +1,4 @@
-//! Location texts: one line for each block that has a site before the first move, after a header that may be left out.
+//! Reads location texts: an optional header, and one line for each block that has a site before the first move.
 
 ghost use Rattle.std.specs.Prelude.{◌≡◌, ℕ, List, Option, Some, None, if◌then◌else◌, IfOk, IfErr, OnOk, MatchResult};
 ghost use Rattle.fab_arch.specs.declared.array.Site.{Site};
@@ -22,7 +22,7 @@ use fab_site::{Fixed, Pins};
 use fab_text::{Line, Lines};
 use std::alloc::{AllocError, Global};
 
-/// Whether a first line begins a header.
+/// Whether a text's first line is the first line of a header.
 fn begins_header(line: &Line) -> bool
     ensures { result ≡ begins_header (shown line.now) }
 {
@@ -39,7 +39,7 @@ fn has_header(alloc: Global, bytes: &[u8]) -> Result<bool, AllocError>
     }
 }
 
-/// The lines of a text after its header, which must be of this array, or all lines if there is no header.
+/// The lines of a text after its header, or all lines if there is no header. The header's size must be that of `grid`.
 fn block_lines<'a>(alloc: Global, bytes: &'a [u8], grid: &Grid) -> Result<Lines<'a>, PlaceFault>
     ensures rest { IfOk result (λ left. left ≡ block_lines (lines bytes.now)) }
     ensures ok { OnOk result (header_fault grid.now (lines bytes.now) ≡ None) }
@@ -53,14 +53,14 @@ fn block_lines<'a>(alloc: Global, bytes: &'a [u8], grid: &Grid) -> Result<Lines<
     Ok(left)
 }
 
-/// Whether a line of five words ends with `free`.
+/// Whether a line has five words, and the last is `free`.
 fn is_free(line: &Line) -> bool
     ensures { result ≡ is_free (shown line.now) }
 {
     line.words.len() == 5 && is_word(line, 4, b"free")
 }
 
-/// A line without the last word `free`, if it has it.
+/// The line without its last word, if that is the fifth and is `free`.
 fn without_free(line: Line) -> Line
     ensures { shown result ≡ without_free (shown line.entry) }
 {
@@ -81,7 +81,7 @@ fn without_free(line: Line) -> Line
     }
 }
 
-/// Gives a block the site that a line `name x y sub` says. The block has no site in `sites` yet.
+/// Gives a block the site in its line `name x y sub`. The block must have no site in `sites` yet.
 fn keep(sites: &mut Fixed, design: &Design, line: &Line) -> Result<(), AllocError>
     requires { (b : ℕ) (s : Site) → site_for design.now b (shown line.now) ≡ Some s →
         fixed_at sites.old b ≡ None }
@@ -97,27 +97,27 @@ fn keep(sites: &mut Fixed, design: &Design, line: &Line) -> Result<(), AllocErro
     Ok(())
 }
 
-/// Reads what a location text says of a design on an array, or returns the text's first fault: the header's, else that
-/// of the first faulty line.
+/// Reads the fixed and the begun blocks that a location text gives, for the design `design` on the array `grid`. Otherwise returns the
+/// text's first fault: that of the header, or else that of the first faulty line.
 pub fn read_pins(
     alloc: Global,
     bytes: &[u8],
     design: &Design,
     grid: &Grid,
 ) -> Result<Pins, PlaceFault>
-    // What is read is what the text stands for.
+    // If pins are returned, the text stands for them.
     ensures found { IfOk result (λ p.
         IsLocated design.now grid.now (lines bytes.now) p.fixed p.begun) }
-    // What it stands for is read, unless memory runs out.
+    // If the text stands for sites of blocks, they are returned, unless memory runs out.
     ensures only { (fixed begun : List (Option Site)) →
         IsLocated design.now grid.now (lines bytes.now) fixed begun →
         MatchResult result (λ p.
         ((b : ℕ) → fixed_at p.fixed b ≡ fixed_at fixed b) ×
         ((b : ℕ) → fixed_at p.begun b ≡ fixed_at begun b)) (λ e. e ≡ NoMemory) }
-    // An error is the first fault, or out of memory.
+    // An error is the first fault, or that memory ran out.
     ensures fault { IfErr result (λ e.
         FaultIs e (pins_fault design.now grid.now (lines bytes.now))) }
-    // No block and no site is given twice, and each site is one of the array's, of its block's kind.
+    // No block and no site is given twice. The array has each site, and it is of its block's kind.
     ensures lawful { IfOk result (λ p. ArePins design.now grid.now p.fixed p.begun) }
 {
     let mut placed = PlaceLines::new(alloc, design, grid)?;

@@ -1,4 +1,4 @@
-//! Placement texts: a header, and one line for each block.
+//! Reads placement texts: a header, and one line for each block.
 
 ghost use Rattle.std.specs.Prelude.{◌≡◌, List, IfOk, IfErr, MatchResult};
 ghost use Rattle.fab_arch.specs.declared.array.Site.{Site};
@@ -18,21 +18,21 @@ use fab_site::Placement;
 use fab_text::Lines;
 use std::alloc::Global;
 
-/// Reads the placement of a design on an array that a text stands for, or returns the text's first fault: the header's,
-/// else that of the first faulty line, else the first block that no line names.
+/// Reads the placement that a text stands for, of the design `design` on the array `grid`. Otherwise returns the text's first fault: that
+/// of the header, else that of the first faulty line, else the first block that no line names.
 pub fn read_place(
     alloc: Global,
     bytes: &[u8],
     design: &Design,
     grid: &Grid,
 ) -> Result<Placement, PlaceFault>
-    // What is read is what the text stands for.
+    // If a placement is returned, the text stands for it.
     ensures found { IfOk result (λ p. StandsFor design.now grid.now (lines bytes.now) p.sites) }
     ensures grid { IfOk result (λ p. p.grid ≡ grid.now) }
-    // What it stands for is read, unless memory runs out.
+    // If the text stands for a placement, it is returned, unless memory runs out.
     ensures only { (sites : List Site) → StandsFor design.now grid.now (lines bytes.now) sites →
         MatchResult result (λ p. p.sites ≡ sites) (λ e. e ≡ NoMemory) }
-    // An error is the first fault, or out of memory.
+    // An error is the first fault, or that memory ran out.
     ensures fault { IfErr result (λ e.
         FaultIs e (first_fault design.now grid.now (lines bytes.now))) }
 {

@@ -17,14 +17,14 @@ pub fn word_at<'a>(line: &Line<'a>, i: usize) -> &'a [u8]
     }
 }
 
-/// Whether word `i` of a line is this one.
+/// Whether word `i` of a line is `name`.
 pub fn is_word(line: &Line, i: usize, name: &[u8]) -> bool
     ensures { result ≡ is_word (shown line.now) i name.now }
 {
     word_at(line, i) == name
 }
 
-/// A whole number of at most 65,535.
+/// The whole number that `word` writes, if it is at most 65,535.
 pub(crate) fn small_number(word: &[u8]) -> Option<u16>
     ensures { result ≡ small_number word.now }
 {

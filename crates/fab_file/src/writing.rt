@@ -1,4 +1,4 @@
-//! Placements as texts, always written in the same form.
+//! Writes placements as texts, always in the same form.
 
 ghost use Rattle.std.specs.Prelude.{◌≡◌, ◌≢◌, ◌↔◌, ◌<◌, ◌++◌, [], not, length, codes, false, Err, IfErr, IfOk, OnOk, slice_index_or};
 ghost use Rattle.std.specs.List.{flat_map, list_any};
@@ -20,7 +20,7 @@ use fab_site::Placement;
 use fab_text::{Sink, WriteFault, push_number, write_whole};
 use std::alloc::{AllocError, Global};
 
-/// The names of the netlist file and the architecture file that a header shows.
+/// The names that a header has for the netlist file and the architecture file.
 #[derive(Clone, Copy, Debug, PartialEq, Eq)]
 pub struct Labels<'a> {
     pub net: &'a [u8],
@@ -63,7 +63,7 @@ fn is_label(label: &[u8]) -> bool
     (!label.is_empty() && !has_mark(label)) && !ends_with_backslash(label)
 }
 
-/// Whether both names can be part of a header: each is one word without a `#` whose last byte is no backslash.
+/// Whether both names can be part of a header. Each must be one word without a `#`, and its last byte must not be a backslash.
 pub fn are_labels(labels: &Labels) -> bool
     ensures { result ≡ are_labels labels.now.net.now labels.now.arch.now }
 {
@@ -122,7 +122,7 @@ fn push_block(text: &mut Vec<u8>, name: &[u8], site: Site, number: u64) -> Resul
     Ok(())
 }
 
-/// The header of a text, and the comments after it.
+/// The header of a text, the empty line and the comments after it.
 fn head_of(alloc: Global, labels: &Labels, grid: &Grid) -> Result<Vec<u8>, AllocError>
     ensures text { IfOk result (λ v.
         v.items ≡ flat_map ended (head_lines labels.now.net.now labels.now.arch.now grid.now)) }
@@ -172,9 +172,8 @@ fn text_of(
     Ok(text)
 }
 
-/// Writes the text of a placement of a design on an array. Its header shows the labels, and its blocks are in order of
-/// number. The placement must be legal. A bad label writes nothing, and neither does running out of memory. If the writer
-/// fails, a beginning of the text has been written.
+/// Writes the text of a placement. Its header has the names in `labels`, and its blocks are in order of number. The placement must be
+/// legal. If a label is bad or memory runs out, nothing is written. If the writer fails, only a beginning of the text has been written.
 pub fn write_place<W: Sink>(
     alloc: Global,
     out: &mut W,
@@ -184,27 +183,28 @@ pub fn write_place<W: Sink>(
     placement: &Placement,
 ) -> Result<(), PlaceFault>
     requires { IsLegal design.now grid.now [] placement.now.sites }
-    // What is written is the text.
+    // If there is no fault, the whole text has been written.
     ensures whole { OnOk result
         (Appends (W.contents out.old) (W.contents out.new)
         (place_text labels.now.net.now labels.now.arch.now design.now grid.now
         placement.now.sites)) }
-    // What is written reads back: it stands for the placement.
+    // The text reads back: it stands for the placement.
     ensures back { OnOk result
         (StandsFor design.now grid.now
         (lines (place_text labels.now.net.now labels.now.arch.now design.now grid.now
         placement.now.sites)) placement.now.sites) }
-    // A label is refused if, and only if, it cannot be part of a header.
+    // `BadLabel` is returned exactly if a label cannot be part of a header.
     ensures label { (result ≡ Err BadLabel) ↔
         (are_labels labels.now.net.now labels.now.arch.now ≡ false) }
     ensures only { IfErr result IsWriteFault }
-    // A fault other than the writer's writes nothing, and a writer that fails has taken a beginning.
+    // If a fault is not the writer's, nothing has been written. If the writer failed, it has taken a beginning of the text, and not all of
+    // it.
     ensures silent { IfErr result (λ e. e ≢ Write → W.contents out.new ≡ W.contents out.old) }
     ensures cut { IfErr result (λ e.
         e ≡ Write →
         IsCut (place_text labels.now.net.now labels.now.arch.now design.now grid.now
         placement.now.sites) (W.contents out.old) (W.contents out.new)) }
-    // The writer has failed only if the result says so.
+    // The writer counts one more failure exactly if the result is `Write`.
     ensures sound { OnOk result (W.failed out.new ≡ W.failed out.old) }
     ensures failed { IfErr result (λ e. W.failed out.new ≡ failed_with e (W.failed out.old)) }
 {
@@ -216,8 +216,8 @@ pub fn write_place<W: Sink>(
     Ok(())
 }
 
-/// The law that the text of a legal placement of any design stands for that placement, so that `read_place` gives it
-/// back, for all labels that can be part of a header.
+/// The law that the text of a legal placement stands for that placement, so that `read_place` returns it. This holds for every design and
+/// all labels that can be part of a header.
 pub fn written_texts_read_back()
     ensures { ReadBack }
 {}

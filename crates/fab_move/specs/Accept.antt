@@ -24,7 +24,8 @@ chance_of z = slice_index whole_chances (z / 16) * slice_index sixteenth_chances
 abbrev pub millionths : ℕ → ℕ
 millionths w = w * 1000000 / 2 ^ 32
 
--- whether a word accepts a change of cost at a temperature: always if it makes nothing worse, and at temperature 0 only then
+-- whether the word `w` accepts a change of cost at temperature `t`. It always does if the change makes nothing worse; at temperature 0 only
+-- then
 unfoldable pub is_accepted : ℤ → ℕ → ℕ → Bool
 is_accepted change t w =
     int_le change (pos 0) || (nat_lt 0 t && nat_lt (millionths w) (chance_of (16 * nat_abs change / t)))
@@ -37,7 +38,7 @@ pub one_temperature : chance_of 16 ≡ 367879
 unfolding chance_of
 one_temperature = refl
 
--- the chances do not fall monotonically: rounding leaves a gap of zeros
+-- a greater change may have a greater chance: rounding leaves a gap of zeros
 pub fourteen_temperatures : chance_of 224 ≡ 1
 unfolding chance_of
 fourteen_temperatures = refl

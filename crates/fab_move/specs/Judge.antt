@@ -1,5 +1,5 @@
--- The judgement of a move on a placement, what it rests on, and what an accepted swap touches (that a judgement still holds if no
--- accepted swap touched what it rests on is after Kravitz and Rutenbar; the choice of marks is our own).
+-- The judgement of a move on a placement, what it rests on, and what an accepted swap touches. After Kravitz and Rutenbar: a judgement
+-- still holds if no accepted swap touched what it rests on. The choice of marks is our own.
 use Rattle.std.specs.Prelude.{ℕ, ℤ, pos, ◌≡◌, Bool, true, false, if◌then◌else◌, ◌==◌, List, [], ◌∷◌, ◌++◌, map, Option, Some, None, slice_index, codes, refl}
 use Rattle.std.specs.List.{list_any}
 use Rattle.fab_arch.specs.declared.array.Site.{Site}
@@ -19,8 +19,8 @@ use Rattle.fab_move.specs.declared.proposals.Proposal.TheVariants.{Nothing, Void
 use Rattle.fab_move.specs.Propose.{proposal}
 use Rattle.fab_move.specs.Accept.{is_accepted}
 
--- what moves are made from: a design on an array, its fixed blocks by number, and four words for each move, which the type of
--- their source keeps below 2^32
+-- what moves are made from: a design on an array, its fixed blocks by number, and four words for each move. The type of the source of words
+-- keeps them below 2^32
 pub record Problem : Type 0 where
   pub design : Netlist
   pub grid : GridShape
@@ -38,11 +38,11 @@ same_mark (Place a) (Place b) = same_site a b
 same_mark (Net a) (Net b) = a.0 == b.0
 same_mark _ _ = false
 
--- the mark is among these
+-- the mark `m` is among `xs`
 abbrev pub has_mark : Mark → List Mark → Bool
 has_mark m xs = list_any (same_mark m) xs
 
--- the two share a mark
+-- the two lists share a mark
 abbrev pub meet : List Mark → List Mark → Bool
 meet xs ys = list_any (λ m. has_mark m xs) ys
 
@@ -50,12 +50,12 @@ meet xs ys = list_any (λ m. has_mark m xs) ys
 abbrev pub block_marks : Netlist → BlockId → List Mark
 block_marks d b = Block b ∷ map (λ n. Net (record { 0 = n })) (nets_of d b.0)
 
--- the marks of the displaced block, if any
+-- the marks of the block on the target, if any
 abbrev pub other_marks : Netlist → Option BlockId → List Mark
 other_marks d None = []
 other_marks d (Some b) = block_marks d b
 
--- what a proposal rests on: its target and its block; for a swap also the block on the target, and the nets of both blocks that are not
+-- what a proposal rests on: its target and its block. For a swap also the block on the target, and the nets of both blocks that are not
 -- global. The order of the list does not matter
 abbrev pub footprint : Netlist → Proposal → List Mark
 footprint d Nothing = []
@@ -66,24 +66,24 @@ footprint d (Move s) = Place s.to ∷ (block_marks d s.block ++ other_marks d s.
 abbrev pub touched : Netlist → Swap → List Mark
 touched d s = Place s.from ∷ Place s.to ∷ (block_marks d s.block ++ other_marks d s.other)
 
--- the judgement of a move: its swap, if any, the change of cost, whether it is accepted, and what all this rests on
+-- the judgement of a move: its swap, if any, the change of cost, whether it is accepted, and the marks that this rests on
 pub record Judged : Type 0 where
   pub swap : Option Swap
   pub change : ℤ
   pub accepted : Bool
   pub footprint : List Mark
 
--- what a verdict says of its move, apart from the move's number
+-- the judgement in a verdict, without the move's number
 abbrev pub says : Verdict → Judged
 says v = record { swap = v.swap; change = v.delta; accepted = v.accepted; footprint = v.footprint.items }
 
--- the decision is that of the judgement, whose footprint it leaves out
+-- the decision is the judgement without the footprint
 pub record IsDecision (d : Decision) (j : Judged) : Type 0 where
   pub swap : d.swap ≡ j.swap
   pub change : d.delta ≡ j.change
   pub accepted : d.accepted ≡ j.accepted
 
--- the judgement of a proposal on these sites, at temperature t and with word w for the acceptance
+-- the judgement of a proposal on the sites `sites` at temperature `t`; the word `w` decides on acceptance
 abbrev pub judged_as : Problem → List Site → ℕ → ℕ → Proposal → Judged
 judged_as p sites t w Nothing = record { swap = None; change = pos 0; accepted = false; footprint = [] }
 judged_as p sites t w (Void b to) = record { swap = None; change = pos 0; accepted = false; footprint = footprint p.design (Void b to) }
@@ -95,7 +95,7 @@ judged_as p sites t w (Move s) =
       footprint = footprint p.design (Move s);
     }
 
--- the judgement of move k on these sites, at a temperature and with a range
+-- the judgement of move k on the sites `sites`, with temperature `t` and range `range`
 unfoldable pub judged : Problem → List Site → ℕ → ℕ → ℕ → Judged
 judged p sites k t range =
     judged_as p sites t (slice_index (p.words k) 3) (proposal p.design p.grid p.fixed sites range (p.words k))

@@ -1,5 +1,5 @@
--- What a move proposes (our own; the range limit after Betz, Rose and Marquardt): a block that may move, and a site near it,
--- by three of the four words of the move.
+-- What a move proposes (our own; the range limit after Betz, Rose and Marquardt): a block that may move, and a site near it. Three of the
+-- four words of the move draw them.
 use Rattle.std.specs.Prelude.{ℕ, ◌≡◌, ◌+◌, ◌-◌, ◌/◌, min, max, Bool, if◌then◌else◌, nat_le, ◌&&◌, filter, List, [], ◌∷◌, length, is_some, Option, Some, None, slice_get, slice_index, slice_index_or, codes, refl}
 use Rattle.fab_arch.specs.declared.array.Site.{Site}
 use Rattle.fab_arch.specs.Grid.{GridShape, shape, perimeter}
@@ -20,7 +20,7 @@ is_fixed fixed b = is_some (fixed_at fixed b)
 abbrev pub movable : Netlist → List (Option Site) → List ℕ
 movable d fixed = free_below fixed (length d.kinds)
 
--- the coordinate from 1 to n that a word picks among those at most `reach` from `here`: the window is cut off at the array's edge
+-- the coordinate that a word picks among those from 1 to n that are at most `reach` from `here`. So the window ends at the array's edge
 abbrev pub near : ℕ → ℕ → ℕ → ℕ → ℕ
 near here reach n w =
     let low = max 1 (here - reach) in
@@ -52,13 +52,13 @@ unfoldable pub target : Netlist → GridShape → ℕ → Site → ℕ → List 
 target d g b from range ws =
     if is_logic_at d b then logic_target g from (range / 1000) ws else pad_target g from (range / 1000) ws
 
--- the proposal for a target with this holder, if any
+-- the proposal for a block and its target. The last parameter is the block on the target, if any
 abbrev pub propose_held : List (Option Site) → BlockId → Site → Site → Option BlockId → Proposal
 propose_held fixed b from to None = Move (record { block = b; from = from; to = to; other = None })
 propose_held fixed b from to (Some holder) =
     if is_fixed fixed holder.0 then Void b to else Move (record { block = b; from = from; to = to; other = Some holder })
 
--- what a block proposes whose target is known
+-- the proposal for a block and its target `to`
 abbrev pub propose_to : List (Option Site) → List Site → BlockId → Site → Site → Proposal
 propose_to fixed sites b from to = if same_site from to then Void b to else propose_held fixed b from to (at sites to)
 
@@ -68,8 +68,8 @@ propose_for d g fixed sites range ws None = Nothing
 propose_for d g fixed sites range ws (Some b) =
     propose_to fixed sites (record { 0 = b }) (site_of sites b) (target d g b (site_of sites b) range ws)
 
--- what four words propose: nothing if no block may move; a void move if the target is the block's own site or is held by a fixed
--- block; otherwise a swap
+-- what four words propose. If no block may move, nothing; if the target is the block's own site or is held by a fixed block, a void move;
+-- otherwise a swap
 unfoldable pub proposal : Netlist → GridShape → List (Option Site) → List Site → ℕ → List ℕ → Proposal
 proposal d g fixed sites range ws =
     propose_for d g fixed sites range ws (slice_get (movable d fixed) (pick_of (slice_index ws 0) (length (movable d fixed))))

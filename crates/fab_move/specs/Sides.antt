@@ -8,7 +8,7 @@ use Rattle.fab_move.specs.declared.pad_runs.Window.{Window}
 abbrev pub numbers : Run → List ℕ
 numbers r = range_with_len r.first r.count
 
--- positions up the left side, along the top, down the right side and back along the bottom
+-- the positions with these coordinates: up the left side, along the top, down the right side and back along the bottom
 abbrev pub side_by_side : ℕ → ℕ → List ℕ → List ℕ → List ℕ → List ℕ → List (ℕ × ℕ)
 side_by_side nx ny left top right bottom =
     map (λ i. (0, i)) left

@@ -7,7 +7,7 @@ use Rattle.rand_chacha.specs.ChaCha.{ChaCha, word_at, key_of}
 abbrev pub cipher_seed : ℕ → List ℕ
 cipher_seed seed = to_le_bytes w64 seed ++ replicate 24 0
 
--- the word at a place of a stream; 4 is the number of double rounds
+-- the word at place `place` of a stream; 4 is the number of double rounds
 abbrev pub stream_word : ℕ → ℕ → ℕ → ℕ
 stream_word seed stream place = word_at 4 (key_of (cipher_seed seed)) stream place
 
@@ -25,7 +25,7 @@ abbrev pub block_words : List ℕ → ℕ → List ℕ
 block_words key k =
     word_at 4 key 0 (16 * k) ∷ word_at 4 key 0 (16 * k + 1) ∷ word_at 4 key 0 (16 * k + 2) ∷ word_at 4 key 0 (16 * k + 3) ∷ []
 
--- four words of a stream, from a place on
+-- four words of a stream, from place `place` on
 abbrev pub words_from : ChaCha → ℕ → List ℕ
 words_from g place =
     word_at 4 g.key g.stream place ∷ word_at 4 g.key g.stream (place + 1) ∷ word_at 4 g.key g.stream (place + 2) ∷ word_at 4 g.key g.stream (place + 3) ∷ []

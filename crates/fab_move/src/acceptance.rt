@@ -14,8 +14,8 @@ const SIXTEENTH_CHANCES: [u32; 16] = [
     535_261, 502_832, 472_367, 443_747, 416_862, 391_606,
 ];
 
-/// Whether the word `w` accepts a change of cost at temperature `t`, both in ten-thousandths. A change that makes nothing worse is
-/// always accepted. At temperature 0 no other change is.
+/// Whether the word `w` accepts the change of cost `delta` at temperature `t`. `delta` and `t` are in ten-thousandths. A change that makes
+/// nothing worse is always accepted. At temperature 0 no other change is accepted.
 #[tactic(auto, unfolding(crate::specs::Accept::is_accepted))]
 pub fn accepts(delta: i64, t: u64, w: u32) -> bool
     ensures { result ≡ is_accepted delta t w }
@@ -29,14 +29,14 @@ pub fn accepts(delta: i64, t: u64, w: u32) -> bool
     }
 }
 
-/// A word as a fraction of 2^32, in millionths, rounded down.
+/// The word `w` as a fraction of 2^32, in millionths, rounded down.
 fn fraction(w: u32) -> u64
     ensures { result ≡ millionths w }
 {
     (u64::from(w) * 1_000_000) >> 32
 }
 
-/// The chance of accepting a change of cost at temperature `t`, in millionths.
+/// The chance of accepting the change of cost `delta` at temperature `t`, in millionths.
 #[tactic(auto, using(crate::proofs::Chances::none_so_far))]
 fn chance_at(delta: u64, t: u64) -> u64
     requires { 0 < t }
@@ -52,7 +52,7 @@ fn chance_at(delta: u64, t: u64) -> u64
     chance(16 * delta / t)
 }
 
-/// The same for numbers of any size, by a longer division.
+/// The same as `chance_at` for numbers of any size, by a longer division.
 #[cold]
 #[tactic(auto, using(crate::proofs::Chances::none_beyond))]
 fn chance_of_large(delta: u64, t: u64) -> u64

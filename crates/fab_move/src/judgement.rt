@@ -17,8 +17,8 @@ use fab_site::{Swap, Words};
 use smallvec::SmallVec;
 use std::alloc::{AllocError, Global};
 
-/// Judges a move on a view: its swap, the change of cost, whether it is accepted, and the marks that this rests on. By contract the
-/// placement is legal and the wire cost is that of the placement. An error means that memory ran out.
+/// Judges move `k` on a view: its swap, the change of cost, whether it is accepted, and the marks that this rests on. The placement must be
+/// legal, and the wire cost must be that of the placement. Fails only if memory runs out.
 pub fn judge<C: WireCost, W: Words>(
     alloc: Global,
     view: &View<'_, C, W>,
@@ -49,8 +49,8 @@ pub fn judge<C: WireCost, W: Words>(
     })
 }
 
-/// Decides a move on a view: the result of [`judge`] without the footprint. Allocates nothing. By contract the placement is legal and
-/// the wire cost is that of the placement.
+/// Decides move `k` on a view: the result of [`judge`] without the footprint. The placement must be legal, and the wire cost must be that
+/// of the placement. Allocates nothing.
 pub fn decide<C: WireCost, W: Words>(view: &View<'_, C, W>, k: u64) -> Decision
     requires legal { IsLegal view.now.design.now view.now.grid.now view.now.fixed.now
         view.now.placement.now.sites }
@@ -68,7 +68,7 @@ pub fn decide<C: WireCost, W: Words>(view: &View<'_, C, W>, k: u64) -> Decision
 }
 
 impl<'a, C, W> View<'a, C, W> {
-    /// What these words propose, as [`propose`](crate::propose) says. Allocates nothing.
+    /// What `words` propose on this view, as [`propose`](crate::propose) returns it. Allocates nothing.
     #[inline(always)]
     pub fn propose(&self, words: [u32; 4]) -> Proposal
         requires legal { IsLegal self.now.design.now self.now.grid.now self.now.fixed.now
@@ -90,7 +90,7 @@ impl<'a, C, W> View<'a, C, W> {
     }
 }
 
-/// What a move proposes, and the word that decides whether it is accepted.
+/// What move `k` proposes, and the word that decides whether it is accepted.
 #[inline(always)]
 fn proposed<C: WireCost, W: Words>(view: &View<'_, C, W>, k: u64) -> (Proposal, u32)
     requires legal { IsLegal view.now.design.now view.now.grid.now view.now.fixed.now
@@ -107,8 +107,8 @@ fn proposed<C: WireCost, W: Words>(view: &View<'_, C, W>, k: u64) -> (Proposal, 
     (proposal, words[3])
 }
 
-/// The change of cost that a proposal makes, and whether a word accepts it. By contract a proposed swap is one of the placement, as
-/// those of [`propose`](crate::propose) are, and the wire cost is that of the placement. Allocates nothing.
+/// The change of cost that a proposal makes, and whether `word` accepts it. A proposed swap must fit the placement, as those of
+/// [`propose`](crate::propose) do, and the wire cost must be that of the placement. Allocates nothing.
 #[inline(always)]
 pub fn weigh<C: WireCost, W: Words>(
     view: &View<'_, C, W>,
@@ -152,7 +152,7 @@ fn without_swap() -> Decision
     }
 }
 
-/// The marks that a proposal of this design rests on: what a decision on it has looked at. An error means that memory ran out.
+/// The footprint of a proposal: the marks that a decision on it looks at. Fails only if memory runs out.
 pub fn footprint_of(
     alloc: Global,
     design: &Design,
@@ -181,7 +181,7 @@ pub fn footprint_of(
     Ok(footprint)
 }
 
-/// Adds a block and its nets.
+/// Adds the marks of a block and its nets.
 fn push_block(footprint: &mut Footprint, design: &Design, block: BlockId) -> Result<(), AllocError>
     requires { block.0 < length design.now.kinds }
     ensures { OnOk result
@@ -192,7 +192,7 @@ fn push_block(footprint: &mut Footprint, design: &Design, block: BlockId) -> Res
     Ok(())
 }
 
-/// Adds nets.
+/// Adds the marks of nets.
 fn push_nets(footprint: &mut Footprint, nets: &[NetId]) -> Result<(), AllocError>
     ensures { OnOk result (footprint.new.items ≡ footprint.old.items ++ map net_mark nets.now) }
 {

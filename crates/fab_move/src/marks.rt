@@ -1,11 +1,11 @@
-//! The marks of moves: what a judgement rests on, and what an accepted swap touches. A run of the program makes no list of marks; it looks
-//! at stamps.
+//! The marks of moves: what a judgement rests on, and what an accepted swap touches. The program makes no list of marks; it looks at
+//! stamps.
 
 use fab_arch::Site;
 use fab_net::{BlockId, NetId};
 use smallvec::SmallVec;
 
-/// A thing that a judgement rests on, or that an accepted swap touches.
+/// A block, a site or a net that a judgement rests on, or that an accepted swap touches.
 #[derive(Clone, Copy, Debug, PartialEq, Eq)]
 pub enum Mark {
     /// A block.
@@ -23,5 +23,5 @@ impl Default for Mark {
     }
 }
 
-/// The marks that a judgement rests on. The marks of a swap of two blocks with a dozen nets each still fit inline.
+/// The marks that a judgement rests on. Those of a swap of two blocks with twelve nets each still fit inline.
 pub type Footprint = SmallVec<Mark, 28>;

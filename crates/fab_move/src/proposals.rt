@@ -1,4 +1,4 @@
-//! What a move proposes: its block, and its target site, drawn by the move's words.
+//! What a move proposes: its block and its target site, which the move's words draw.
 
 ghost use Rattle.std.specs.Prelude.{◌≡◌, ℕ, ◌+◌, ◌/◌, ◌<◌, ◌≤◌, ◌^◌, length, min, max, Some, slice_get, slice_index, true};
 ghost use Rattle.fab_arch.specs.declared.array.SiteKind.TheVariants.{Logic, Pad};
@@ -27,8 +27,9 @@ pub enum Proposal {
     Move(Swap),
 }
 
-/// What four words propose on a legal placement: a block that may move, and a target site of its kind at most `range` (in
-/// thousandths) from it in both coordinates. Allocates nothing. Looks only at the chosen block and at the block on the target.
+/// What the four `words` of a move propose: a block that may move, and a target site of its kind. In both coordinates the target is at most
+/// `range` (in thousandths) from the block. The placement must be legal. Looks only at the chosen block and at the block on the target.
+/// Allocates nothing.
 #[inline(always)]
 pub fn propose(
     design: &Design,
@@ -53,7 +54,7 @@ pub fn propose(
     }
 }
 
-/// The block that a word picks among those that may move; `None` if no block may move. Allocates nothing.
+/// The block that `word` picks among those that may move; `None` if no block may move. Allocates nothing.
 pub fn chosen(design: &Design, fixed: &Fixed, word: u32) -> Option<BlockId>
     requires { (b : ℕ) (s : Site) → fixed_at fixed.now b ≡ Some s → b < length design.now.kinds }
     ensures { number_of result ≡
@@ -68,7 +69,7 @@ pub fn chosen(design: &Design, fixed: &Fixed, word: u32) -> Option<BlockId>
     Some(fixed.free_block(blocks, pick(word, free)))
 }
 
-/// The coordinate from 1 to `n` that a word picks among those at most `reach` from `here`.
+/// The coordinate that `word` picks among those from 1 to `n` that are at most `reach` from `here`.
 fn near(here: u16, reach: u64, n: u16, word: u32) -> u16
     requires low { 1 ≤ here }
     requires high { here ≤ n }
@@ -113,7 +114,7 @@ fn pad_target(grid: &Grid, from: Site, reach: u64, words: [u32; 4]) -> Site
     }
 }
 
-/// The target of a block that is at `from`. The range is in thousandths.
+/// The target of a block that is at `from`. `range` is in thousandths.
 #[tactic(auto, using(crate::proofs::Targets::target_logic, crate::proofs::Targets::target_pad, crate::proofs::Targets::fits_logic, crate::proofs::Targets::fits_pad))]
 fn target(
     design: &Design,

@@ -39,7 +39,7 @@ impl StreamWords {
         }
     }
 
-    /// The cipher before start word `i`.
+    /// The cipher, set to start word `i`.
     fn starts_from(&self, i: u32) -> ChaCha8Rng
         ensures { result ≡
             record { key = key_of (cipher_seed self.now); stream = 1; word_pos = i } }
@@ -60,8 +60,8 @@ impl Words for StreamWords {
         next_four(&mut moves_from(self.cipher_seed, k))
     }
 
-    // The cipher makes the blocks of four moves at once. One that is started for four moves is compiled to code that never asks where in
-    // its blocks it is; one that goes on has to ask for each word.
+    // The cipher makes the blocks of four moves at once. If it starts anew for each four moves, its compiled code need not test at which
+    // place of its blocks it is. If it went on, it would have to test this for each word.
     fn fill_words(&self, first: u64, out: &mut [[u32; 4]]) {
         let done = fill_fours(self.cipher_seed, first, out);
         if done < out.len() {
@@ -78,7 +78,7 @@ impl Words for StreamWords {
         self.starts_from(i).next_word()
     }
 
-    // The words stand in a row: one cipher makes 64 of them at once.
+    // The start words follow one another, so one cipher makes 64 of them at once.
     fn fill_starts(&self, first: u32, out: &mut [u32]) {
         fill_in_row(&mut self.starts_from(first), out);
     }
@@ -95,7 +95,7 @@ fn cipher_seed_of(seed: u64) -> [u8; 32]
     ]
 }
 
-/// The cipher before the words of move `k`.
+/// The cipher, set to the first word of move `k`.
 #[inline(always)]
 fn moves_from(cipher_seed: [u8; 32], k: u64) -> ChaCha8Rng
     ensures { result ≡ record { key = key_of cipher_seed; stream = 0; word_pos = 16 * k } }
@@ -105,7 +105,7 @@ fn moves_from(cipher_seed: [u8; 32], k: u64) -> ChaCha8Rng
     stream
 }
 
-/// The words of four moves.
+/// The words of the four moves from `first` on.
 #[inline(always)]
 fn four_moves(cipher_seed: [u8; 32], first: u64) -> [[u32; 4]; 4]
     requires { first + 4 < 2 ^ 64 }
@@ -123,7 +123,8 @@ fn four_moves(cipher_seed: [u8; 32], first: u64) -> [[u32; 4]; 4]
     [one, two, three, four]
 }
 
-/// Writes the words of the moves from `first` on by fours, as many as there are whole. Returns how many entries it wrote.
+/// Writes the words of the moves from `first` on in whole groups of four; up to three entries at the end of `out` are left. Returns how
+/// many entries it wrote.
 fn fill_fours(cipher_seed: [u8; 32], first: u64, out: &mut [[u32; 4]]) -> usize
     requires { first + length out.old < 2 ^ 64 }
     ensures within { result ≤ length out.new }
@@ -141,7 +142,7 @@ fn fill_fours(cipher_seed: [u8; 32], first: u64, out: &mut [[u32; 4]]) -> usize
     4 * fours
 }
 
-/// Writes the first four words of each block, one entry of `out` for each block, from entry `done` on.
+/// Fills `out` from entry `done` on. Each entry gets the first four words of a block of 16.
 fn fill_rest(stream: &mut ChaCha8Rng, done: usize, out: &mut [[u32; 4]])
     requires within { done ≤ length out.old }
     requires places { stream.old.word_pos + 16 * (length out.old - done) < 2 ^ 68 }
@@ -157,7 +158,7 @@ fn fill_rest(stream: &mut ChaCha8Rng, done: usize, out: &mut [[u32; 4]])
     }
 }
 
-/// Writes the next words, one after the other.
+/// Fills `out` with the next words.
 fn fill_in_row(stream: &mut ChaCha8Rng, out: &mut [u32])
     requires { stream.old.word_pos + length out.old < 2 ^ 68 }
     ensures { (i : ℕ) → i < length out.new →
@@ -184,13 +185,13 @@ fn next_four(stream: &mut ChaCha8Rng) -> [u32; 4]
     ]
 }
 
-/// Passes over twelve words.
+/// Skips twelve words.
 #[inline(always)]
 fn pass_twelve(stream: &mut ChaCha8Rng)
     requires { stream.old.word_pos + 12 < 2 ^ 68 }
     ensures { stream.new ≡ record stream.old { word_pos = stream.old.word_pos + 12 } }
 {
-    // No loop: the compiler has to see where the cipher is after each word.
+    // There is no loop, so that the compiler sees where the cipher is after each word.
     let _first = next_four(stream);
     let _second = next_four(stream);
     let _third = next_four(stream);

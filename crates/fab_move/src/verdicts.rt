@@ -5,8 +5,8 @@ use fab_arch::Grid;
 use fab_net::Design;
 use fab_site::{Fixed, Placement, Swap};
 
-/// What a judgement reads: a placement with its wire cost, the words of all moves, and the temperature `t` (in ten-thousandths) and
-/// the `range` (in thousandths) of the running stage. All of it is borrowed, and nothing is changed.
+/// What a judgement reads: a placement with its wire cost, the words of all moves, and the temperature `t` (in ten-thousandths) and the
+/// `range` (in thousandths) of the running stage. A view only borrows, and changes nothing.
 #[derive(Drop)]
 pub struct View<'a, C, W> {
     pub design: &'a Design,

@@ -8,7 +8,8 @@ ghost use Rattle.fab_move.specs.Sides.{positions};
 use crate::pad_runs::{Run, Window};
 use fab_arch::{Grid, Site};
 
-/// The least and the greatest number from 1 to `n` at most `reach` from `here`. If there is none, the least is above the greatest.
+/// The least and the greatest of the numbers from 1 to `n` that are at most `reach` from `here`. If there are none, the first result is
+/// above the second.
 pub(crate) fn bounds_near(here: u16, reach: u64, n: u16) -> (u64, u64)
     requires { reach < 2 ^ 63 }
     ensures least { result.0 ≡ max 1 (here - reach) }
@@ -42,8 +43,8 @@ fn are_near(reach: u64, a: u16, b: u16) -> bool
     u64::from(a) <= u64::from(b) + reach && u64::from(b) <= u64::from(a) + reach
 }
 
-/// The positions near a site along the side at coordinate `side`: the numbers from 1 to `n` at most `reach` from `along`, or none if
-/// `side` is farther than that from `across`.
+/// The positions near a site on one side of the array: the numbers from 1 to `n` that are at most `reach` from `along`. If the coordinate
+/// of the side, `side`, is more than `reach` from `across`, there are none.
 #[tactic(auto, using(crate::proofs::Nearby::side_none))]
 fn run_of_side(side: u16, across: u16, along: u16, reach: u64, n: u16) -> Run
     requires along { along ≤ 1001 }
@@ -59,7 +60,7 @@ fn run_of_side(side: u16, across: u16, along: u16, reach: u64, n: u16) -> Run
 }
 
 impl Window {
-    /// The positions at most `reach` from a site in both coordinates.
+    /// The positions that are at most `reach` from the site `from` in both coordinates.
     pub(crate) fn around(grid: &Grid, from: Site, reach: u64) -> Window
         requires x { from.x ≤ 1001 }
         requires y { from.y ≤ 1001 }

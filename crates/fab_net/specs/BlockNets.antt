@@ -24,11 +24,11 @@ nets_on terminals globals b = map net_id (filter (touches terminals globals b) (
 abbrev pub block_nets : ℕ → List (List Terminal) → List Bool → List (List NetId)
 block_nets blocks terminals globals = map (nets_on terminals globals) (range_with_len 0 blocks)
 
--- a net, if one of these terminals is on a block
+-- the net `net`, if one of the terminals of `row` is on block b
 abbrev pub net_where : ℕ → List Terminal → ℕ → List NetId
 net_where net row b = if list_any (is_at b) row then net_id net ∷ [] else []
 
--- how many of these terminals are on a block
+-- how many of the terminals of `row` are on block b
 abbrev pub pins_at : ℕ → List Terminal → ℕ
 pins_at b row = count_by (is_at b) row
 
@@ -44,6 +44,6 @@ pins_on terminals globals b = map (pins_of terminals b) (filter (touches termina
 abbrev pub block_pins : ℕ → List (List Terminal) → List Bool → List (List ℕ)
 block_pins blocks terminals globals = map (pins_on terminals globals) (range_with_len 0 blocks)
 
--- how many of these terminals are on a block, if any is
+-- how many of the terminals of `row` are on block b, if any is
 abbrev pub pins_where : List Terminal → ℕ → List ℕ
 pins_where row b = if list_any (is_at b) row then pins_at b row ∷ [] else []

@@ -22,6 +22,6 @@ abbrev pub span_at : ℕ → List Pin → Span
 span_at net [] = record { start = 0; stop = 0 }
 span_at net (p ∷ ps) = if p.net == net then p.span else span_at net ps
 
--- a pin that holds the number of its net, with the net's name looked up in `names`
+-- a pin with the name of its net instead of the number: the name is looked up in `names`
 abbrev pub pin_of : List (List ℕ) → Pin → PinOf
 pin_of names p = record { block = p.block; pin = p.pin; name = slice_index_or names p.net []; span = p.span; drives = p.drives }

@@ -1,5 +1,5 @@
--- How a fault is printed (our own): its code and its name, and the line where it has one. A caller that has the text adds the
--- name at the span.
+-- How a fault is printed (our own): its code and its name, and the line if it has one. A caller that has the text adds the name at the
+-- span.
 use Rattle.std.specs.Prelude.{ℕ, ◌≡◌, List, ◌++◌, decimal, codes, refl}
 use Rattle.std.specs.Fmt.{digits}
 use Rattle.fab_net.specs.declared.fault.NetFault.{NetFault}

@@ -21,7 +21,7 @@ open_section [] = None
 open_section (s ∷ []) = Some s
 open_section (s ∷ t ∷ ts) = open_section (t ∷ ts)
 
--- where the name of a block stands that has no pinlist
+-- the place of the name of a section's block, if the section has no pinlist
 abbrev pub without_pinlist : Option Section → Option Span
 without_pinlist None = None
 without_pinlist (Some s) = if length (filter is_pinlist s.body) == 0 then Some (span_of_name s.opening) else None
@@ -43,7 +43,7 @@ open_fault before l =
     (or_else (unless (not (is_some (number_of (name_at l) (map name_in (sections before))))) (DuplicateBlock l.number))
     (unless (nat_lt (length (sections before)) 65535) (TooLarge l.number))))
 
--- the kind of the open block (where none is open, a line is faulty before its kind matters)
+-- the kind of the open block. If no block is open, the line is faulty whatever the kind
 abbrev pub open_kind : Option Section → BlockKind
 open_kind None = InputPad
 open_kind (Some s) = s.kind
@@ -52,7 +52,7 @@ open_kind (Some s) = s.kind
 abbrev pub pins_added : List PinKind → List TextLine → TextLine → List PinOf
 pins_added arch before l = pins_at arch (open_kind (open_section (sections before))) (length (sections before) - 1) 0 (entries_in l)
 
--- the terminals and nets are within the limits
+-- whether the terminals and nets are within the limits
 abbrev pub are_few : List PinOf → Bool
 are_few pins = nat_le (length pins) 1048576 && nat_le (length (net_names pins)) 65535
 
@@ -68,7 +68,7 @@ abbrev pub is_logic_open : Option Section → Bool
 is_logic_open None = false
 is_logic_open (Some s) = is_logic s.kind
 
--- the first fault of a line of this kind
+-- the first fault of a line, by its first word
 abbrev pub fault_by : List PinKind → List TextLine → TextLine → Head → Option NetFault
 fault_by arch before l (head.Opens kind) = open_fault before l
 fault_by arch before l head.Pinlist = pinlist_fault arch before l
@@ -92,7 +92,7 @@ net_fault pins name =
     else if count_by (is_driver name) pins == 0 then Some (NoDriver (first_span pins name))
     else Some (TwoDrivers (first_span pins name))
 
--- the first fault of these nets
+-- the fault of the first of these nets that has one
 abbrev pub driver_fault : List PinOf → List (List ℕ) → Option NetFault
 driver_fault pins [] = None
 driver_fault pins (n ∷ ns) = or_else (net_fault pins n) (driver_fault pins ns)
@@ -105,12 +105,12 @@ text_fault arch ls = or_else (missing_fault (awaiting ls)) (driver_fault (pins_i
 abbrev pub first_fault : List PinKind → List TextLine → Option NetFault
 first_fault arch ls = fault_of_all (fault_of arch) (text_fault arch) ls
 
--- a returned fault is this one, or out of memory, which may come for any text
+-- a returned fault is `fault`, or out of memory, which may come for any text
 abbrev pub FaultIs : NetFault → Option NetFault → Type 0
 FaultIs NoMemory fault = Unit {0}
 FaultIs e fault = fault ≡ Some e
 
--- a text's lines either mean a netlist or have a first fault, never both
+-- the lines of a text either mean a netlist or have a first fault, never both
 abbrev pub MeansOrFaults : List PinKind → List TextLine → Type 0
 MeansOrFaults arch ls =
     ((d : Netlist) → IsNetlist arch ls d → first_fault arch ls ≡ None)

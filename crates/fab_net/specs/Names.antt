@@ -7,7 +7,7 @@ use Rattle.std.specs.Str.{bytes_eq}
 abbrev pub number_of : List ℕ → List (List ℕ) → Option ℕ
 number_of name names = position (λ other. bytes_eq name other) names
 
--- with a name added at the end, if it is new
+-- the names, with `name` added at the end if it is new
 abbrev pub with_name : List ℕ → List (List ℕ) → List (List ℕ)
 with_name name names = if is_some (number_of name names) then names else names ++ name ∷ []
 

@@ -16,7 +16,7 @@ pub record Netlist : Type 0 where
   pub terminals : List (List Terminal)
   pub globals : List Bool
 
--- a net, as placement sees it: the block of each terminal, so a block may occur more than once
+-- a net, as placement sees it: the block of each terminal. A block may occur more than once
 pub record Net : Type 0 where
   pub global : Bool
   pub blocks : List ℕ
@@ -25,7 +25,7 @@ pub record Net : Type 0 where
 abbrev pub block_on : Terminal → ℕ
 block_on t = t.block.0
 
--- the net with number `n`; past the last one, a global net without terminals
+-- the net with number `n`; if there is none, a global net without terminals
 abbrev pub net_at : Netlist → ℕ → Net
 net_at d n = record { global = slice_index_or d.globals n true; blocks = map block_on (slice_index_or d.terminals n []) }
 
@@ -33,7 +33,7 @@ net_at d n = record { global = slice_index_or d.globals n true; blocks = map blo
 abbrev pub counted : Netlist → List ℕ
 counted d = filter (λ n. not (net_at d n).global) (range_with_len 0 (length d.terminals))
 
--- the number is among these
+-- whether the number `n` is among `xs`
 abbrev pub has_number : ℕ → List ℕ → Bool
 has_number n xs = list_any (λ x. n == x) xs
 
@@ -51,7 +51,7 @@ is_logic InputPad = false
 is_logic OutputPad = false
 is_logic Logic = true
 
--- whether a block is a logic block, and no pad (past the last block, it reads as a logic block)
+-- whether block `b` is a logic block and not a pad (if there is no block `b`, true)
 abbrev pub is_logic_at : Netlist → ℕ → Bool
 is_logic_at d b = is_logic (slice_index_or d.kinds b Logic)
 
@@ -136,7 +136,7 @@ three_blocks_are_lawful = record {
   within = all_on_blocks;
 }
 
--- two pads on one net, of these names, and a second net with these terminals
+-- two pads with these names on one net, and a second net with the terminals `more`
 abbrev two_pads : List (List ℕ) → List Terminal → Netlist
 two_pads names more = record {
   kinds = InputPad ∷ OutputPad ∷ [];

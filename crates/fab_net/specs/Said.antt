@@ -1,5 +1,4 @@
--- What the lines read so far mean, as one value: what a reader keeps between two lines, and what the next line adds to it
--- (our own).
+-- What the lines read so far mean, as one value. A reader keeps it between two lines, and the next line adds to it (our own).
 use Rattle.std.specs.List.{All}
 use Rattle.std.specs.Prelude.{ℕ, ◌≡◌, ◌≤◌, ◌<◌, ◌-◌, ◌==◌, not, nat_lt, List, [], ◌∷◌, ◌++◌, is_some, length, map, drop, slice_get, filter, Option, Some, None, Result, Ok, Err, Bool, false}
 use Rattle.fab_text.specs.Lines.{TextLine}
@@ -18,8 +17,8 @@ use Rattle.fab_net.specs.Netlist.{Netlist, is_logic}
 use Rattle.fab_net.specs.Text.{PinOf, head_of, is_open, sections, entries_in, pins_at, pins_from, net_names, terminals_of, is_global_in, global_names, name_at, name_in, kind_in, span_of_name, pin_count}
 use Rattle.fab_net.specs.Faults.{awaiting, missing_fault, are_few, driver_fault}
 
--- what lines have given so far: kinds and names of blocks; the place of the last block's name while its pinlist is due; pins; names of
--- global nets
+-- what the lines read so far mean: kinds and names of blocks; the place of the last block's name while its pinlist is missing; pins; names
+-- of global nets
 pub record Said : Type 0 where
   pub kinds : List BlockKind
   pub names : List (List ℕ)
@@ -27,7 +26,7 @@ pub record Said : Type 0 where
   pub pins : List PinOf
   pub globals : List (List ℕ)
 
--- what these lines have given
+-- what the lines `ls` mean
 abbrev pub said : List PinKind → List TextLine → Said
 said arch ls = record { kinds = map kind_in (sections ls); names = map name_in (sections ls); awaiting = awaiting ls; pins = pins_from arch 0 (sections ls); globals = global_names ls }
 
@@ -68,7 +67,7 @@ pins_fault arch s l =
     (or_else (unless (length (entries_in l) == pin_count arch (kind_or_pad (last_kind s.kinds))) (PinCount l.number))
     (unless (are_few (s.pins ++ pins_more arch s.kinds l)) (TooLarge l.number)))
 
--- the first fault of a line with this first word
+-- the first fault of a line, by its first word
 abbrev pub said_fault_by : List PinKind → Said → TextLine → Head → Option NetFault
 said_fault_by arch s l (head.Opens kind) = opens_fault s l
 said_fault_by arch s l head.Pinlist = pins_fault arch s l
@@ -76,7 +75,7 @@ said_fault_by arch s l head.Subblock = unless (is_logic_last (last_kind s.kinds)
 said_fault_by arch s l head.Global = None
 said_fault_by arch s l head.Unknown = Some (UnknownWord l.number)
 
--- the first fault of a line after what was said
+-- the first fault of a line that follows lines which mean `s`
 abbrev pub said_fault : List PinKind → Said → TextLine → Option NetFault
 said_fault arch s l = said_fault_by arch s l (head_of l)
 
@@ -89,19 +88,19 @@ err_of (Err e) = Some e
 abbrev pub end_fault : Said → Option NetFault
 end_fault s = or_else (missing_fault s.awaiting) (driver_fault s.pins (net_names s.pins))
 
--- what is given once a line opened a block
+-- what the lines mean with one more that opens a block
 abbrev pub opened : Said → BlockKind → TextLine → Said
 opened s kind l = record { kinds = s.kinds ++ kind ∷ []; names = s.names ++ name_at l ∷ []; awaiting = Some (span_of_name l); pins = s.pins; globals = s.globals }
 
--- what is given once a pinlist came
+-- what the lines mean with one more that is a pinlist
 abbrev pub with_pins : List PinKind → Said → TextLine → Said
 with_pins arch s l = record { kinds = s.kinds; names = s.names; awaiting = None; pins = s.pins ++ pins_more arch s.kinds l; globals = s.globals }
 
--- what is given once a line of global nets came
+-- what the lines mean with one more that names global nets
 abbrev pub with_globals : Said → TextLine → Said
 with_globals s l = record { kinds = s.kinds; names = s.names; awaiting = s.awaiting; pins = s.pins; globals = s.globals ++ drop 1 l.words }
 
--- what is given once a line with this first word came
+-- what the lines mean with one more, by its first word
 abbrev pub after_by : List PinKind → Said → TextLine → Head → Said
 after_by arch s l (head.Opens kind) = opened s kind l
 after_by arch s l head.Pinlist = with_pins arch s l
@@ -109,15 +108,15 @@ after_by arch s l head.Subblock = s
 after_by arch s l head.Global = with_globals s l
 after_by arch s l head.Unknown = s
 
--- what is said, with one more line
+-- what the lines mean with one more
 abbrev pub after : List PinKind → Said → TextLine → Said
 after arch s l = after_by arch s l (head_of l)
 
--- the netlist of all that was given
+-- the netlist of what the lines mean
 abbrev pub netlist_said : Said → Netlist
 netlist_said s = record { kinds = s.kinds; names = s.names; terminals = map (terminals_of s.pins) (net_names s.pins); globals = map (is_global_in s.globals) (net_names s.pins) }
 
--- what holds once all lines of a text are taken, before the last checks
+-- what holds after all lines of a text are taken, and before the last checks
 pub record IsReady (s : Said) : Type 0 where
   pub distinct : AllDistinct s.names
   pub words : AreWords s.names

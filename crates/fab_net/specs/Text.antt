@@ -1,5 +1,5 @@
--- What a netlist text means (VPR manual). After the lines ahead of the first block, its lines form sections: a
--- line that opens a block, and the lines after it up to the next such line. The limits are our own.
+-- What a netlist text means (VPR manual). After the lines ahead of the first block, its lines form sections. A section is a line that opens
+-- a block, and the lines after it up to the next such line. The limits are our own.
 use Rattle.std.specs.Prelude.{ℕ, ◌+◌, ◌≡◌, ◌≤◌, ◌<◌, Bool, true, false, ◌&&◌, List, [], ◌∷◌, ◌++◌, if◌then◌else◌, length, map, filter, count_by, drop, slice_get, slice_index_or, codes, Option, Some, None}
 use Rattle.std.specs.List.{list_any, AllByRecursion, flat_map}
 use Rattle.std.specs.Str.{bytes_eq}
@@ -46,7 +46,7 @@ entries (w ∷ ws) (s ∷ ss) = record { name = w; span = s } ∷ entries ws ss
 abbrev pub entries_in : TextLine → List Entry
 entries_in l = entries (drop 1 l.words) (drop 1 l.spans)
 
--- the place of a word that a line does not have; a line without it is faulty
+-- the place of a word that the line does not have. Such a line is faulty
 abbrev pub no_span : Span
 no_span = record { start = 0; stop = 0 }
 
@@ -64,7 +64,8 @@ pub record Section : Type 0 where
   pub opening : TextLine
   pub body : List TextLine
 
--- the lines before the next opening, by the first word of one more
+-- the lines ahead of the first block, with `l` put before them: `l` and `rest`, or none if `l` opens a block. `Head` is the first word of
+-- `l`
 abbrev pub ahead_by : Head → TextLine → List TextLine → List TextLine
 ahead_by (head.Opens kind) l rest = []
 ahead_by head.Pinlist l rest = l ∷ rest
@@ -77,7 +78,7 @@ abbrev pub ahead : List TextLine → List TextLine
 ahead [] = []
 ahead (l ∷ ls) = ahead_by (head_of l) l (ahead ls)
 
--- the sections, by the first word of one more line
+-- the sections `later`. If `l` opens a block, its section comes first: `l` and the lines `body`
 abbrev pub sections_by : Head → TextLine → List TextLine → List Section → List Section
 sections_by (head.Opens kind) l body later = record { kind = kind; opening = l; body = body } ∷ later
 sections_by head.Pinlist l body later = later
@@ -102,7 +103,7 @@ is_pinlist_head head.Unknown = false
 abbrev pub is_pinlist : TextLine → Bool
 is_pinlist l = is_pinlist_head (head_of l)
 
--- the names of a line with this first word, if it is one of global nets
+-- the names on a line of global nets; none on a line with another first word
 abbrev pub globals_by : Head → TextLine → List (List ℕ)
 globals_by (head.Opens kind) l = []
 globals_by head.Pinlist l = []
@@ -136,14 +137,14 @@ abbrev pub is_drives : PinKind → Bool
 is_drives Reads = false
 is_drives Drives = true
 
--- an input pad drives its net, an output pad reads it, and the architecture says which pins of a logic block drive;
--- a pin that the architecture does not have drives nothing
+-- whether pin `i` drives its net. The pin of an input pad does, that of an output pad does not, and for a logic block the architecture says
+-- it. A pin that the architecture does not have drives nothing
 abbrev pub drives_at : List PinKind → BlockKind → ℕ → Bool
 drives_at arch InputPad i = true
 drives_at arch OutputPad i = false
 drives_at arch Logic i = is_drives (slice_index_or arch i Reads)
 
--- the pins on nets of a block, for its entries, the first of which is pin `i`
+-- those of a block's pins that are on nets, from its entries. The first entry is pin `i`
 abbrev pub pins_at : List PinKind → BlockKind → ℕ → ℕ → List Entry → List PinOf
 pins_at arch kind block i [] = []
 pins_at arch kind block i (e ∷ es) =
@@ -154,7 +155,7 @@ pins_at arch kind block i (e ∷ es) =
 abbrev pub pins_of_lines : List PinKind → BlockKind → ℕ → List TextLine → List PinOf
 pins_of_lines arch kind block ls = flat_map (λ l. pins_at arch kind block 0 (entries_in l)) ls
 
--- the pins on nets of sections; the first section is block number `block`
+-- those of the sections' pins that are on nets. The first section is block number `block`
 abbrev pub pins_from : List PinKind → ℕ → List Section → List PinOf
 pins_from arch block [] = []
 pins_from arch block (s ∷ ss) = pins_of_lines arch s.kind block (filter is_pinlist s.body) ++ pins_from arch (block + 1) ss
@@ -201,7 +202,7 @@ IsLineAhead head.Subblock = ⊥
 IsLineAhead head.Global = Unit {0}
 IsLineAhead head.Unknown = ⊥
 
--- a block's line is followed by pinlists and `.global` lines, and for a logic block also by `subblock:` lines
+-- the lines that may follow the line of a block: pinlists, `.global` lines, and for a logic block also `subblock:` lines
 abbrev pub IsBodyLine : BlockKind → Head → Type 0
 IsBodyLine kind (head.Opens other) = ⊥
 IsBodyLine kind head.Pinlist = Unit {0}
@@ -209,8 +210,8 @@ IsBodyLine kind head.Subblock = kind ≡ Logic
 IsBodyLine kind head.Global = Unit {0}
 IsBodyLine kind head.Unknown = ⊥
 
--- a lawful section: its block has a name, its lines are of the kinds allowed there, and exactly one of them is a
--- pinlist, with an entry for each pin of the block
+-- a section without fault: its block has a name, its lines are of the kinds allowed there, and exactly one is a pinlist. The pinlist has an
+-- entry for each pin of the block
 pub record IsSection (arch : List PinKind) (s : Section) : Type 0 where
   pub named : 1 < length s.opening.words
   pub lines : AllByRecursion (λ l. IsBodyLine s.kind (head_of l)) s.body

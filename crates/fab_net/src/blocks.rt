@@ -9,8 +9,8 @@ use crate::netlist_types::{NetId, Terminal};
 use crate::rows::{Rows, gather};
 use std::alloc::{AllocError, Global};
 
-/// Adds a net to each block that it has a terminal on. Stamps are at most `net` before the call, and at most
-/// `net + 1` after it.
+/// Adds `net` to the row of each block on which it has a terminal. Each stamp is at most `net` before the call, and at most `net + 1` after
+/// it.
 fn push_net(
     entries: &mut Vec<(u32, NetId)>,
     stamps: &mut [u32],
@@ -38,7 +38,7 @@ fn push_net(
     Ok(())
 }
 
-/// The nets of each block, in ascending order, without global ones.
+/// Returns, for each block, its nets in ascending order, without global ones.
 pub fn gather_nets(
     alloc: Global,
     blocks: usize,
@@ -62,7 +62,7 @@ pub fn gather_nets(
     gather(alloc, blocks, &entries, NetId(0))
 }
 
-/// Counts the terminals of a net on each block. All counts are 0 before.
+/// Counts the terminals of a net on each block. All counts must be 0 before.
 fn count_pins(counts: &mut [u32], row: &[Terminal])
     requires few { length row.now < 2 ^ 32 }
     requires blocks { All (λ t. t.block.0 < length counts.old) row.now }
@@ -74,7 +74,7 @@ fn count_pins(counts: &mut [u32], row: &[Terminal])
     }
 }
 
-/// Adds its count to each block that has one, and resets all counts to 0.
+/// For each block with a count, adds the count to its row and resets it to 0.
 fn push_counts(
     entries: &mut Vec<(u32, u32)>,
     counts: &mut [u32],
@@ -103,7 +103,7 @@ fn push_counts(
     Ok(())
 }
 
-/// How many pins of a block are on each of its nets, in the order of `gather_nets`.
+/// Returns, for each block, how many of its pins are on each of its nets. Its nets are in the order of `gather_nets`.
 pub fn gather_pins(
     alloc: Global,
     blocks: usize,

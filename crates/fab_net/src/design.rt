@@ -1,4 +1,4 @@
-//! Designs: what a netlist text says, in flat arrays that placement reads without searching.
+//! Designs: what a netlist text means, in flat arrays, so that placement need not search.
 
 use crate::names::BlockNames;
 use crate::netlist_types::{BlockId, BlockKind, NetId, Terminal};
@@ -32,7 +32,7 @@ impl Model for Design {
 }
 
 impl Drop for Design {
-    // A written `drop` is one step of a proof wherever a design goes out of scope; a derived one is proved again each time.
+    // A `drop` by hand is proved once; a derived `drop` is proved again wherever a design goes out of scope.
     fn drop(self) {
         let Design {
             kinds: _,
@@ -53,7 +53,7 @@ impl Design {
     ghost use Rattle.fab_net.specs.Netlist.{IsLawful, net_at, nets_of as nets_on_block, pin_count, logic_count, pad_count};
     ghost use Rattle.fab_net.specs.Shown.{netlist};
 
-    /// Makes a design from its parts. Callers use `read_net`.
+    /// Makes a design from its parts. Users of the crate call `read_net`.
     pub(crate) fn new(
         kinds: Vec<BlockKind>,
         names: BlockNames,
@@ -129,7 +129,7 @@ impl Design {
         self.names.name(block.0 as usize)
     }
 
-    /// The block with this name, if there is one.
+    /// The block with the name `name`, if there is one.
     pub fn block_named(&self, name: &[u8]) -> Option<BlockId>
         ensures { option_map (λ b. b.0) result ≡ number_of name.now self.now.names }
     {
@@ -139,7 +139,7 @@ impl Design {
         }
     }
 
-    /// A net's terminals, in the order of the text. A block with two pins on the net occurs twice.
+    /// A net's terminals, in the order of the text. If a block has two pins on the net, it occurs twice.
     pub fn terminals(&self, net: NetId) -> &[Terminal]
         requires { net.0 < length self.now.terminals }
         ensures { result.now ≡ slice_index_or self.now.terminals net.0 [] }
@@ -147,7 +147,7 @@ impl Design {
         self.terminals.row(net.0 as usize)
     }
 
-    /// Whether a net is global, so that placement ignores it.
+    /// Whether a net is global. Placement ignores global nets.
     pub fn is_global(&self, net: NetId) -> bool
         requires { net.0 < length self.now.terminals }
         ensures { result ≡ (net_at self.now net.0).global }

@@ -1,4 +1,4 @@
-//! Why a text is no netlist.
+//! Why a text is not a netlist.
 
 ghost use Rattle.std.specs.Prelude.{◌≡◌, Some};
 ghost use Rattle.fab_net.specs.FaultTexts.{net_fault_text};
@@ -9,29 +9,28 @@ use std::alloc::{AllocError, AllocFailed};
 use std::fmt;
 use thiserror::Error;
 
-/// Why a text is no netlist: its first fault. A number is that of the faulty line, and a span is the place of a name
-/// in the text.
+/// Why a text is not a netlist: its first fault. A number is that of the faulty line, and a span is the place of a name in the text.
 #[derive(Clone, Copy, Debug, PartialEq, Eq, Error)]
 pub enum NetFault {
-    /// A line begins with no word of the netlist format.
+    /// The first word of a line is no word of the netlist format.
     UnknownWord(u64),
     /// A line opens a block without a name.
     NoName(u64),
-    /// A pinlist where no block is open, or where the open block already has its pinlist.
+    /// A pinlist comes where no block is open, or where the open block already has its pinlist.
     PinlistWithoutBlock(u64),
     /// A block ends without a pinlist; the span is that of its name.
     MissingPinlist(Span),
-    /// A pinlist with more or fewer entries than its block has pins.
+    /// A pinlist has more or fewer entries than its block has pins.
     PinCount(u64),
-    /// A subblock where no logic block is open.
+    /// A subblock comes where no logic block is open.
     SubblockWithoutLogic(u64),
-    /// A block with the name of an earlier one.
+    /// A block has the name of an earlier one.
     DuplicateBlock(u64),
-    /// A net without a driver; the span is its first appearance in a pinlist.
+    /// A net has no driver; the span is its first appearance in a pinlist.
     NoDriver(Span),
-    /// A net with two drivers or more; the span is its first appearance in a pinlist.
+    /// A net has two drivers or more; the span is its first appearance in a pinlist.
     TwoDrivers(Span),
-    /// A block or net above the 65,535th, or a terminal above the 1,048,576th.
+    /// There is a block or net above the 65,535th, or a terminal above the 1,048,576th.
     TooLarge(u64),
     /// Memory ran out.
     NoMemory,

@@ -1,4 +1,4 @@
-//! Netlists: blocks, the nets that join their pins, and the text format.
+//! Netlists: blocks, the nets that join their pins, and the reader of the text format.
 #![tactic(auto)]
 
 pub mod blocks;

@@ -1,4 +1,4 @@
-//! Names and their numbers: names are numbered by first appearance.
+//! Names, numbered by first appearance.
 
 ghost use Rattle.std.specs.Prelude.{◌≡◌, ℕ, ◌+◌, ◌<◌, ◌≤◌, ◌&&◌, ◌++◌, ◌∷◌, [], List, None, Some, is_some, length, map, not, slice_index_or, IfOk, OnOk, OnErr};
 ghost use Rattle.std.specs.List.{list_any, count_by};
@@ -67,14 +67,14 @@ impl<'a> NetNames<'a> {
         self.names.len()
     }
 
-    /// The number of a name, counted from 0 in the order in which the names came; `None` if it is not there.
+    /// The number of a name, or `None` if it is not there. Names are numbered from 0 in the order in which they were added.
     pub fn number_of(&self, name: &[u8]) -> Option<usize>
         ensures { result ≡ number_of name.now self.now }
     {
         self.names.get_index_of(name)
     }
 
-    /// Whether a word of a pinlist, after the words `before` it, would add a name.
+    /// Whether `word` would add a name, if it follows the words `before` in a pinlist.
     fn is_new(&self, word: &[u8], before: &[&[u8]]) -> bool
         ensures { result ≡
             ((not (is_open word.now) && not (is_some (number_of word.now self.now))) &&
@@ -98,7 +98,7 @@ impl<'a> NetNames<'a> {
         count
     }
 
-    /// The number of a name, which is added if it is new. If memory runs out, nothing changes.
+    /// Returns the number of a name. A new name is added first. If memory runs out, nothing changes.
     pub fn intern(&mut self, name: &'a [u8]) -> Result<usize, AllocError>
         ensures found { IfOk result (λ i. number_of name.now self.new ≡ Some i) }
         ensures names { OnOk result (self.new ≡ with_name name.now self.old) }
@@ -145,14 +145,14 @@ impl BlockNames {
         self.names.len()
     }
 
-    /// The number of a name, counted from 0 in the order in which the names came; `None` if it is not there.
+    /// The number of a name, or `None` if it is not there. Names are numbered from 0 in the order in which they were added.
     pub fn number_of(&self, name: &[u8]) -> Option<usize>
         ensures { result ≡ number_of name.now self.now }
     {
         self.names.get_index_of(name)
     }
 
-    /// The name with this number.
+    /// The name with number `number`.
     pub fn name(&self, number: usize) -> &[u8]
         requires { number < length self.now }
         ensures { result.now ≡ slice_index_or self.now number [] }
@@ -163,7 +163,7 @@ impl BlockNames {
         }
     }
 
-    /// Adds a new name. If memory runs out, nothing changes.
+    /// Adds a name that is not there yet. If memory runs out, nothing changes.
     pub fn push(&mut self, alloc: Global, name: &[u8]) -> Result<(), AllocError>
         requires { number_of name.now self.old ≡ None }
         ensures names { OnOk result (self.new ≡ self.old ++ name.now ∷ []) }

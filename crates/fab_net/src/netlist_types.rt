@@ -29,7 +29,7 @@ pub struct Terminal {
     pub pin: u16,
 }
 
-/// What a line of a netlist says, by its first word.
+/// What a line of a netlist does, by its first word.
 #[derive(Clone, Copy, Debug, PartialEq, Eq)]
 pub enum Head {
     Opens(BlockKind),

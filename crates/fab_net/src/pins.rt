@@ -15,7 +15,7 @@ use fab_text::Span;
 use std::alloc::{AllocError, Global};
 use std::marker::Model;
 
-/// The pins as entries of their nets' rows.
+/// An entry for each pin: its net, which is the row, and its terminal.
 fn net_entries(alloc: Global, pins: &[Pin]) -> Result<Vec<(u32, Terminal)>, AllocError>
     ensures { IfOk result (λ v. v.items ≡ map net_entry pins.now) }
 {
@@ -30,7 +30,7 @@ fn net_entries(alloc: Global, pins: &[Pin]) -> Result<Vec<(u32, Terminal)>, Allo
         .collect(alloc)
 }
 
-/// The pins that drive their nets, as entries of their nets' rows.
+/// An entry for each pin that drives its net: the net, which is the row, and true.
 fn driver_entries(alloc: Global, pins: &[Pin]) -> Result<Vec<(u32, bool)>, AllocError>
     ensures { IfOk result (λ v. v.items ≡ map driver_entry (filter drives_its pins.now)) }
 {
@@ -52,7 +52,7 @@ fn span_at(net: u32, pins: &[Pin]) -> Span
     Span { start: 0, stop: 0 }
 }
 
-/// For each of the names, whether it is among `globals`.
+/// For each name of `names`, whether it is among `globals`.
 fn marks_of(alloc: Global, names: &NetNames, globals: &[&[u8]]) -> Result<Vec<bool>, AllocError>
     requires { AllDistinct names.now }
     ensures { IfOk result (λ v.
@@ -79,7 +79,7 @@ fn are_few_nets(count: usize) -> bool
     count <= 65535
 }
 
-/// Connected pins, with nets numbered by first appearance.
+/// The pins that are on nets. The nets are numbered by first appearance.
 pub struct Pins<'a> {
     names: NetNames<'a>,
     pins: Vec<Pin>,
@@ -131,8 +131,8 @@ impl<'a> Pins<'a> {
         self.names.len()
     }
 
-    /// Whether the pins of one more pinlist, of at most 1,024 words, are within the limits: 1,048,576 terminals and 65,535
-    /// nets. New names are counted only where there might be too many.
+    /// Whether the limits allow the pins of one more pinlist with the entries `words`, at most 1,024: 1,048,576 terminals and 65,535 nets
+    /// in all. New names are counted only if there could be too many.
     pub(crate) fn have_room(&self, words: &[&[u8]]) -> bool
         requires words { length words.now ≤ 1024 }
         requires few { length self.now ≤ 1048576 }
@@ -148,7 +148,7 @@ impl<'a> Pins<'a> {
         are_few_nets(nets + added) || are_few_nets(nets + self.names.count_new(words))
     }
 
-    /// Adds a pin at the end, in place. Room for it is taken first, so that if memory runs out, nothing changes.
+    /// Adds a pin at the end. Its memory is reserved first, so if memory runs out, nothing changes.
     pub(crate) fn add(
         &mut self,
         name: &'a [u8],

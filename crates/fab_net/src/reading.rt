@@ -1,4 +1,4 @@
-//! Reads a netlist text: its lines one by one, what the lines read so far mean, and at the end the design.
+//! Reads a netlist text line by line, keeps what the lines read so far mean, and at the end makes the design.
 
 ghost use Rattle.std.specs.Prelude.{◌≡◌, ℕ, ◌++◌, [], ◌≤◌, ◌<◌, ◌^◌, drop, length, map, slice_get, IfOk, IfErr, OnOk, OnErr, MatchResult, List, None, IsTrue, count_by};
 ghost use Rattle.std.specs.Option.{option_map};
@@ -99,7 +99,7 @@ fn pin_count(arch: &[PinKind], kind: BlockKind) -> usize
     }
 }
 
-/// Adds the connected pins among a block's entries. If memory runs out, some of them are added.
+/// Adds those of a block's pins that are on nets. If memory runs out, only some of them are added.
 fn push_entries<'a>(
     arch: &[PinKind],
     kind: BlockKind,
@@ -156,7 +156,7 @@ fn rest_spans<'b>(line: &'b Line) -> &'b [Span]
     &line.spans[from..]
 }
 
-/// Adds the pins that a line gives the last block. If memory runs out, some of them are added.
+/// Adds the pins that a pinlist line gives the last block. If memory runs out, only some of them are added.
 fn add_pins<'a>(
     arch: &[PinKind],
     kinds: &[BlockKind],
@@ -178,7 +178,7 @@ fn add_pins<'a>(
     push_entries(arch, kind, block, words, spans, pins)
 }
 
-/// Refuses the first net that does not have exactly one driver; `counts` are the numbers of drivers.
+/// Checks that each net has exactly one driver, or returns the fault of the first that does not. `counts` are the numbers of drivers.
 fn check_drivers(counts: &[u32], pins: &Pins) -> Result<(), NetFault>
     requires counts { counts.now ≡ map (λ name.
         count_by (is_driver name) pins.now) (net_names pins.now) }
@@ -228,7 +228,7 @@ impl<'a> Model for Seen<'a> {
 }
 
 impl<'a> Drop for Seen<'a> {
-    // A written `drop` is one step of a proof wherever the value goes out of scope; a derived one is proved again each time.
+    // A `drop` by hand is proved once; a derived `drop` is proved again wherever the value goes out of scope.
     fn drop(self) {
         let Seen {
             kinds: _,
@@ -240,10 +240,10 @@ impl<'a> Drop for Seen<'a> {
     }
 }
 
-/// Each line takes two steps. First it is checked. That needs no memory, so a faulty line always gives its fault.
-/// Then it is added. That fails only if memory runs out.
+/// Each line takes two steps. First it is checked. The check allocates nothing, so the fault of a faulty line is always returned. Then the
+/// line is added. That fails only if memory runs out.
 impl<'a> Seen<'a> {
-    /// Whether a line may open a block.
+    /// Checks that a line may open a block.
     fn check_open(&self, line: &Line) -> Result<(), NetFault>
         ensures { opens_fault self.now (shown line.now) ≡ err_of result }
     {
@@ -262,7 +262,7 @@ impl<'a> Seen<'a> {
         Ok(())
     }
 
-    /// Adds the block that a line opens. Room for its kind is taken first, so that if memory runs out, nothing changes.
+    /// Adds the block that a line opens. Memory for its kind is reserved first, so if memory runs out, nothing changes.
     fn open(&mut self, alloc: Global, kind: BlockKind, line: &Line) -> Result<(), AllocError>
         requires named { 1 < length line.now.words.items }
         requires new { number_of (name_at (shown line.now)) self.old.names ≡ None }
@@ -277,7 +277,7 @@ impl<'a> Seen<'a> {
         Ok(())
     }
 
-    /// Whether a line may be the pinlist of the last block.
+    /// Checks that a line may be the pinlist of the last block.
     fn check_pins(&self, arch: &[PinKind], line: &Line) -> Result<(), NetFault>
         requires { length arch.now ≤ 1024 }
         ensures { pins_fault arch.now self.now (shown line.now) ≡ err_of result }
@@ -313,7 +313,7 @@ impl<'a> Seen<'a> {
         self.globals.extend_from_slice(rest_words(line))
     }
 
-    /// Whether a line is lawful after those before it.
+    /// Checks a line that follows the lines read so far.
     fn check_line(&self, arch: &[PinKind], line: &Line) -> Result<(), NetFault>
         requires { length arch.now ≤ 1024 }
         ensures { said_fault arch.now self.now (shown line.now) ≡ err_of result }
@@ -333,7 +333,7 @@ impl<'a> Seen<'a> {
         }
     }
 
-    /// Adds what a lawful line says.
+    /// Adds what a checked line means.
     fn take_line(
         &mut self,
         alloc: Global,
@@ -353,7 +353,7 @@ impl<'a> Seen<'a> {
         }
     }
 
-    /// Whether the whole text is lawful, given that its lines are. Only counting the drivers of the nets needs memory.
+    /// Checks the whole text, after all its lines are checked. Only the count of each net's drivers allocates.
     fn check_end(&self, alloc: Global) -> Result<(), NetFault>
         ensures ok { OnOk result (end_fault self.now ≡ None) }
         ensures fault { IfErr result (λ e. FaultIs e (end_fault self.now)) }
@@ -366,7 +366,7 @@ impl<'a> Seen<'a> {
         check_drivers(&drivers, &self.pins)
     }
 
-    /// The design that lawful lines have described.
+    /// The design that the lines mean. The lines and the whole text are checked.
     fn design(self, alloc: Global) -> Result<Design, AllocError>
         requires ready { IsReady self }
         requires lawful { end_fault self ≡ None }
@@ -386,7 +386,7 @@ impl<'a> Seen<'a> {
         Ok(Design::new(kinds, names, terminals, marks, nets, counts))
     }
 
-    /// The design that the lines have described, if the whole text is lawful.
+    /// Checks the whole text, and returns the design that the lines mean.
     fn finish(self, alloc: Global) -> Result<Design, NetFault>
         requires { IsReady self }
         ensures sound { OnOk result (end_fault self.entry ≡ None) }
@@ -399,7 +399,7 @@ impl<'a> Seen<'a> {
     }
 }
 
-/// What the lines that are left say, if none has a fault. If memory runs out, no line that was taken has a fault.
+/// Returns what the lines that are left mean, or their first fault. If memory runs out, no line that was taken has a fault.
 fn read<'a>(alloc: Global, left: &mut Lines<'a>, arch: &Arch) -> Result<Seen<'a>, NetFault>
     requires words { AllByRecursion (λ l. AreWords l.words) left.old }
     ensures said { IfOk result (λ r. r ≡ said arch.now.pins.items left.old) }
@@ -427,15 +427,15 @@ fn read<'a>(alloc: Global, left: &mut Lines<'a>, arch: &Arch) -> Result<Seen<'a>
     Ok(seen)
 }
 
-/// Reads the design that a netlist text means over an architecture, or returns the text's first fault: that of the
-/// first faulty line, else that of the whole text.
+/// Reads the design that a netlist text means with the architecture `arch`, or returns the text's first fault: that of the first faulty
+/// line, or else that of the whole text.
 pub fn read_net(alloc: Global, bytes: &[u8], arch: &Arch) -> Result<Design, NetFault>
-    // What is read is what the lines mean.
+    // If a design is returned, the lines mean it.
     ensures found { IfOk result (λ d. IsNetlist arch.now.pins.items (lines bytes.now) d) }
-    // What they mean is read, unless memory runs out.
+    // If the lines mean a design, it is returned, unless memory runs out.
     ensures only { (d : Netlist) → IsNetlist arch.now.pins.items (lines bytes.now) d →
         MatchResult result (λ r. r ≡ d) (λ e. e ≡ NoMemory) }
-    // An error is the first fault, or out of memory.
+    // An error is the first fault, or that memory ran out.
     ensures fault { IfErr result (λ e.
         FaultIs e (first_fault arch.now.pins.items (lines bytes.now))) }
 {

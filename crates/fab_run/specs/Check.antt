@@ -65,7 +65,8 @@ IsDesignFault arch net (Net e) = (io_rat : ℕ) × (pins : List PinKind) × IsAr
 IsDesignFault arch net NoMemory = Unit {0}
 IsDesignFault arch net e = ⊥
 
--- the first check that fails; a report that cannot be written is returned only if the texts pass, and memory may run out for any texts
+-- the first check that fails. The fault of a report that cannot be written is returned only if the texts pass. Memory may run out for any
+-- texts
 abbrev pub FaultOf : List ℕ → List ℕ → List ℕ → RunFault → Type 0
 FaultOf arch net place (Arch e) = IsDesignFault arch net (Arch e)
 FaultOf arch net place (Net e) = IsDesignFault arch net (Net e)

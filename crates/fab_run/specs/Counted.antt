@@ -9,7 +9,7 @@ use Rattle.fab_run.specs.declared.inputs.CountedOutcome.{CountedOutcome}
 abbrev pub answer_by_count : CountedOutcome → List ℕ → Answer
 answer_by_count o numbers = record { ending = o.ending; placement = o.placement; accepted = numbers; costs = o.costs.items }
 
--- the answer of the run that keeps the numbers is of this kind, and it has as many numbers as this run counts
+-- there are numbers of accepted moves, one for each move that this run counts; with them, the answer is of this kind
 abbrev pub Counts : CountedOutcome → (Answer → Type 0) → Type 0
 Counts o Is = (numbers : List ℕ) × (o.accepted ≡ length numbers) × Is (answer_by_count o numbers)
 

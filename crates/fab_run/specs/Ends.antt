@@ -60,7 +60,7 @@ abbrev pub EndsAs : Run → Standing → Ending → Type 0
 EndsAs r x Finished = x.heat ≡ None
 EndsAs r x (Stopped q) = IsPointAt r x q
 
--- what a run answers, except the number of moves that were judged again
+-- what a run answers, except the number of redone moves
 pub record Answer : Type 0 where
   pub ending : Ending
   pub placement : PlacementOf
@@ -87,7 +87,7 @@ pub record IsToldPiece (p : Piece) (a : Answer) (old new : Option (List ℕ)) : 
   pub annealed : IsAnnealed p moves a
   pub report : Appends old new (piece_report p moves)
 
--- this many moves of the piece are judged again, in turns of this batch
+-- this many moves of the piece are redone, in turns of this batch
 pub record AreRedone (p : Piece) (batch redone : ℕ) : Type 0 where
   pub moves : ℕ
   pub piece : IsPiece p.run p.start p.stop moves
@@ -98,7 +98,7 @@ pub record AreRedone (p : Piece) (batch redone : ℕ) : Type 0 where
 abbrev pub IsBegun : Option (List ℕ) → Option (List ℕ) → List ℕ → Type 0
 IsBegun old new text = (k : ℕ) × Appends old new (take k text)
 
--- n moves from here do not go past the stop, if it is met: if moves are left there
+-- n moves from here do not go past the stop, if moves are left there
 abbrev pub IsWithin : Run → Standing → Option ℕ → ℕ → Type 0
 IsWithin r x stop n = (m : ℕ) → stop ≡ Some (x.done + m) → is_some (from r x m).heat ≡ true → n ≤ m
 

@@ -1,5 +1,5 @@
 -- The line that reports a fault (our own): `vplace: `, the role of the faulty input, the fault's code and name, and its detail: a line, a
--- block, a field or a name. A lack of memory, and a writer that failed, are told in words.
+-- block, a field or a name. A lack of memory, and a writer that failed, are reported in words.
 use Rattle.std.specs.Prelude.{ℕ, ◌≡◌, nat_le, List, [], ◌++◌, Option, Some, None, if◌then◌else◌, length, codes, refl}
 use Rattle.std.specs.Fmt.{digits}
 use Rattle.fab_text.specs.declared.spans.Span.{Span}

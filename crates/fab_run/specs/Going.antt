@@ -57,7 +57,7 @@ IsGoingNumberFault t batch workers BatchOutOfRange = (are_labels t.net_label t.a
 IsGoingNumberFault t batch workers WorkersOutOfRange = (are_labels t.net_label t.arch_label ≡ true) × IsThreadFault batch workers WorkersOutOfRange
 IsGoingNumberFault t batch workers e = ⊥
 
--- the first check that fails; a failure to write the report or the place text is told only if no check fails, and memory may run out for
+-- the first check that fails. A failure to write the report or the place text is returned only if no check fails. Memory may run out for
 -- any inputs
 abbrev pub IsGoingFault : Texts → List ℕ → ℕ → ℕ → RunFault → Type 0
 IsGoingFault t point batch workers (Arch e) = IsGoingTextFault t point (Arch e)

@@ -1,6 +1,5 @@
 -- What a run answers and writes (our own): a piece of annealing its design one move at a time. The older placements on which workers judge
--- do not occur here; batch and workers occur only where their limits are checked, and the batch where the moves that are judged again are
--- counted.
+-- do not occur here. Batch and workers occur only where their limits are checked; the batch also occurs where redone moves are counted.
 use Rattle.std.specs.Prelude.{ℕ, ◌≡◌, ◌⊎◌, Bool, true, List, [], Option}
 use Rattle.std.specs.Io.KnownBytes.{Appends}
 use Rattle.fab_text.specs.Lines.{lines}

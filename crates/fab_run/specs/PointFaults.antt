@@ -36,7 +36,7 @@ abbrev pub DueFault : {A : Type 0} → PointFault → (TextLine → Option A) �
 DueFault e read Behind [] = e ≡ BadField 0
 DueFault e read Behind (l ∷ ls) = LineFault e Behind l.number ls (read l)
 
--- the same, where the field has a range
+-- the same, for a field that has a range
 abbrev pub FieldFault : {A : Type 0} → PointFault → (TextLine → Option A) → (A → Type 0) → PointField → (A → List TextLine → Type 0) → List TextLine → Type 0
 FieldFault e read IsIn field Behind ls =
     DueFault e read (λ a behind. ((¬ IsIn a) × (e ≡ OutOfRange field)) ⊎ (IsIn a × Behind a behind)) ls

@@ -83,7 +83,7 @@ pub record AreNamed (v : Version) (d : Netlist) (many : ℕ) (ls : List TextLine
   pub long : length named ≡ length d.kinds
   pub named_are : (b : ℕ) → slice_index_or named b false ≡ is_repeated d (take many ls) b
 
--- a list of named blocks was read from these lines, and those behind are left
+-- a list of named blocks was read from these lines, and the lines after them are left
 pub record NamesRead (v : Version) (d : Netlist) (ls : List TextLine) (named : List Bool) (behind : List TextLine) : Type 0 where
   pub many : ℕ
   pub after : List TextLine
@@ -100,7 +100,7 @@ pub record AreSeated (d : Netlist) (g : GridShape) (ls : List TextLine) (placeme
   pub complete : AllByRecursion (λ name. list_any (names_block name) (take (length d.kinds) ls) ≡ true) d.names
   pub legal : IsLegal d g [] placement.sites
 
--- the sites of all blocks were read from these lines, and those behind are left
+-- the sites of all blocks were read from these lines, and the lines after them are left
 pub record SeatsRead (d : Netlist) (g : GridShape) (ls : List TextLine) (placement : PlacementOf) (behind : List TextLine) : Type 0 where
   pub after : List TextLine
   pub count_read : IsRead (number_in (codes "places")) (λ m. m ≡ length d.kinds) ls (length d.kinds) after

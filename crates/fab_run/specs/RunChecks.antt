@@ -59,7 +59,7 @@ abbrev pub IsFaultBehind : Texts → Options → RunFault → Type 0
 IsFaultBehind t o e =
     (d : Netlist) × (g : GridShape) × (fixed : List (Option Site)) × (begun : List (Option Site)) × HasPins t o d g fixed begun × IsOptionFault t o (length d.kinds) e
 
--- the first check that fails; a failure to write the report or the place text is told only if no check fails, and memory may run out for
+-- the first check that fails. A failure to write the report or the place text is returned only if no check fails. Memory may run out for
 -- any inputs
 abbrev pub IsRunFault : Texts → Options → RunFault → Type 0
 IsRunFault t o (Arch e) = IsDesignFault t.arch t.net (Arch e)

@@ -55,7 +55,7 @@ ResumedAreTold =
     (t : Texts) (point : List ℕ) (batch workers other_batch other_workers : ℕ) (stop : Option ℕ) (a b : Call) → IsCalled (AskToGoOn t point batch workers stop) t a → IsCalled (AskToGoOn t point other_batch other_workers stop) t b
     → AreTheSame a b
 
--- runs that ask for the same with the same batch judge equally many moves again, whatever their numbers of workers
+-- runs that ask for the same with the same batch redo the same number of moves, whatever their numbers of workers
 abbrev pub RedoneIsTold : Type 0
 RedoneIsTold = (t : Texts) (o p : Options) (a b : Piece) (m n : ℕ) → AsksTheSame o p → o.batch ≡ p.batch → AskFor t o a → AskFor t p b → AreRedone a o.batch m → AreRedone b p.batch n → m ≡ n
 

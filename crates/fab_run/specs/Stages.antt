@@ -11,20 +11,20 @@ use Rattle.fab_run.specs.declared.fault.RunFault.TheVariants.{Report}
 use Rattle.fab_run.specs.Ends.{IsPiece, IsWithin}
 use Rattle.fab_run.specs.Piece.{stage_costs, stage_lines}
 
--- nothing is accepted, judged ahead or judged again yet
+-- no move is accepted or redone yet, and nothing is judged ahead
 pub record IsNew {W : Type 0} (a : AnnealOf W) : Type 0 where
   pub ahead : a.ahead ≡ []
   pub swaps : a.swaps ≡ []
   pub accepted : a.accepted ≡ []
   pub redone : a.redone ≡ 0
 
--- if turns of this batch led from a standing to a, the batch determines at b how many moves were judged again since that standing, even if
--- the last turn is shorter
+-- if turns of this batch led from a standing to a, then the batch determines how many moves were redone between that standing and b, even
+-- if the last turn is shorter
 pub record AreCountedOn {W : Type 0} (r : Run) (batch : ℕ) (a b : AnnealOf W) : Type 0 where
   pub on : (x : Standing) → IsByTurns r x batch a → b.redone ≡ redone_in_run r x batch (b.standing.done - x.done)
 
--- an annealer made the moves of a piece, in turns of this batch; the costs at the ends of the stages were appended, and the line of each
--- stage was written; `again` tells whether moves judged again are counted
+-- an annealer made the moves of a piece, in turns of this batch. The costs at the ends of the stages were appended, and the line of each
+-- stage was written. `again` says whether redone moves are counted
 pub record AreMade {W : Type 0} (moves : W → ℕ → List ℕ) (again : Bool) (stop : Option ℕ) (batch : ℕ) (a b : AnnealOf W) (costs0 costs1 : List ℕ) (old new : Option (List ℕ)) : Type 0 where
   pub count : ℕ
   pub done : b.standing.done ≡ a.standing.done + count

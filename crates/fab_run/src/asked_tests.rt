@@ -132,7 +132,7 @@ fn words_of_a_move_are_asked_for_once_for_each_judgement(rt: HostRuntime) -> Res
 }
 
 // How long a thread waits for others that must come, and then for one that must not, in milliseconds.
-const HELD: u64 = 60_000;
+const HELD: u64 = 40_000;
 
 const BEYOND: u64 = 200;
 

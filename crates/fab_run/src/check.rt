@@ -21,7 +21,8 @@ use fab_site::Placement;
 use fab_text::{Sink, push_fixed4, push_number, write_whole};
 use std::alloc::{AllocError, Global};
 
-/// The array that the header of a placement text gives, if it holds the design; else the fault of the header or of the size.
+/// The array that the header of a placement text gives, if it holds the design. An error is the fault of the header or of the size, or a
+/// lack of memory.
 fn read_array(alloc: Global, place: &[u8], design: &Design, io_rat: u16) -> Result<Grid, RunFault>
     ensures found { IfOk result (λ g.
         (g.io_rat ≡ io_rat) × (place_size_of (lines place.now) ≡ Some (g.nx, g.ny)) ×
@@ -114,12 +115,12 @@ fn checked_report(
     Ok(report)
 }
 
-/// Checks a placement: three texts must mean a design, an array that holds it, and a legal placement of it on that array, whose size the
-/// placement text gives. Returns the wire cost, in ten-thousandths, and writes the report: `legal B blocks on a NX x NY array` and `cost
-/// C`.
+/// Checks a placement. The three texts must mean a design, an array that holds it, and a legal placement of it on that array; the placement
+/// text gives the size of the array. Returns the wire cost, in ten-thousandths, and writes the report: `legal B blocks on a NX x NY array`
+/// and `cost C`.
 ///
-/// An error is the first check that fails, in the order architecture, netlist, header, size, placement; nothing is written then. If no
-/// check fails, it is the failure of the writer. Memory may run out for any texts.
+/// An error is the first check that fails, in the order architecture, netlist, header, size, placement; then nothing is written. If no
+/// check fails, an error is the failure of the writer. Memory may run out for any texts.
 pub fn check_run<W: Sink>(
     alloc: Global,
     arch: &[u8],

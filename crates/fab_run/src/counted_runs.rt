@@ -1,6 +1,6 @@
-//! Runs that count the moves that they accept, and keep no number of them: what they need does not grow with their moves. Each is the same
-//! run as the one that answers the numbers. They do not answer how many moves turns of the batch judge again, so what a move rests on is
-//! looked at only in stages with a crew. The contract says the same of all else.
+//! Runs that only count the accepted moves and keep no numbers of them, so the memory that they need does not grow with their moves. Each
+//! is the same run as the one that returns the numbers. They do not return how many moves turns of the batch redo, so footprints are looked
+//! at only in stages with a crew. In all else their contracts are the same.
 
 ghost use Rattle.std.specs.Prelude.{◌≡◌, OnOk, IfOk, IfErr};
 ghost use Rattle.fab_run.specs.Check.{report_failed_with};
@@ -24,7 +24,7 @@ use fab_text::Sink;
 use std::sync::Wait;
 use std::thread::Threads;
 
-/// Places the design of a run as [`place_run`](crate::place_run) does, and answers how many moves were accepted, without their numbers.
+/// Places the design of a run as [`place_run`](crate::place_run) does, and returns how many moves were accepted, without their numbers.
 pub fn place_run_counted<R: AllocGlobal + Threads + Wait + Sync, W: Sink, P: Sink>(
     rt: &R,
     inputs: &Inputs,
@@ -75,7 +75,7 @@ pub fn place_run_counted<R: AllocGlobal + Threads + Wait + Sync, W: Sink, P: Sin
     }
 }
 
-/// Resumes a run from a checkpoint text as [`resume_run`](crate::resume_run) does, and answers how many moves were accepted, without their
+/// Resumes a run from a checkpoint text as [`resume_run`](crate::resume_run) does, and returns how many moves were accepted, without their
 /// numbers.
 pub fn resume_run_counted<R: AllocGlobal + Threads + Wait + Sync, W: Sink, P: Sink>(
     rt: &R,

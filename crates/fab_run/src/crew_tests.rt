@@ -1,5 +1,5 @@
 // The crew of a run: all its workers judge, the owner waits for a slow one, and who sleeps is woken. A gate holds what must not come first
-// for at most a minute; a run that hangs ends with the test's time.
+// for at most 40 seconds; a run that hangs ends with the test's time.
 use crate::run_tests::{INPUTS, OPTIONS};
 use crate::watched_tests::{after, hold, last_shown};
 use crate::{Moves, Options};

@@ -1,4 +1,4 @@
-//! Why a run gave no answer, and the line that says so.
+//! Why a run gave no answer, and the line that reports it.
 
 ghost use Rattle.std.specs.Prelude.{◌≡◌, ◌++◌, Some, IfOk, OnOk};
 ghost use Rattle.fab_run.specs.FaultLines.{run_fault_text, named_place, named_bytes, name_text, fault_line as line_of_fault};
@@ -195,8 +195,8 @@ fn push_name(line: &mut Vec<u8>, fault: &RunFault, net: &[u8]) -> Result<(), All
 }
 
 /// The line that reports a fault, without a line feed at its end: `vplace: ROLE: CODE NAME` and its detail. A lack of memory, and a writer
-/// that failed, are told in words. `net` is the netlist text that the span of a fault refers to; a span that is not within it names
-/// nothing.
+/// that failed, are reported in words. `net` is the netlist text that the span of a fault refers to. If a span is not within it, the line
+/// names nothing.
 pub fn fault_line(alloc: Global, fault: &RunFault, net: &[u8]) -> Result<Vec<u8>, AllocError>
     ensures { IfOk result (λ line. line.items ≡ line_of_fault fault.now net.now) }
 {

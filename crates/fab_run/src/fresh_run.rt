@@ -64,7 +64,7 @@ pub(crate) fn annealer<'a>(
     Anneal::new(alloc, design, grid, placement, pins.fixed, schedule, words)
 }
 
-/// The same annealer, which keeps what `K` says of the moves that it accepts, and the first two lines of its report.
+/// The same annealer, but it keeps of the accepted moves what `K` selects; and the first two lines of its report.
 fn begin<'a, K: Keeping>(
     alloc: Global,
     design: &'a Design,
@@ -98,7 +98,7 @@ fn begin<'a, K: Keeping>(
     Ok((anneal, head))
 }
 
-/// Places the design of a run as `place_run_shown` does, and keeps what `K` says of the moves that it accepts.
+/// Places the design of a run as `place_run_shown` does, and keeps of the accepted moves what `K` selects.
 pub(crate) fn place_ended<
     K: Keeping,
     G: Gate,
@@ -163,14 +163,14 @@ pub(crate) fn place_ended<
     run_piece(environment, anneal, &piece, shower, report, place)
 }
 
-/// Places the design of a run as `place_run` does, and shows its progress on the dial: the moves made, how many of them were accepted,
-/// and the cost, in ten-thousandths. There is one reading for each turn that succeeds: at the start of each turn but the first, and
-/// at the end of the last one. Turns have `batch` moves, counted from the first move of each stage; the last one of a stage or of a
-/// stopped run may be shorter. The shower must be one of this dial.
+/// Places the design of a run as `place_run` does, and shows its progress on the dial: the moves made, how many of them were accepted, and
+/// the cost, in ten-thousandths. There is one reading for each turn that succeeds: at the start of each turn except the first, and at the
+/// end of the last one. Turns have `batch` moves, counted from the first move of each stage. The last turn of a stage or of a stopped run
+/// may be shorter. The shower must be one of this dial.
 ///
-/// The gate is called before and after each judgement that is made ahead, and before each commit. Only if it says that it does nothing,
-/// stages are made in which nothing is judged ahead. The placement and the output are those of `place_run`, whatever the gate does, if its
-/// calls return.
+/// The gate is called before and after each judgement that is made ahead, and before each commit. Stages in which nothing is judged ahead
+/// are made only if the gate does nothing. If its calls return, the placement and the output are those of `place_run`, whatever the gate
+/// does.
 pub fn place_run_shown<G: Gate, R: AllocGlobal + Threads + Wait + Sync, W: Sink, P: Sink>(
     rt: &R,
     inputs: &Inputs,
@@ -187,7 +187,7 @@ pub fn place_run_shown<G: Gate, R: AllocGlobal + Threads + Wait + Sync, W: Sink,
         IsPlaced (AskFor (texts_of inputs.now) options.now) (texts_of inputs.now) (answer_of out)
         (W.contents report.old) (W.contents report.new) (P.contents place.old)
         (P.contents place.new)) }
-    // Setting, seed, stop and batch determine how many moves were judged again; the number of workers does not.
+    // Setting, seed, stop and batch determine how many moves were redone; the number of workers does not.
     ensures redone { IfOk result (λ out.
         (p : PieceAsked) × AskFor (texts_of inputs.now) options.now p ×
         AreRedone p options.now.batch out.redone) }
@@ -232,16 +232,16 @@ pub fn place_run_shown<G: Gate, R: AllocGlobal + Threads + Wait + Sync, W: Sink,
     }
 }
 
-/// Places the design of a run: anneals it from a start placement, with random words of the seed, to the last move or to the stop. Moves are
-/// committed in order of number. Workers judge them ahead in the stages that the calling thread does not make alone (docs/ARCHITECTURE.md,
-/// "When the owner goes alone"). So the answer is that of one move after another. The report's lines are written as their stages end, and
-/// the place text once the report is whole. A run that stops writes no place text: it answers the point where it stopped, from which
-/// `resume_run` goes on. Before the first move, after the report's first two lines, the writer of the place text is asked whether it is
-/// ready. What is placed and written does not depend on batch and workers, if these are within their limits.
+/// Places the design of a run: anneals it from a start placement, with random words of the seed, up to the last move or the stop. The
+/// calling thread makes some stages alone (docs/ARCHITECTURE.md, "When the owner goes alone"). In the other stages, workers judge moves
+/// ahead. Moves are committed in order of number, so the answer is that of one move after another. The report's lines are written as their
+/// stages end, and the place text once the report is whole. A run that stops writes no place text: it returns the point where it stopped,
+/// and `resume_run` goes on from there. After the report's first two lines and before the first move, the writer of the place text is asked
+/// whether it is ready. What is placed and written does not depend on batch and workers, if these are within their limits.
 ///
-/// An error is the first check that fails, in the order architecture, netlist, size (range, logic sites, pad sites), location
-/// text, labels, schedule, batch, workers; nothing is written then. If no check fails, it is the failure of a writer. Memory may
-/// run out for any inputs.
+/// An error is the first check that fails, in the order architecture, netlist, size (range, logic sites, pad sites), location text, labels,
+/// schedule, batch, workers; then nothing is written. If no check fails, an error is the failure of a writer. Memory may run out for any
+/// inputs.
 pub fn place_run<R: AllocGlobal + Threads + Wait + Sync, W: Sink, P: Sink>(
     rt: &R,
     inputs: &Inputs,
@@ -254,7 +254,7 @@ pub fn place_run<R: AllocGlobal + Threads + Wait + Sync, W: Sink, P: Sink>(
         IsPlaced (AskFor (texts_of inputs.now) options.now) (texts_of inputs.now) (answer_of out)
         (W.contents report.old) (W.contents report.new) (P.contents place.old)
         (P.contents place.new)) }
-    // Setting, seed, stop and batch determine how many moves were judged again; the number of workers does not.
+    // Setting, seed, stop and batch determine how many moves were redone; the number of workers does not.
     ensures redone { IfOk result (λ out.
         (p : PieceAsked) × AskFor (texts_of inputs.now) options.now p ×
         AreRedone p options.now.batch out.redone) }

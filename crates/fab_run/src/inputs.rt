@@ -44,11 +44,11 @@ pub struct Options {
     pub moves: Moves,
     /// How many moves a turn commits at most, 1 to 4,096. The placement does not depend on it.
     pub batch: u64,
-    /// How many threads judge moves ahead at most, 1 to 64, in the stages that the calling thread does not make alone
-    /// (docs/ARCHITECTURE.md, "When the owner goes alone"). The placement does not depend on it.
+    /// The most threads that judge moves ahead, 1 to 64. The calling thread makes some stages alone (docs/ARCHITECTURE.md, "When the owner
+    /// goes alone"). The placement does not depend on it.
     pub workers: u64,
-    /// After how many moves it stops, counted from the first move of the run. A stop that lies before the beginning of a piece has no
-    /// effect on it, and neither has one after which no move is left.
+    /// After how many moves the run stops, counted from its first move. A stop before the beginning of a piece has no effect on the piece.
+    /// Neither has a stop after which no move is left.
     pub stop: Option<u64>,
 }
 
@@ -59,9 +59,9 @@ pub struct Restart<'a> {
     pub point: &'a [u8],
     /// How many moves a turn commits at most, 1 to 4,096.
     pub batch: u64,
-    /// How many threads judge moves ahead at most, 1 to 64.
+    /// The most threads that judge moves ahead, 1 to 64.
     pub workers: u64,
-    /// After how many moves it stops, counted from the first move of the run.
+    /// After how many moves the run stops, counted from its first move.
     pub stop: Option<u64>,
 }
 
@@ -84,14 +84,14 @@ pub struct Outcome {
     pub accepted: Vec<u64>,
     /// The cost before the first move of the piece, and after each stage that ended in it, in ten-thousandths.
     pub costs: Vec<u64>,
-    /// How many moves turns of the batch judge again, because a move accepted after their judgement had changed what their verdicts depend
-    /// on. In a stage that the calling thread makes alone nothing is judged twice, and the number is the same. It depends on the batch, but
-    /// not on the workers.
+    /// How many moves turns of the batch redo, because a move accepted since their judgement's base had touched their footprint. In a stage
+    /// that the calling thread makes alone nothing is judged twice, but the number is the same. It depends on the batch, and not on the
+    /// workers.
     pub redone: u64,
 }
 
-/// What a run answers that counts the moves that it accepts, and keeps no number of them. So its memory does not grow with its moves. It
-/// does not count the moves that turns judge again.
+/// What a run answers that only counts the accepted moves and keeps no numbers of them, so that its memory does not grow with its moves. It
+/// does not count the moves that turns redo.
 #[derive(Drop)]
 pub struct CountedOutcome {
     pub ending: Ending,

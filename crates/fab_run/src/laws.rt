@@ -7,10 +7,10 @@ ghost use Rattle.fab_run.specs.Watched.{PiecesShowStandings, TurnsShowStandings,
 
 use fab_site::Words;
 
-/// The law that the texts and numbers alone determine what a run answers. Two runs of the same texts, with the same seed, size, schedule,
-/// moves and stop, end alike, and have the same placement, accepted moves, costs, report and place text, whatever their batches and numbers
-/// of workers. The same holds for two runs that are resumed from one checkpoint text with the same stop. With the same batch, they also
-/// judge the same number of moves again, and two runs of the same texts show the same readings on a dial.
+/// The law that the texts and numbers alone determine what a run answers. Take two runs of the same texts, with the same seed, size,
+/// schedule, moves and stop, and with any batches and numbers of workers. They end alike, and have the same placement, accepted moves,
+/// costs, report and place text. The same holds for two runs that are resumed from one checkpoint text with the same stop. With the same
+/// batch, they also redo the same number of moves, and two runs of the same texts show the same readings on a dial.
 pub fn answers_are_told()
     ensures placed { AnswersAreTold }
     ensures resumed { ResumedAreTold }
@@ -19,9 +19,9 @@ pub fn answers_are_told()
     ensures shown { ShownIsTold }
 {}
 
-/// The law that pieces of annealing one move at a time, each from where the one before stopped, are the unbroken run, wherever they stop.
-/// Joined, the moves that they accept, the lines of their stages and the costs at the ends of these are those of the run, and the last
-/// piece ends where the run ends.
+/// The law that pieces of a run are the unbroken run, wherever they stop. The pieces anneal one move at a time, each from where the one
+/// before stopped. Their accepted moves, joined, are those of the run. So are the lines of their stages, and the costs at the ends of these
+/// stages. The last piece ends where the run ends.
 pub fn chains_are_runs()
     ensures { ChainsAreRuns }
 {}
@@ -47,9 +47,9 @@ pub fn watchers_read_standings<W: Words>()
     ensures order { WatchersReadInOrder W.moves }
 {}
 
-/// The law that runs lead only through lawful standings: the placement is legal, with each fixed block at its site, the range and the
-/// temperature are ones that the running stage can have, and no more moves are accepted than made. Moves keep this if the schedule is
-/// within its limits and the words are below 2^32. A run and a resumed run, whose checks pass, begin lawfully.
+/// The law that runs lead only through lawful standings. In these, the placement is legal, with each fixed block at its site; the running
+/// stage can have the range and the temperature; and no more moves are accepted than made. Moves keep this if the schedule is within its
+/// limits and the words are below 2^32. A run or a resumed run begins lawfully if its checks pass.
 pub fn standings_are_lawful()
     ensures moves { MovesKeepStandings }
     ensures runs { RunsBeginLawfully }

@@ -1,4 +1,4 @@
-//! A piece of a run: from an annealer's standing to its stop or to the last move, and what the report tells of it.
+//! A piece of a run: from an annealer's standing to its stop or to the last move, and its part of the report.
 
 ghost use Rattle.std.specs.Prelude.{◌≡◌, ◌≢◌, ◌≤◌, ◌⊎◌, true, [], ◌∷◌, None, OnOk, OnErr, IfOk, IfErr};
 ghost use Rattle.std.specs.Io.KnownBytes.{Appends};
@@ -62,8 +62,8 @@ pub(crate) fn unwatched<R: Wait>(rt: &R, alloc: Global) -> Result<(Dial, Shower)
     Ok((dial, shower))
 }
 
-/// The memory of the point at which a piece with a stop may end, before its first move: then no want of memory after the last move can
-/// lose the piece. `None` for a piece that has no stop, or no move.
+/// Gets, before the first move, the memory of the point at which a piece with a stop may end. So the piece cannot be lost because memory
+/// runs out after its last move. `None` for a piece that has no stop, or no move.
 fn room_for<K: Keeping>(
     anneal: &Anneal<'_, StreamWords, K>,
     stop: Option<u64>,
@@ -93,8 +93,8 @@ fn ending_of<K: Keeping>(anneal: &Anneal<'_, StreamWords, K>, room: Option<Point
     }
 }
 
-/// Writes what the report shows before the first move, and asks the writer of the place text whether it is ready. Returns the
-/// cost, as the only item of a list.
+/// Writes what the report shows before the first move, and asks the writer of the place text whether it is ready. Returns a list with the
+/// cost as its only item.
 fn write_head<W: Sink, P: Sink>(
     alloc: Global,
     cost: u64,
@@ -190,8 +190,8 @@ fn finish_report<K: Keeping, W: Sink>(
     Ok(ended_by(anneal, ending, costs))
 }
 
-/// Makes the moves of a piece, and reports them. The gate is called around each judgement, but not one that is made
-/// again, and before each commit; a gate that does nothing may be left uncalled.
+/// Makes the moves of a piece, and reports them. The gate is called around the first judgement of each move, and before each commit. If the
+/// gate does nothing, calls may be left out.
 fn anneal_reported<K: Keeping, G: Gate, W: Sink, P: Sink, R: AllocGlobal + Threads + Wait + Sync>(
     environment: &Environment<'_, R, G>,
     mut anneal: Anneal<'_, StreamWords, K>,
@@ -279,10 +279,10 @@ fn write_placement<P: Sink>(
     }
 }
 
-/// Makes a piece. Writes the lines of its report as its stages end, and the place text once the report is whole, if the piece finishes the
-/// run. Before the first move, after the head of the report, the writer of the place text is asked whether it is ready. The gate is called
-/// around each judgement, but not one that is made again, and before each commit; a gate that does nothing may be left uncalled. The dial
-/// shows the run's progress, once for each turn that succeeds and made moves.
+/// Makes a piece. Writes the lines of its report as its stages end. If the piece finishes the run, writes the place text once the report is
+/// whole. After the head of the report and before the first move, asks the writer of the place text whether it is ready. The gate is called
+/// around the first judgement of each move, and before each commit. If the gate does nothing, calls may be left out. The dial shows the
+/// run's progress, once for each turn that succeeds and made moves.
 pub(crate) fn run_piece<
     K: Keeping,
     G: Gate,

@@ -53,8 +53,8 @@ impl fmt::Display for PointField {
 pub enum PointFault {
     /// The first line gives no known version.
     BadVersion,
-    /// The line with this number does not have the form that is due there, or comes after the last line that is due; 0 if the text ends too
-    /// early.
+    /// The line with this number does not have the form that is due there, or comes after the last line that is due. The number is 0 if the
+    /// text ends too early.
     BadField(u64),
     /// The numbers of a field are out of range.
     OutOfRange(PointField),

@@ -227,8 +227,8 @@ fn temperature_field(line: &Line, schedule: &Schedule, index: u64) -> Result<u64
     }
 }
 
-/// The temperature of a stage: from the next line; in the first version, whose schedules cool by a factor, from the schedule. If memory
-/// runs out, nothing changes.
+/// The temperature of a stage, from the next line. In the first version, schedules cool by a factor, and the temperature is from the
+/// schedule. If memory runs out, nothing changes.
 fn read_temperature(
     left: &mut Lines,
     version: Version,
@@ -397,7 +397,7 @@ fn take_names(
     Ok(named)
 }
 
-/// How many fixed blocks a line says that there are.
+/// The number of fixed blocks that a line gives.
 fn fixed_field(line: &Line, design: &Design) -> Result<u64, PointFault>
     ensures read { IfOk result (λ n.
         Says (number_in (codes "fixed")) (λ n. n ≤ length design.now.kinds) (shown line.now) n) }
@@ -567,7 +567,7 @@ fn read_parts(
 }
 
 /// Reads the seed, the array and the point of a run from its checkpoint text, given the number of pads at a position and the design of that
-/// run; else the first fault of the text.
+/// run. An error is the first fault of the text, or a lack of memory.
 pub(crate) fn point_for(
     alloc: Global,
     bytes: &[u8],

@@ -88,8 +88,8 @@ fn read_going(
     Ok((design, seed, grid, point))
 }
 
-/// Resumes a run as `resume_run` does, shows its progress on the dial, as `place_run_shown` does, and keeps what `K` says of the moves
-/// that it accepts.
+/// Resumes a run as `resume_run` does, shows its progress on the dial as `place_run_shown` does, and keeps of the accepted moves what `K`
+/// selects.
 pub(crate) fn resume_ended<
     K: Keeping,
     G: Gate,
@@ -171,12 +171,12 @@ pub(crate) fn resume_ended<
     run_piece(environment, anneal, &piece, shower, report, place)
 }
 
-/// Resumes a run from a checkpoint text, and makes its moves up to the last one or to the stop. It answers and writes what annealing one
-/// move at a time from there gives. The report continues that of the run before: it does not repeat the first two lines, and the line of
-/// the running stage also counts the moves before the stop. `inputs.pads` is not read: the fixed blocks are those of the point.
+/// Resumes a run from a checkpoint text, and makes its moves up to the last one or the stop. It returns and writes what annealing one move
+/// at a time from there gives. The report continues the report of the piece before: it does not repeat the first two lines, and the line of
+/// the running stage also counts the moves before the checkpoint. `inputs.pads` is not read: the fixed blocks are those of the point.
 ///
-/// An error is the first check that fails, in the order architecture, netlist, checkpoint text, labels, batch, workers; nothing is written
-/// then. If no check fails, it is the failure of a writer. Memory may run out for any inputs.
+/// An error is the first check that fails, in the order architecture, netlist, checkpoint text, labels, batch, workers; then nothing is
+/// written. If no check fails, an error is the failure of a writer. Memory may run out for any inputs.
 pub fn resume_run<R: AllocGlobal + Threads + Wait + Sync, W: Sink, P: Sink>(
     rt: &R,
     inputs: &Inputs,
@@ -192,7 +192,7 @@ pub fn resume_run<R: AllocGlobal + Threads + Wait + Sync, W: Sink, P: Sink>(
         IsPlaced (AskToGoOn (texts_of inputs.now) point.now batch workers stop)
         (texts_of inputs.now) (answer_of out) (W.contents report.old) (W.contents report.new)
         (P.contents place.old) (P.contents place.new)) }
-    // The texts, the stop and the batch determine how many moves were judged again; the number of workers does not.
+    // The texts, the stop and the batch determine how many moves were redone; the number of workers does not.
     ensures redone { IfOk result (λ out.
         (p : PieceAsked) × AskToGoOn (texts_of inputs.now) point.now batch workers stop p ×
         AreRedone p batch out.redone) }

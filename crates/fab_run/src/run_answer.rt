@@ -1,4 +1,4 @@
-//! What a piece of a run answers, with the numbers of the moves that it accepted or with their count alone.
+//! What a piece of a run returns: with the numbers of the accepted moves, or only with their count.
 
 ghost use Rattle.std.specs.Prelude.{◌≡◌, ℕ, List, Some};
 ghost use Rattle.fab_site.specs.Placement.{IsLegal};
@@ -22,7 +22,7 @@ pub(crate) struct Ended {
     pub(crate) accepted: u64,
     /// The cost before the first move of the piece, and after each stage that ended in it, in ten-thousandths.
     pub(crate) costs: Vec<u64>,
-    /// How many moves were judged again, if the annealer counts them.
+    /// How many moves were redone, if the annealer counts them.
     pub(crate) redone: u64,
 }
 

@@ -25,8 +25,8 @@ use std::alloc::Global;
 /// The array of a run: of the given size (columns, rows), or the smallest square array that holds the design. `io_rat` is the number of
 /// pads at a position.
 ///
-/// Fails if the size is out of range, or if the array has too few logic sites or pad sites; without a size, if no square array of side
-/// 1,000 or less holds the design.
+/// Fails if the size is out of range, or if the array has too few logic sites or pad sites. Without a size, fails if no square array of
+/// side 1,000 or less holds the design.
 pub fn array_of(design: &Design, size: Option<(u16, u16)>, io_rat: u16) -> Result<Grid, GridFault>
     requires ratio { (1 ≤ io_rat) × (io_rat ≤ 64) }
     ensures ratio { IfOk result (λ g. g.io_rat ≡ io_rat) }

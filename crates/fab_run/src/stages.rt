@@ -42,11 +42,11 @@ pub(crate) struct Pace {
     pub(crate) batch: u64,
     /// How many workers are asked for.
     pub(crate) workers: u64,
-    /// How many of them find a processor beside the one of the calling thread.
+    /// How many of the workers find a processor beside the one of the calling thread.
     pub(crate) helpers: u64,
-    /// The columns or the rows of the array, whichever are more.
+    /// The longer side of the array: its columns or its rows.
     pub(crate) side: u64,
-    /// After how many moves of the run it stops.
+    /// After how many moves of the run the piece stops.
     pub(crate) stop: Option<u64>,
 }
 
@@ -76,7 +76,7 @@ fn helpers_beside(workers: u64, processors: u64) -> u64
     workers.min(processors.saturating_sub(1))
 }
 
-/// How many of `workers` workers find a processor beside the one of the calling thread; none if the system does not say how many there are.
+/// How many of `workers` workers find a processor beside the one of the calling thread; 0 if the system does not report its processors.
 pub(crate) fn helpers_of<R: Threads>(rt: &R, workers: u64) -> u64 {
     match thread::available_parallelism(rt) {
         Ok(processors) => helpers_beside(workers, processors.get() as u64),
@@ -84,28 +84,30 @@ pub(crate) fn helpers_of<R: Threads>(rt: &R, workers: u64) -> u64 {
     }
 }
 
-/// The fewest moves of a stage for which a crew pays if three or more workers help: founding it takes the time of some thousands of moves.
+/// The fewest moves of a stage for which a crew pays if three or more workers help: starting it takes the time of some thousands of moves.
 const FEWEST_MOVES: u64 = 5_000;
 
-/// The same if two help: such a crew lost time in stages of 185,000 and of 300,000 moves, and saved a little in stages of a million.
+/// The same if two workers help: such a crew lost time in stages of 185,000 and of 300,000 moves, and saved a little in stages of a
+/// million.
 const FEWEST_MOVES_OF_TWO: u64 = 1_000_000;
 
 /// The smallest batch for which a crew pays: with a smaller one, handing over takes as much time as judging.
 const LEAST_BATCH: u64 = 16;
 
-/// The fewest blocks for which a crew pays before the stages are cold, too.
+/// The fewest blocks for which a crew pays even in stages that are not cold yet.
 const MIDDLE_DESIGN: usize = 2_500;
 
 /// The greatest range of such a stage, in thousandths of the array's longer side.
 const MIDDLE_RANGE: u64 = 750;
 
-/// The least range of a stage, in thousandths. A stage has it where few moves of the stages before were accepted.
+/// The least range of a stage, in thousandths. A stage has it if few moves of the stages before were accepted.
 const LEAST_RANGE: u64 = 1000;
 
-/// Whether a crew judges this stage's moves ahead; else the owner judges each when its turn comes. A crew saves time if two or more workers
-/// get a processor of their own and few moves are accepted. The range shows the latter: it shrinks while fewer than 44 of 100 are. Only the
-/// standing, the design, the options and the machine decide, so a resumed run decides as the unbroken one on the same machine. The bounds
-/// were measured on programs built with other bounds. A gate that does something sees who judges; with such a gate a crew judges all moves.
+/// Whether a crew judges this stage's moves ahead. Otherwise the owner judges each when its turn comes. A crew saves time if two or more
+/// workers get a processor of their own and few moves are accepted. The range shows whether few are accepted: it shrinks while fewer than
+/// 44 of 100 moves are. Only the standing, the design, the options and the machine decide. So a resumed run decides as the unbroken run
+/// does on the same machine. The bounds were measured on programs built with other bounds. A gate that does something sees who judges; with
+/// such a gate a crew judges all moves.
 pub(crate) fn is_judged_ahead(
     stage: &Stage,
     blocks: usize,
@@ -128,8 +130,8 @@ pub(crate) fn is_judged_ahead(
     is_cold || is_cooler && blocks >= MIDDLE_DESIGN
 }
 
-/// How many workers a crew has, one at least: those that find a processor, since one without a processor holds the others up. With a gate
-/// that does something as many as were asked for: it may hold a worker until another makes a call.
+/// How many workers a crew has, at least one. If the gate does nothing, it has those that find a processor, since a worker without one
+/// holds the others up. With any other gate, it has all workers that were asked for: the gate may hold a worker until another makes a call.
 pub(crate) fn crew_size(pace: &Pace, does_nothing: bool) -> u64
     requires { (1 ≤ pace.now.workers) × (pace.now.workers ≤ 64) }
     ensures { (1 ≤ result) × (result ≤ 64) }
@@ -141,9 +143,9 @@ pub(crate) fn crew_size(pace: &Pace, does_nothing: bool) -> u64
     }
 }
 
-/// Makes the next `count` moves of the running stage, in turns of one batch, and a shorter turn for the rest. Some moves of the stage are
-/// left, and at least `count`. A crew that lives for them judges them ahead, or the owner judges each when its turn comes; the moves, their
-/// costs and, if they are counted, how many are judged again are the same.
+/// Makes the next `count` moves of the running stage, in turns of one batch, and a shorter turn for the rest. The stage must have at least
+/// one move left, and at least `count`. If `ahead`, a crew that lives for these moves judges them ahead. Otherwise the owner judges each
+/// when its turn comes. The moves, their costs and, if counted, the number of redone moves are the same.
 fn make_moves<V: Words + Send + Sync + Drop, K: Keeping, G: Gate, R: Threads + Wait + Sync>(
     rt: &R,
     anneal: &mut Anneal<'_, V, K>,
@@ -170,7 +172,7 @@ fn make_moves<V: Words + Send + Sync + Drop, K: Keeping, G: Gate, R: Threads + W
     anneal.make_alone(rt, count, plan, shower)
 }
 
-/// Makes the next `count` moves of the running stage, fewer than are left in it, as [`make_moves`] does.
+/// Makes the next `count` moves of the running stage as [`make_moves`] does. The stage has more than `count` moves left.
 pub(crate) fn make_part<
     V: Words + Send + Sync + Drop,
     K: Keeping,
@@ -209,7 +211,7 @@ pub(crate) fn make_part<
     make_moves(rt, anneal, count, ahead, plan, shower)
 }
 
-/// Makes the `left` moves that are left in the running stage, of which there are some, as [`make_moves`] does.
+/// Makes the `left` moves that are left in the running stage, at least one, as [`make_moves`] does.
 pub(crate) fn make_rest<
     V: Words + Send + Sync + Drop,
     K: Keeping,
@@ -257,8 +259,8 @@ struct Running {
     ahead: bool,
 }
 
-/// Makes the moves that are left in the running stage, in turns of one batch, and appends its cost to `costs`. Returns the report's line
-/// of the stage.
+/// Makes the moves that are left in the running stage, in turns of one batch, and appends the cost after them to `costs`. Returns the
+/// report's line of the stage.
 fn end_stage<V: Words + Send + Sync + Drop, K: Keeping, G: Gate, R: Threads + Wait + Sync>(
     rt: &R,
     anneal: &mut Anneal<'_, V, K>,

@@ -188,7 +188,7 @@ fn a_stopped_run_shows_its_end(rt: HostRuntime) -> Result<(), Fail> {
 }
 
 // Holds the judgement of move 0 until that of move 1 is over, the commit of move 0 until a move of the next batch is judged, and the
-// judgement of move 4 until move 1 is committed. Each is held for at most a minute.
+// judgement of move 4 until move 1 is committed. Each is held for at most 40 seconds.
 #[derive(Drop)]
 struct Overlap<'a> {
     rt: &'a HostRuntime,
@@ -199,9 +199,9 @@ struct Overlap<'a> {
     judged: AtomicU64,
 }
 
-// Waits until this is no longer 0, for at most a minute; then the test has failed.
+// Waits until this is no longer 0, for at most 40 seconds; then the test has failed.
 pub(crate) fn hold(rt: &HostRuntime, until: &AtomicU64, failed: &AtomicU64) {
-    for _turn in 0..60_000u64 {
+    for _turn in 0..40_000u64 {
         if until.load(Ordering::SeqCst) != 0 {
             return;
         }

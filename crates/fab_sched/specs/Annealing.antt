@@ -1,8 +1,7 @@
--- A user's annealing schedule (VPR manual): the temperature falls from stage to stage, each stage has the same number
--- of moves, and after each stage the range of a move shrinks or grows, so that about 44 % of the moves are accepted (Betz,
--- Rose and Marquardt). All are whole numbers, rounded down: temperatures in ten-thousandths, factors and ranges in
--- thousandths (our own). A temperature below the exit temperature is not run: one last stage at 0, the frozen stage, takes
--- its place.
+-- A user's annealing schedule (VPR manual). The temperature falls from stage to stage, and each stage has the same number of
+-- moves. After each stage the range of a move shrinks or grows, so that about 44 % of the moves are accepted (Betz, Rose and
+-- Marquardt). All are whole numbers, rounded down: temperatures in ten-thousandths, factors and ranges in thousandths (our
+-- own). A temperature below the exit temperature is not run. One last stage at 0, the frozen stage, takes its place.
 use Rattle.std.specs.Prelude.{ℕ, ◌≡◌, ◌+◌, ◌-◌, ◌*◌, ◌/◌, ◌<◌, ◌≤◌, ◌⊎◌, zero, suc, min, max, Bool, true, if◌then◌else◌, nat_lt, nat_le, ◌==◌, ◌&&◌, Option, Some, None, IfSome}
 use Rattle.fab_sched.specs.declared.fault.SchedFault.{SchedFault}
 use Rattle.fab_sched.specs.declared.fault.SchedFault.TheVariants.{InitOutOfRange, ExitOutOfRange, AlphaOutOfRange, MovesOutOfRange}
@@ -53,7 +52,7 @@ fault_of p =
     else Some ExitOutOfRange)
     else Some InitOutOfRange
 
--- t, or 0, which is frozen, if t is below the exit temperature
+-- t, or 0 (the frozen stage) if t is below the exit temperature
 abbrev pub hot : Plan → ℕ → ℕ
 hot p t = if nat_lt t p.exit then 0 else t
 
@@ -61,8 +60,8 @@ hot p t = if nat_lt t p.exit then 0 else t
 unfoldable pub next_range : Plan → ℕ → ℕ → ℕ → ℕ
 next_range p side range accepted = max 1000 (min (1000 * side) (range * (560 * p.moves + 1000 * accepted) / (1000 * p.moves)))
 
--- VPR's factor in thousandths, by the share of accepted moves: fast if nearly all are accepted, slow in between; if few are accepted, slow
--- while the range is above 1, and fast otherwise
+-- VPR's factor in thousandths, by the share of accepted moves. If nearly all are accepted, cooling is fast; in between, it is slow. If few
+-- are accepted, it is slow while the range is above 1, and fast otherwise
 unfoldable pub adaptive_factor : ℕ → ℕ → ℕ → ℕ
 adaptive_factor moves range accepted =
     if nat_lt (96 * moves) (100 * accepted) then 500 else
@@ -70,7 +69,7 @@ adaptive_factor moves range accepted =
     (if nat_lt (15 * moves) (100 * accepted) then 950 else
     (if nat_lt 1000 range then 950 else 800)))
 
--- the factor of a stage's end, in thousandths
+-- the factor at the end of a stage, in thousandths
 abbrev pub factor_by : Cooling → ℕ → ℕ → ℕ → ℕ
 factor_by (Factor f) moves range accepted = f
 factor_by Adaptive moves range accepted = adaptive_factor moves range accepted
@@ -93,7 +92,7 @@ abbrev pub heat_by : Plan → ℕ → ℕ → Option ℕ
 heat_by p f zero = Some (hot p p.init)
 heat_by p f (suc x) = cooled p f (heat_by p f x)
 
--- the temperature at an index, where the cooling tells it; none if it is adaptive
+-- the temperature of stage x if the cooling is by a factor; none if it is adaptive
 abbrev pub heat_with : Cooling → Plan → ℕ → Option ℕ
 heat_with (Factor f) p x = heat_by p f x
 heat_with Adaptive p x = None
@@ -119,8 +118,8 @@ fresh_at index range (Some t) = Some (fresh index t range)
 abbrev pub stage_after : Plan → ℕ → Stage → ℕ → Option Stage
 stage_after p side s accepted = fresh_at (s.index + 1) (next_range p side s.range accepted) (next_heat p s.range accepted (Some s.t))
 
--- the temperatures that stage x may have under VPR's factor: the first one, and then those that can be reached by falling
--- at least one unit with each stage, or the frozen 0
+-- the temperatures that stage x may have under VPR's factor: stage 0 has the first one; a later stage has any that can be
+-- reached by falling at least one unit with each stage, or 0 (the frozen stage)
 abbrev pub MayCoolTo : Plan → ℕ → ℕ → Type 0
 MayCoolTo p zero t = t ≡ hot p p.init
 MayCoolTo p (suc x) t = (p.exit + x ≤ p.init) × ((t ≡ 0) ⊎ ((p.exit ≤ t) × (t + suc x ≤ p.init)))
@@ -130,12 +129,12 @@ abbrev pub MayStandBy : Cooling → Plan → ℕ → ℕ → Type 0
 MayStandBy (Factor f) p x t = heat_by p f x ≡ Some t
 MayStandBy Adaptive p x t = MayCoolTo p x t
 
--- stage x may be at temperature t: with a factor, only at its own temperature; else at any temperature that can
--- be reached by falling at least one unit with each stage (these are more than VPR's factors reach)
+-- stage x may be at temperature t. With a factor, each stage has one temperature. If the cooling is adaptive, t is any temperature
+-- that can be reached by falling at least one unit with each stage (more temperatures than VPR's factors can reach)
 abbrev pub MayStand : Plan → ℕ → ℕ → Type 0
 MayStand p x t = MayStandBy p.cooling p x t
 
--- the greatest index of a stage: the number of hot temperatures, or the greatest number there can be
+-- x is the greatest index of a stage: with a factor, the number of hot temperatures; if adaptive, the greatest number there can be
 abbrev pub IsLastBy : Cooling → Plan → ℕ → Type 0
 IsLastBy (Factor f) p x = heat_by p f x ≡ Some 0
 IsLastBy Adaptive p x = x ≡ (if nat_lt p.init p.exit then 0 else p.init - p.exit + 1)

@@ -15,7 +15,7 @@ pub record IsCubeRoot (n m : ℕ) : Type 0 where
 abbrev pub cubed_moves : ℕ → ℕ → ℕ
 cubed_moves inner blocks = max 1 (inner * inner * inner * (blocks * blocks * blocks * blocks))
 
--- m is the number of moves of a stage of so many blocks; inner_num and m are within their limits
+-- m is the number of moves of a stage in a design of `blocks` blocks; inner_num and m are within their limits
 pub record AreMoves (inner_num blocks m : ℕ) : Type 0 where
   pub inner : (1 ≤ inner_num) × (inner_num ≤ 10000)
   pub root : IsCubeRoot (cubed_moves inner_num blocks) m

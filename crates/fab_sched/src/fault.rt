@@ -1,4 +1,4 @@
-//! Why numbers are no schedule.
+//! Why numbers do not form a schedule.
 
 ghost use Rattle.std.specs.Prelude.{Some};
 ghost use Rattle.fab_sched.specs.FaultTexts.{sched_fault_text};

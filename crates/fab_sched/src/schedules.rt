@@ -28,7 +28,7 @@ pub struct Stage {
     pub range: u64,
     /// How many of its moves have been made.
     pub done: u64,
-    /// How many of those were accepted.
+    /// How many of the moves made so far were accepted.
     pub accepted: u64,
     /// Whether it is the last stage, which accepts no move that raises the cost.
     pub frozen: bool,
@@ -118,7 +118,7 @@ impl Schedule {
         Schedule::with_cooling(init_t, exit_t, Cooling::Factor(alpha), moves)
     }
 
-    /// A schedule that cools by acceptance. The limits are those of `new`; `AlphaOutOfRange` does not occur.
+    /// A schedule that cools by VPR's factor (`Cooling::Adaptive`). The limits are those of `new`. `AlphaOutOfRange` does not occur.
     pub fn adaptive(init_t: u64, exit_t: u64, moves: u64) -> Result<Schedule, SchedFault>
         ensures plan { IfOk result (λ s. s ≡ plan_of init_t exit_t Adaptive moves) }
         ensures limits { IsOk result ↔ IsLawful (plan_of init_t exit_t Adaptive moves) }
@@ -192,8 +192,8 @@ impl Schedule {
         self.moves
     }
 
-    /// The temperature of stage `x` in ten-thousandths, 0 for the frozen stage. `None` after the frozen stage, and for a schedule whose
-    /// temperatures depend on acceptance. A run steps by [`Schedule::next_stage`]; this serves checkpoints of the first version.
+    /// The temperature of stage `x` in ten-thousandths, 0 for the frozen stage. `None` after the frozen stage, and for every stage of an
+    /// adaptive schedule. A run uses [`Schedule::next_stage`] instead; this is for checkpoints of the first version.
     pub fn temperature(&self, x: u64) -> Option<u64>
         ensures { result ≡ heat_at self.now x }
     {
@@ -203,8 +203,8 @@ impl Schedule {
         }
     }
 
-    /// Whether stage `x` may be at temperature `t`, in ten-thousandths. With a factor, only at its own temperature; else at
-    /// any temperature that can be reached by falling with each stage.
+    /// Whether stage `x` may be at temperature `t`, in ten-thousandths. With a factor, each stage has one temperature. In an adaptive
+    /// schedule, `t` may be any temperature that can be reached by falling at least one unit with each stage.
     pub fn may_stand(&self, x: u64, t: u64) -> bool
         ensures { IsTrue result ↔ MayStand self.now x t }
     {
@@ -228,8 +228,8 @@ impl Schedule {
         t == 0 || (self.exit_t <= t && t <= self.init_t && x <= self.init_t - t)
     }
 
-    /// The greatest index that a stage can have: the number of hot temperatures, or, if they depend on acceptance,
-    /// the greatest number there can be.
+    /// The greatest index that a stage can have. With a factor, it is the number of hot temperatures. In an adaptive schedule, it is
+    /// the greatest number of hot temperatures that there can be.
     #[tactic(auto, using(crate::proofs::Falling::last_of, crate::proofs::Falling::greatest, crate::proofs::Falling::greatest_of, crate::proofs::Falling::reached, crate::proofs::Falling::moves_bound))]
     pub fn last_index(&self) -> u64
         ensures last { IsLastIndex self.now result }
@@ -258,8 +258,8 @@ impl Schedule {
         fresh_stage(0, self.hot(self.init_t), 1000 * u64::from(side))
     }
 
-    /// The stage after one that ended with `accepted` accepted moves, on an array whose longer side is `side`:
-    /// `None` after the frozen stage.
+    /// The stage after `stage`, which ended with `accepted` accepted moves, on an array whose longer side is `side`. `None` after the
+    /// frozen stage.
     #[tactic(auto, using(crate::proofs::Falling::lawful_on))]
     pub fn next_stage(&self, stage: &Stage, accepted: u64, side: u16) -> Option<Stage>
         requires side { (1 ≤ side) × (side ≤ 1000) }
@@ -273,7 +273,7 @@ impl Schedule {
         self.following_stage(stage, accepted, side)
     }
 
-    /// The body of `next_stage`, whose other clauses follow from the stage's.
+    /// The body of `next_stage`. The other clauses of `next_stage` follow from the clause `stage`.
     #[tactic(auto, using(crate::proofs::Falling::index_below, crate::proofs::Falling::heat_below, crate::proofs::Falling::product_fits))]
     fn following_stage(&self, stage: &Stage, accepted: u64, side: u16) -> Option<Stage>
         requires side { (1 ≤ side) × (side ≤ 1000) }
@@ -292,7 +292,7 @@ impl Schedule {
         Some(fresh_stage(stage.index + 1, t, range))
     }
 
-    /// The temperature, or 0, that of the frozen stage, if it is below the last one.
+    /// Returns `t`, or 0 (the frozen stage) if `t` is below the exit temperature.
     fn hot(&self, t: u64) -> u64
         ensures { result ≡ hot self.now t }
     {

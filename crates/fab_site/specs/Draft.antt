@@ -16,7 +16,7 @@ abbrev pub is_site : Option Site → Site → Bool
 is_site None site = false
 is_site (Some s) site = same_site s site
 
--- the first block on the site, where the first of the list has number `n`
+-- the first block on the site. The first block of the list has number `n`
 abbrev pub holder_from : ℕ → List (Option Site) → Site → Option BlockId
 holder_from n [] site = None
 holder_from n (s ∷ sites) site = if is_site s site then Some (record { 0 = n }) else holder_from (n + 1) sites site
@@ -33,8 +33,7 @@ is_missing s = not (is_some s)
 abbrev pub NoneShared : List (Option Site) → Type 0
 NoneShared sites = (a b : ℕ) (s : Site) → slice_get sites a ≡ Some (Some s) → slice_get sites b ≡ Some (Some s) → a ≡ b
 
--- the table has a place for each site and holds the block on each site; there are at most 65,535 blocks, and
--- no two are on one site
+-- the table has an entry for each site, which is the block there. There are at most 65,535 blocks, and no two are on one site
 pub record IsTabled (g : GridShape) (sites : List (Option Site)) (holders : List ℕ) : Type 0 where
   pub size : length holders ≡ site_count g
   pub few : length sites ≤ 65535

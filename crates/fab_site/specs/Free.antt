@@ -1,4 +1,4 @@
--- The blocks that may move, in order (our own): a word picks a rank among them.
+-- The blocks that may move, in ascending order (our own). A random word picks a rank among them.
 use Rattle.std.specs.Prelude.{ℕ, ◌≡◌, Bool, not, filter, List, [], ◌∷◌, is_some, Option, Some, None, refl}
 use Rattle.std.specs.List.{range_with_len}
 use Rattle.fab_arch.specs.declared.array.Site.{Site}

@@ -25,7 +25,7 @@ index_of g s = if is_logic_site g s then Some ((s.y - 1) * g.nx + (s.x - 1)) els
 abbrev pub site_count : GridShape → ℕ
 site_count g = g.nx * g.ny + (g.ny + g.nx + g.ny + g.nx) * g.io_rat
 
--- the block whose number plus 1 the table has; none for 0
+-- the block of an entry n of the table: none if n is 0, else block n - 1
 abbrev pub block_from : ℕ → Option BlockId
 block_from n = if n == 0 then None else Some (record { 0 = n - 1 })
 
@@ -39,7 +39,7 @@ abbrev pub number_for : Option BlockId → ℕ
 number_for None = 0
 number_for (Some b) = b.0 + 1
 
--- the table has an entry for each site, which holds the block there; there are at most 65,535 blocks, no two on one site
+-- the table has an entry for each site, which is the block there. There are at most 65,535 blocks, and no two are on one site
 pub record IsIndexed (g : GridShape) (sites : List Site) (holders : List ℕ) : Type 0 where
   pub size : length holders ≡ site_count g
   pub few : length sites ≤ 65535

@@ -1,5 +1,5 @@
--- The sites given to some blocks before the first move: two lists by block number that may end early, of fixed blocks, and of begun ones
--- (fixing after the VPR manual's pad file; that any block may be fixed, or only begun, is our own).
+-- The sites given to some blocks before the first move: a list for fixed blocks and one for begun blocks. Each is by block number and may
+-- end early (fixing after the VPR manual's pad file; that any block may be fixed, or only begun, is our own).
 use Rattle.std.specs.Prelude.{ℕ, ◌≡◌, ◌<◌, true, List, [], ◌∷◌, length, is_some, Option, Some, None, refl}
 use Rattle.fab_arch.specs.declared.array.Site.{Site}
 use Rattle.fab_arch.specs.Grid.{GridShape}
@@ -15,7 +15,7 @@ either_site (Some s) other = Some s
 abbrev pub given_at : List (Option Site) → List (Option Site) → ℕ → Option Site
 given_at fixed begun b = either_site (fixed_at fixed b) (fixed_at begun b)
 
--- given blocks are the netlist's, each at a site of its kind; no two have one site, and none is fixed and begun
+-- each given block is one of the netlist's, at a site of its kind; no two have one site, and no block is both fixed and begun
 pub record ArePins (d : Netlist) (g : GridShape) (fixed begun : List (Option Site)) : Type 0 where
   pub within : (b : ℕ) (s : Site) → given_at fixed begun b ≡ Some s → b < length d.kinds
   pub fit : (b : ℕ) (s : Site) → given_at fixed begun b ≡ Some s → Fits d g b s

@@ -1,4 +1,4 @@
--- A placement is the list of sites by block number (our own): each block on a site of its kind, no two on one.
+-- A placement is the list of sites by block number (our own). Each block is on a site of its kind, and no two blocks are on one site.
 use Rattle.std.specs.Prelude.{ℕ, ◌≡◌, ◌+◌, ◌<◌, Bool, true, false, ◌&&◌, ◌==◌, if◌then◌else◌, List, [], ◌∷◌, length, is_some, Option, Some, None, slice_get, slice_index_or, slice_set, refl}
 use Rattle.std.proofs.Common.{subst}
 use Rattle.fab_arch.specs.declared.array.Site.{Site}
@@ -9,7 +9,7 @@ use Rattle.fab_net.specs.declared.netlist_types.BlockId.{BlockId}
 use Rattle.fab_net.specs.Netlist.{Netlist, is_logic_at}
 use Rattle.fab_site.specs.declared.placement_types.Swap.{Swap}
 
--- no site of any array, read past the end of a list
+-- what is read past the end of a list of sites. No array has this site
 abbrev pub nowhere : Site
 nowhere = record { x = 0; y = 0; sub = 0 }
 
@@ -21,7 +21,7 @@ same_site a b = a.x == b.x && a.y == b.y && a.sub == b.sub
 abbrev pub site_of : List Site → ℕ → Site
 site_of sites b = slice_index_or sites b nowhere
 
--- the first block on the site, where the first of the list has number `n`
+-- the first block on the site. The first block of the list has number `n`
 abbrev pub at_from : ℕ → List Site → Site → Option BlockId
 at_from n [] site = None
 at_from n (s ∷ sites) site = if same_site s site then Some (record { 0 = n }) else at_from (n + 1) sites site
@@ -30,22 +30,22 @@ at_from n (s ∷ sites) site = if same_site s site then Some (record { 0 = n }) 
 abbrev pub at : List Site → Site → Option BlockId
 at sites site = at_from 0 sites site
 
--- a placement on an array, in contracts
+-- a placement on an array, as contracts see it
 pub record PlacementOf : Type 0 where
   pub grid : GridShape
   pub sites : List Site
 
--- the other block of a swap, if any, goes to the site
+-- the sites after the other block of a swap, if any, went to `site`
 abbrev pub with_other : List Site → Option BlockId → Site → List Site
 with_other sites None site = sites
 with_other sites (Some b) site = slice_set sites b.0 site
 
--- the block goes to `to`, and the other, if any, to `from`
+-- the sites after a swap: its block went to `to`, and the other block, if any, to `from`
 abbrev pub swapped : List Site → Swap → List Site
 swapped sites s = with_other (slice_set sites s.block.0 s.to) s.other s.from
 
 -- the swap fits these sites (our own): its block is at `from` and goes to another site of the same kind, and `other` is the block there, if
--- any. `from` is a site of the array; so `to`, of the same kind, is one too
+-- any. `from` is a site of the array. So `to` is one too, since it is of the same kind
 pub record IsSwapOf (g : GridShape) (sites : List Site) (s : Swap) : Type 0 where
   pub stands : slice_get sites s.block.0 ≡ Some s.from
   pub away : ¬ (s.to ≡ s.from)
@@ -57,7 +57,7 @@ pub record IsSwapOf (g : GridShape) (sites : List Site) (s : Swap) : Type 0 wher
 abbrev pub kind_wanted : Netlist → ℕ → SiteKind
 kind_wanted d b = if is_logic_at d b then site_kind.Logic else site_kind.Pad
 
--- the site is one of the array's, and of the block's kind
+-- the array has the site, and the site is of the block's kind
 abbrev pub Fits : Netlist → GridShape → ℕ → Site → Type 0
 Fits d g b s = kind_at g s ≡ Some (kind_wanted d b)
 
@@ -66,7 +66,7 @@ abbrev pub flat : Option (Option Site) → Option Site
 flat None = None
 flat (Some site) = site
 
--- the site where a block is fixed, if any. Fixed sites are a list by block number that may end early
+-- the site where a block is fixed, if any. The list of fixed sites is by block number and may end early
 abbrev pub fixed_at : List (Option Site) → ℕ → Option Site
 fixed_at fixed b = flat (slice_get fixed b)
 
@@ -74,7 +74,7 @@ fixed_at fixed b = flat (slice_get fixed b)
 abbrev pub AreApart : List Site → Type 0
 AreApart sites = (a b : ℕ) → a < length sites → b < length sites → site_of sites a ≡ site_of sites b → a ≡ b
 
--- each block of the netlist is on a site of its kind, no two on the same, and fixed blocks are where they are fixed
+-- each block of the netlist is on a site of its kind, no two blocks are on one site, and each fixed block is on the site where it is fixed
 pub record IsLegal (d : Netlist) (g : GridShape) (fixed : List (Option Site)) (sites : List Site) : Type 0 where
   pub all : length sites ≡ length d.kinds
   pub fit : (b : ℕ) → b < length sites → Fits d g b (site_of sites b)
@@ -123,7 +123,7 @@ a_swap_of_these_sites = record {
 pub no_swap_to_a_site_off_the_array : IsSwapOf (shape 2 2 1) two_sites off_the_array → None ≡ Some site_kind.Logic
 no_swap_to_a_site_off_the_array is = is.kind
 
--- on a smaller array neither site exists, so their kinds are equal: both are none
+-- a smaller array has neither site, so their kinds are equal: both are none
 pub no_swap_between_sites_off_the_array : IsSwapOf (shape 1 1 1) two_sites off_the_array → false ≡ true
 no_swap_between_sites_off_the_array is = is.there
 

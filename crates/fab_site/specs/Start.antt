@@ -1,5 +1,5 @@
--- The start placement (our own): given blocks are at their sites; each other block, in order of number, draws one of
--- the remaining sites of its kind.
+-- The start placement (our own): given blocks are at their sites. Each other block, in order of number, draws one of the remaining sites of
+-- its kind.
 use Rattle.std.specs.Prelude.{ℕ, ◌≡◌, ◌+◌, ◌*◌, not, filter, if◌then◌else◌, Bool, List, [], ◌∷◌, length, map, is_some, Option, Some, None, codes, refl}
 use Rattle.std.specs.List.{range_with_len, flat_map, swap_remove}
 use Rattle.fab_arch.specs.declared.array.Site.{Site}
@@ -28,16 +28,16 @@ given_sites d fixed begun = map (given_at fixed begun) (range_with_len 0 (length
 abbrev pub sites_left : List (Option Site) → List Site → List Site
 sites_left given sites = filter (λ s. not (is_some (holder_of given s))) sites
 
--- the index in a list that a word picks
+-- the index in the list `left` that the word `w` picks
 abbrev pub entry_of : ℕ → List Site → ℕ
 entry_of w left = pick_of w (length left)
 
--- a list without an entry: the last entry fills the gap
+-- a list without its entry `i`: the last entry fills the gap
 abbrev pub without : List Site → ℕ → List Site
 without left i = swap_remove left i nowhere
 
--- the sites of blocks with these given sites and kinds. The other blocks draw from the remaining logic sites and pad
--- sites with the start words from number `i` on: one counter for all blocks that draw
+-- the sites of blocks with these given sites and kinds. A block without a given site draws from the remaining sites, `logic` or `pads`,
+-- with the next start word. The first is start word `i`, and there is one counter for all blocks that draw
 abbrev pub deal : (ℕ → ℕ) → ℕ → List Site → List Site → List (Option Site) → List BlockKind → List Site
 deal word i logic pads [] kinds = []
 deal word i logic pads (o ∷ given) [] = []
@@ -50,7 +50,7 @@ deal word i logic pads (None ∷ given) (k ∷ kinds) =
 abbrev pub is_pad : BlockKind → Bool
 is_pad k = not (is_logic k)
 
--- how many blocks without a given site pass a test
+-- how many blocks without a given site have a kind that passes the test `p`
 abbrev pub waiting : (BlockKind → Bool) → List (Option Site) → List BlockKind → ℕ
 waiting p [] kinds = 0
 waiting p (o ∷ given) [] = 0

@@ -32,7 +32,7 @@ impl Model for Draft {
 }
 
 impl Drop for Draft {
-    // A written `drop` is one step of a proof wherever a draft goes out of scope; a derived one is proved again each time.
+    // A `drop` by hand is proved once; a derived `drop` is proved again wherever a draft goes out of scope.
     fn drop(self) {
         let Draft {
             alloc: _,
@@ -76,7 +76,7 @@ impl Draft {
         held(&self.holders, index_of(&self.grid, site))
     }
 
-    /// Gives a block its site. The block has none yet, and the site is one of the array's that no block has yet.
+    /// Gives a block its site. The block must have none yet, and the site must be one of the array's that no block has.
     pub fn put(&mut self, block: BlockId, site: Site)
         requires missing { slice_get self.old.sites block.0 ≡ Some None }
         requires there { IsTrue (is_some (kind_at self.old.grid site)) }
@@ -95,7 +95,7 @@ impl Draft {
         self.sites.iter().position(|site| site.is_none())
     }
 
-    /// The placement, once each block has its site.
+    /// Makes the placement. Each block must have its site.
     pub fn finish(self) -> Result<Placement, AllocError>
         requires { position is_missing self.sites ≡ None }
         ensures grid { IfOk result (λ p. p.grid ≡ self.grid) }
@@ -136,7 +136,7 @@ fn enter(grid: &Grid, holders: &mut Vec<u32>, block: BlockId, site: Site)
     }
 }
 
-/// The sites, all of them present.
+/// The sites of the blocks. Each block must have one.
 fn all_sites(alloc: Global, sites: &[Option<Site>]) -> Result<Vec<Site>, AllocError>
     requires { position is_missing sites.now ≡ None }
     ensures { IfOk result (λ v. map Some v.items ≡ sites.now) }

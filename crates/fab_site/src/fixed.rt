@@ -9,10 +9,10 @@ use fab_net::BlockId;
 use std::alloc::{AllocError, Global};
 use std::marker::Model;
 
-/// The sites of the blocks that must stay there.
+/// The blocks that must stay, with their sites.
 pub struct Fixed {
     sites: Vec<Option<Site>>,
-    /// The blocks below the end of `sites` that are not fixed, in ascending order, so that one is found by its rank.
+    /// The blocks below the end of `sites` that are not fixed, in ascending order. So a block is found by its rank.
     free: Vec<u32>,
 }
 
@@ -29,7 +29,7 @@ impl Model for Fixed {
 }
 
 impl Drop for Fixed {
-    // A written `drop` is one step of a proof wherever fixed blocks go out of scope; a derived one is proved again each time.
+    // A `drop` by hand is proved once; a derived `drop` is proved again wherever fixed blocks go out of scope.
     fn drop(self) {
         let Fixed { sites: _, free: _ } = self;
     }
@@ -46,7 +46,7 @@ impl Fixed {
         }
     }
 
-    /// Fixes a block, which is not fixed yet, at a site. If memory runs out, the fixed blocks stay the same.
+    /// Fixes a block at a site. The block must not be fixed yet. If memory runs out, the fixed blocks stay the same.
     pub fn fix(&mut self, block: BlockId, site: Site) -> Result<(), AllocError>
         requires { fixed_at self.old block.0 ≡ None }
         ensures fixed { OnOk result ((b : ℕ) →
@@ -68,7 +68,7 @@ impl Fixed {
         }
     }
 
-    /// How many of the first `blocks` blocks are not fixed. No block from `blocks` on may be fixed.
+    /// How many of the first `blocks` blocks are not fixed. Blocks from number `blocks` on must not be fixed.
     pub fn free_blocks(&self, blocks: u32) -> u32
         requires { (b : ℕ) (s : Site) → fixed_at self.now b ≡ Some s → b < blocks }
         ensures { result ≡ length (free_below self.now blocks) }
@@ -76,7 +76,7 @@ impl Fixed {
         (u64::from(blocks) + self.free.len() as u64 - self.sites.len() as u64) as u32
     }
 
-    /// The block with this rank among those of the first `blocks` blocks that are not fixed, in constant time.
+    /// The block with rank `rank`, from 0, among those of the first `blocks` blocks that are not fixed. Takes constant time.
     pub fn free_block(&self, blocks: u32, rank: u32) -> BlockId
         requires { rank < length (free_below self.now blocks) }
         ensures { slice_get (free_below self.now blocks) rank ≡ Some result.0 }

@@ -1,4 +1,4 @@
-//! The flat table of an array's sites: the place of a site in it.
+//! The place of each site of an array in one flat table.
 
 ghost use Rattle.std.specs.Prelude.{◌≡◌, ℕ, ◌+◌, ◌-◌, ◌*◌, ◌^◌, ◌<◌, ◌≤◌, Some};
 ghost use Rattle.fab_arch.specs.Grid.{shape, is_logic_site};
@@ -96,7 +96,7 @@ pub(crate) fn held(holders: &[u32], index: Option<usize>) -> Option<BlockId>
     }
 }
 
-/// The entry of the table for a site with this block, or with none.
+/// The entry of the table for a site with the block `holder`, or for an empty site.
 pub(crate) fn number_for(holder: Option<BlockId>) -> u32
     requires { (b : BlockId) → holder ≡ Some b → b.0 + 1 < 2 ^ 32 }
     ensures { result ≡ number_for holder }

@@ -1,4 +1,4 @@
-//! Whether a placement is legal. Tests alone call this.
+//! Whether a placement is legal. Only tests call this.
 
 ghost use Rattle.std.specs.Prelude.{◌≡◌, ◌↔◌, ℕ, ◌<◌, length, if◌then◌else◌, slice_get, Some, IsTrue};
 ghost use Rattle.fab_arch.specs.declared.array.Site.{Site};
@@ -11,8 +11,8 @@ use crate::places::Placement;
 use fab_arch::{Grid, Site, SiteKind};
 use fab_net::{BlockId, BlockKind, Design};
 
-/// Whether each of the design's blocks is on a site of its kind, no two on the same, and each fixed block is where
-/// it is fixed. Needs no memory.
+/// Whether each block of the design is on a site of its kind, no two blocks are on one site, and each fixed block is on the site where it
+/// is fixed. Allocates nothing.
 pub fn is_legal(design: &Design, grid: &Grid, fixed: &Fixed, placement: &Placement) -> bool
     ensures { IsTrue result ↔ IsLegal design.now grid.now fixed.now placement.now.sites }
 {
@@ -35,7 +35,7 @@ fn all_fit(design: &Design, grid: &Grid, sites: &[Site]) -> bool
     true
 }
 
-/// Whether a site is one of the array's, and of a block's kind.
+/// Whether the array has the site, and the site is of the block's kind.
 fn fits(design: &Design, grid: &Grid, block: usize, site: Site) -> bool
     requires { block < length design.now.kinds }
     ensures { IsTrue result ↔ Fits design.now grid.now block site }
@@ -58,7 +58,7 @@ fn wanted(kind: BlockKind) -> SiteKind
     }
 }
 
-/// Whether each fixed block is where it is fixed.
+/// Whether each fixed block is on the site where it is fixed.
 fn all_stay(fixed: &[Option<Site>], sites: &[Site]) -> bool
     ensures { IsTrue result ↔
         ((b : ℕ) (s : Site) → fixed_at fixed.now b ≡ Some s → slice_get sites.now b ≡ Some s) }
@@ -71,7 +71,7 @@ fn all_stay(fixed: &[Option<Site>], sites: &[Site]) -> bool
     true
 }
 
-/// Whether a block is where it is fixed, if it is fixed.
+/// Whether a block, if it is fixed, is on the site where it is fixed.
 fn stays(fixed: Option<Site>, sites: &[Site], block: usize) -> bool
     ensures { IsTrue result ↔ ((s : Site) → fixed ≡ Some s → slice_get sites.now block ≡ Some s) }
 {

@@ -32,7 +32,7 @@ impl Model for Placement {
 }
 
 impl Drop for Placement {
-    // A written `drop` is one step of a proof wherever a placement goes out of scope; a derived one is proved again each time.
+    // A `drop` by hand is proved once; a derived `drop` is proved again wherever a placement goes out of scope.
     fn drop(self) {
         let Placement {
             grid: _,
@@ -43,8 +43,7 @@ impl Drop for Placement {
 }
 
 impl Placement {
-    /// The placement with these sites, by block number. Each site must be of its block's kind, and no site may occur
-    /// twice.
+    /// Makes a placement from the site of each block, by block number. Each site must be of its block's kind, and no site may occur twice.
     pub fn of_sites(
         alloc: Global,
         design: &Design,
@@ -65,8 +64,8 @@ impl Placement {
         })
     }
 
-    /// This placement on another array, on which each block's site must be of the block's kind too. Returns the same
-    /// placement if `grid` is its array already, else makes the table of `grid`.
+    /// Puts this placement on the array `grid`. There too, each block's site must be of the block's kind. If `grid` is its array already,
+    /// returns it as it is; else makes the table of `grid`.
     pub fn on_array(self, design: &Design, grid: &Grid) -> Result<Placement, AllocError>
         requires { IsLegal design.now grid.now [] self.sites }
         ensures grid { IfOk result (λ p. p.grid ≡ grid.now) }
@@ -90,7 +89,7 @@ impl Placement {
         })
     }
 
-    /// The placement with these sites, by block number, and the table that holds their blocks.
+    /// Makes a placement from the site of each block, by block number, and the table of the block on each site.
     pub(crate) fn of_table(grid: Grid, sites: Vec<Site>, holders: Vec<u32>) -> Self
         requires { IsIndexed grid sites.items holders.items }
         ensures { result ≡ record { grid = grid; sites = sites.items } }
@@ -110,7 +109,7 @@ impl Placement {
         self.sites[block.0 as usize]
     }
 
-    /// The block on a site, or `None` if the site is empty or none of the array's.
+    /// The block on a site, or `None` if the site is empty or the array does not have it.
     pub fn at(&self, site: Site) -> Option<BlockId>
         ensures first { result ≡ block_at self.now.sites site }
         ensures stands { (b : BlockId) → (result ≡ Some b) ↔
@@ -134,8 +133,8 @@ impl Placement {
         &self.sites
     }
 
-    /// Makes a swap: its block goes to `to`, and the block there, if any, goes to `from`. The swap must be one of this
-    /// placement: it says which blocks are where, and both sites are of one kind.
+    /// Applies a swap: its block goes to `to`, and the block there, if any, goes to `from`. The swap must fit this placement: `block` is on
+    /// `from`, `other` is the block on `to`, if any, and `from` and `to` are two sites of one kind.
     pub fn apply(&mut self, swap: &Swap)
         requires { IsSwapOf self.old.grid self.old.sites swap.now }
         ensures { self.new ≡ record self.old { sites = swapped self.old.sites swap.now } }
@@ -156,7 +155,7 @@ impl Placement {
         })
     }
 
-    /// Becomes a copy of another placement of as many blocks on the same array. Needs no memory.
+    /// Becomes a copy of `other`, which must have the same array and the same number of blocks. Allocates nothing.
     pub fn copy_from(&mut self, other: &Placement)
         requires array { self.old.grid ≡ other.now.grid }
         requires blocks { length self.old.sites ≡ length other.now.sites }

@@ -1,9 +1,9 @@
-//! Random words, which the start placement and moves draw from.
+//! Random words. The start placement and the moves draw by them.
 
 ghost use Rattle.std.specs.Prelude.{◌≡◌, ℕ, ◌+◌, ◌<◌, ◌^◌, List, [], length, slice_index_or};
 ghost use Rattle.fab_site.specs.Words.{pick_of, word_at, words_at};
 
-/// Random words of 32 bits. Each answer depends only on the number requested.
+/// Random words of 32 bits. Each word depends only on its number.
 pub trait Words {
     /// The four words of each move.
     ghost moves: { Self → ℕ → List ℕ };
@@ -41,7 +41,7 @@ pub trait Words {
         }
     }
 
-    /// The words of move `k`, for a caller that has them already and judges the move again.
+    /// The words of move `k`, for a caller that judges the move again and still has them: `words`.
     fn words_again(&self, k: u64, words: [u32; 4]) -> [u32; 4]
         requires { words ≡ moves self.now k }
         ensures { result ≡ moves self.now k }
@@ -51,7 +51,7 @@ pub trait Words {
     }
 }
 
-/// Words from two lists. Beyond the end of a list every word is 0.
+/// Words from two lists. Past the end of a list every word is 0.
 #[derive(Drop)]
 pub struct ListWords {
     pub starts: Vec<u32>,
@@ -78,7 +78,7 @@ impl Words for ListWords {
     }
 }
 
-/// Picks one of `n` choices by a word: `floor(w * n / 2^32)`, which is below `n` where `n` is not 0.
+/// Picks one of `n` choices by the word `w`: `floor(w * n / 2^32)`. If `n` is not 0, this is below `n`.
 pub fn pick(w: u32, n: u32) -> u32
     ensures value { result ≡ pick_of w n }
     ensures below { 0 < n → result < n }

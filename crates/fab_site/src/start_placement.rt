@@ -1,4 +1,4 @@
-//! The start placement: given blocks at their sites, and the others on sites that they draw.
+//! The start placement: given blocks are at their sites, and each other block draws a site.
 
 ghost use Rattle.std.specs.Prelude.{◌≡◌, ◌++◌, ℕ, ◌+◌, ◌^◌, ◌<◌, ◌≤◌, [], ◌∷◌, length, map, slice_get, slice_index_or, Some, IsTrue, IfOk, OnOk};
 ghost use Rattle.std.specs.List.{range_with_len};
@@ -17,9 +17,9 @@ use fab_arch::{Grid, Site};
 use fab_net::{BlockId, BlockKind, Design};
 use std::alloc::{AllocError, Global};
 
-/// The start placement, on an array that holds the design, in time linear in blocks and sites. Fixed and begun blocks
-/// are at their sites. Each other block, in order of number, draws one of the remaining sites of its kind with the
-/// next start word; the last site of that list then fills the gap.
+/// Makes the start placement. The array must have a site for each block. Fixed and begun blocks are at their sites. Each other block, in
+/// order of number, draws one of the remaining sites of its kind with the next start word; the last site of that list then fills the gap.
+/// Takes time linear in blocks and sites.
 pub fn start<W: Words>(
     alloc: Global,
     design: &Design,
@@ -54,7 +54,7 @@ fn given_site(pins: &Pins, block: BlockId) -> Option<Site>
     }
 }
 
-/// The given blocks at their sites.
+/// A draft with the given blocks at their sites.
 fn given(alloc: Global, design: &Design, grid: &Grid, pins: &Pins) -> Result<Draft, AllocError>
     requires { ArePins design.now grid.now pins.now.fixed pins.now.begun }
     ensures grid { IfOk result (λ d. d.grid ≡ grid.now) }
@@ -83,7 +83,7 @@ fn push_left(left: &mut Vec<Site>, given: &Draft, site: Site) -> Result<(), Allo
     Ok(())
 }
 
-/// Adds the sites of a row that no given block has.
+/// Adds those sites of row `y` that no given block has.
 fn push_row(left: &mut Vec<Site>, given: &Draft, nx: u16, y: u16) -> Result<(), AllocError>
     requires { nx ≤ 1000 }
     ensures { OnOk result
@@ -111,7 +111,7 @@ fn logic_left(alloc: Global, grid: &Grid, given: &Draft) -> Result<Vec<Site>, Al
     Ok(left)
 }
 
-/// Adds the pad sites at a position that no given block has.
+/// Adds those pad sites at position `at` that no given block has.
 fn push_position(
     left: &mut Vec<Site>,
     given: &Draft,
@@ -151,7 +151,7 @@ fn pads_left(alloc: Global, grid: &Grid, given: &Draft) -> Result<Vec<Site>, All
     Ok(left)
 }
 
-/// Draws an entry of a list and removes it; the last entry fills the gap.
+/// Draws an entry of `left` by `word`, and removes it; the last entry fills the gap.
 fn draw(word: u32, left: &mut Vec<Site>) -> Site
     requires some { 0 < length left.old.items }
     requires few { length left.old.items < 2 ^ 32 }
@@ -162,7 +162,7 @@ fn draw(word: u32, left: &mut Vec<Site>) -> Site
     left.swap_remove(entry as usize)
 }
 
-/// Draws a site for a block of a kind from the list of that kind.
+/// Draws a site for a block of kind `kind` from the list for that kind.
 fn draw_for(kind: BlockKind, word: u32, logic: &mut Vec<Site>, pads: &mut Vec<Site>) -> Site
     requires logic { IsTrue (is_logic kind) → 0 < length logic.old.items }
     requires pads { IsTrue (is_pad kind) → 0 < length pads.old.items }
@@ -182,7 +182,7 @@ fn draw_for(kind: BlockKind, word: u32, logic: &mut Vec<Site>, pads: &mut Vec<Si
     }
 }
 
-/// How many blocks draw a site: those that are not given.
+/// How many blocks draw a site. Blocks that are not given do.
 #[tactic(auto, using(crate::proofs::Drawing::draws_none_left))]
 fn count_of_draws(design: &Design, given: &Draft) -> usize
     requires { length given.now.sites ≡ length design.now.kinds }
@@ -216,7 +216,7 @@ fn words_drawn<W: Words>(
     Ok(drawn)
 }
 
-/// The word that was drawn at a place of the list.
+/// Word number `place` of the list.
 fn drawn_word(words: &[u32], place: u32) -> u32
     requires { place < length words.now }
     ensures { result ≡ slice_index_or words.now place 0 }
@@ -224,7 +224,7 @@ fn drawn_word(words: &[u32], place: u32) -> u32
     words[place as usize]
 }
 
-/// The sites of all blocks; blocks that are not given draw from the two lists.
+/// The sites of all blocks. Given blocks have theirs; the others draw from `logic` and `pads`.
 fn deal<W: Words>(
     alloc: Global,
     design: &Design,

@@ -2,7 +2,7 @@
 use Rattle.std.specs.Prelude.{ℕ, ◌≡◌, ◌+◌, ◌-◌, ◌^◌, ◌==◌, Bool, false, true, not, ◌&&◌, min, List, [], ◌∷◌, length, Option, Result, Ok, Err, if◌then◌else◌, refl}
 use Rattle.fab_text.specs.declared.output.WriteFault.{WriteFault}
 
--- a writer: what it has taken, where that is known, and how many of its writes failed
+-- a writer: what it has taken, if that is known, and how many of its writes failed
 pub record Written : Type 0 where
   pub contents : Option (List ℕ)
   pub failures : ℕ
@@ -11,7 +11,7 @@ pub record Written : Type 0 where
 abbrev pub grown : ℕ → ℕ
 grown n = min (n + 1) (2 ^ 64 - 1)
 
--- a write failed if it returned a fault, or took none of some bytes
+-- a write failed if it returned a fault, or took no byte though there were some
 abbrev pub is_failure : List ℕ → Result ℕ WriteFault → Bool
 is_failure bytes (Ok n) = n == 0 && not (length bytes == 0)
 is_failure bytes (Err e) = true

@@ -1,4 +1,4 @@
--- How a fault is printed (our own): its code and its name, or words where it has no code.
+-- How a fault is printed (our own): its code and its name, or words if it has no code.
 use Rattle.std.specs.Prelude.{ℕ, ◌≡◌, List, codes, refl}
 use Rattle.fab_text.specs.declared.numbers.NumFault.{NumFault}
 use Rattle.fab_text.specs.declared.numbers.NumFault.TheVariants.{BadDigit, TooManyPlaces, TooLarge}

@@ -1,17 +1,17 @@
 -- The first fault of a text, defined once for all readers (our own).
 use Rattle.std.specs.Prelude.{ℕ, ◌≡◌, ◌==◌, Bool, List, [], ◌∷◌, ◌++◌, length, Option, Some, None, if◌then◌else◌, refl}
 
--- the first of two possible faults that is there
+-- the first fault if there is one, else the later fault if there is one
 abbrev pub or_else : {E : Type 0} → Option E → Option E → Option E
 or_else None later = later
 or_else (Some fault) later = Some fault
 
--- a fault where a test fails
+-- `fault` if a test failed, else none
 abbrev pub unless : {E : Type 0} → Bool → E → Option E
 unless passed fault = if passed then None else Some fault
 
--- the first fault of lines that follow others. Each line is judged by the lines before it; faults of the
--- whole text come after those of all lines
+-- the first fault of lines that follow the lines `before`. Whether a line is faulty depends on the lines before it. Faults of the whole
+-- text come after those of all lines
 abbrev pub fault_behind : {L E : Type 0} → (List L → L → Option E) → (List L → Option E) → List L → List L → Option E
 fault_behind of_line of_text before [] = of_text before
 fault_behind of_line of_text before (l ∷ ls) = or_else (of_line before l) (fault_behind of_line of_text (before ++ l ∷ []) ls)
@@ -24,13 +24,12 @@ fault_of_all of_line of_text ls = fault_behind of_line of_text [] ls
 abbrev pub no_text_fault : {L E : Type 0} → List L → Option E
 no_text_fault ls = None
 
--- the lines that were taken from the front of `all`, so that `left` are left, have no fault. A reader of which this holds where memory runs
--- out has not hidden a fault that it found
+-- the lines that were taken from the front of `all` have no fault, and `left` is the rest. If this holds when memory runs out, the reader
+-- has not hidden a fault that it found
 abbrev pub TookNoFault : {L E : Type 0} → (List L → L → Option E) → List L → List L → Type 0
 TookNoFault {L = L} of_line all left = (taken : List L) × (taken ++ left ≡ all) × (fault_of_all of_line no_text_fault taken ≡ None)
 
--- in the examples a line is a number, faulty where it equals the number of lines before it, and a text is faulty
--- where it is empty
+-- in the examples a line is a number. It is faulty if it equals the number of lines before it. A text is faulty if it is empty
 abbrev stands_at_its_number : List ℕ → ℕ → Option ℕ
 stands_at_its_number before n = if length before == n then Some n else None
 

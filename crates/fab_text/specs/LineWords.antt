@@ -7,15 +7,15 @@ use Rattle.fab_text.specs.Lines.{lines, is_separator, is_line_feed, is_hash}
 abbrev pub is_mark : ℕ → Bool
 is_mark c = is_separator c || is_line_feed c || is_hash c
 
--- bytes that can be one word of a line: at least one, and no marks
+-- whether bytes can be one word of a line: at least one byte, and no marks
 abbrev pub can_be_word : List ℕ → Bool
 can_be_word word = not (length word == 0) && not (list_any is_mark word)
 
--- each of these can be one word of a line
+-- each of `words` can be one word of a line
 abbrev pub AreWords : List (List ℕ) → Type 0
 AreWords words = AllByRecursion (λ word. can_be_word word ≡ true) words
 
--- each word of each line of a text is such a word
+-- each word of each line of a text can be one
 abbrev pub LinesHaveWords : Type 0
 LinesHaveWords = (text : List ℕ) → AllByRecursion (λ l. AreWords l.words) (lines text)
 

@@ -39,21 +39,21 @@ trimmed xs = take (length xs - suffix_len is_separator xs) xs
 unfoldable pub content : List ℕ → List ℕ
 content bytes = trimmed (before_first is_hash bytes)
 
--- whether the last byte is a backslash; for an empty line, 0 is read, which is none
+-- whether the last byte is a backslash. Of an empty line 0 is read, which is not a backslash
 unfoldable pub is_continued : List ℕ → Bool
 is_continued xs = slice_index xs (length xs - 1) == 92
 
--- bytes without that backslash
+-- bytes without a backslash at their end
 unfoldable pub without_backslash : List ℕ → List ℕ
 without_backslash xs = take (if is_continued xs then length xs - 1 else length xs) xs
 
--- puts a run of bytes that ends at `at` before the words that follow: the run joins the first of them
--- where that one begins at `at`
+-- puts the bytes from place `from` to `at`, which are no separators, before the words that follow. If the first of these words begins at
+-- `at`, it becomes one word with them
 abbrev pub run : ℕ → ℕ → List Span → List Span
 run from at [] = record { start = from; stop = at } ∷ []
 run from at (s ∷ ss) = if s.start == at then record { start = from; stop = s.stop } ∷ ss else record { start = from; stop = at } ∷ s ∷ ss
 
--- the words of bytes whose first is at `at`: the longest runs without separators
+-- the words of bytes: the longest runs without separators. The first byte is at place `at`
 abbrev pub words_at : ℕ → List ℕ → List Span
 words_at at [] = []
 words_at at (c ∷ cs) = if is_separator c then words_at (at + 1) cs else run at (at + 1) (words_at (at + 1) cs)
@@ -85,7 +85,7 @@ has_words l = not (is_nil l.spans)
     is_nil [] = true
     is_nil (s ∷ ss) = false
 
--- a line as a reader gives it: its number, its words, and the place of each
+-- a line as a reader returns it: its number, its words, and the place of each
 pub record TextLine : Type 0 where
   pub number : ℕ
   pub words : List (List ℕ)
@@ -95,11 +95,11 @@ pub record TextLine : Type 0 where
 abbrev pub bytes_at : List ℕ → Span → List ℕ
 bytes_at text s = slice_range text s.start s.stop
 
--- a line with the words that its places have in the text
+-- a line with its words: the bytes of the text at its places
 abbrev pub line_of : List ℕ → Placed → TextLine
 line_of text l = record { number = l.number; words = map (bytes_at text) l.spans; spans = l.spans }
 
--- the lines of a text from place `at` on, where the physical line at `at` has number `n`
+-- the lines of a text from place `at` on; the physical line there has number `n`
 unfoldable pub lines_from : List ℕ → ℕ → ℕ → List TextLine
 lines_from text at n = map (line_of text) (filter has_words (joined n (physical at (drop at text))))
 

@@ -22,7 +22,7 @@ ends_with_feed [] = true
 ends_with_feed (c ∷ []) = is_line_feed c
 ends_with_feed (c ∷ d ∷ ds) = ends_with_feed (d ∷ ds)
 
--- whether the last physical line ends with a backslash, so that a next one continues it
+-- whether the last physical line ends with a backslash, so that the next line would continue it
 abbrev pub goes_on : List Physical → Bool
 goes_on [] = false
 goes_on (p ∷ []) = is_continued (content p.bytes)
@@ -33,13 +33,12 @@ pub record IsWhole (front : List ℕ) : Type 0 where
   pub ends : ends_with_feed front ≡ true
   pub stops : goes_on (physical 0 front) ≡ false
 
--- after a whole beginning, line numbers go on: the first physical line there has a number one above the count of
--- line feeds before it
+-- after a whole beginning, line numbers go on: the first physical line there has one more than the number of line feeds before it
 abbrev pub LineFeedsAreCounted : Type 0
 LineFeedsAreCounted = (front rest : List ℕ) → IsWhole front
     → lines (front ++ rest) ≡ lines front ++ lines_from (front ++ rest) (length front) (count_by is_line_feed front + 1)
 
--- whether the first line has this number
+-- whether the first line has number `n`
 abbrev pub IsFirstNumber : ℕ → List Placed → Type 0
 IsFirstNumber n [] = ⊥
 IsFirstNumber n (l ∷ ls) = l.number ≡ n

@@ -1,4 +1,4 @@
--- A line that a reader gave, as a line of the text (our own).
+-- A line that a reader returned, as a line of the text (our own).
 use Rattle.std.specs.Prelude.{map}
 use Rattle.fab_text.specs.declared.spans.Line.{Line}
 use Rattle.fab_text.specs.Lines.{TextLine}

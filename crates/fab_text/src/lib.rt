@@ -1,5 +1,4 @@
-//! Text in and text out: the lines of a text and their words, decimal numbers read and printed, and
-//! writes that write all bytes or report that they did not.
+//! Reads the lines and words of a text, reads and prints decimal numbers, and writes all bytes of a text or reports that it could not.
 #![tactic(auto)]
 
 pub mod numbers;

@@ -1,4 +1,4 @@
-//! Decimal numbers in texts, read exactly: as a whole number of the smallest unit requested.
+//! Reads decimal numbers exactly, as a whole number of the requested unit.
 
 ghost use Rattle.std.specs.Prelude.{◌≡◌, ◌++◌, ◌*◌, ◌^◌, ◌<◌, IsTrue, Some, position};
 ghost use Rattle.std.specs.Char.{is_ascii_digit};
@@ -11,12 +11,12 @@ ghost use Rattle.fab_text.specs.FaultTexts.{num_fault_text};
 use std::fmt;
 use thiserror::Error;
 
-/// Why a text is no number: the first fault that applies, in this order.
+/// Why a text is not a number. If several faults apply, the first in this order is returned.
 #[derive(Clone, Copy, Debug, PartialEq, Eq, Error)]
 pub enum NumFault {
-    /// It has no digit, or a byte that is not allowed at its place.
+    /// It has no digit, or it has a byte that is not allowed at its place.
     BadDigit,
-    /// It has more digits after the point than `places`.
+    /// It has more digits after the point than `places` allows.
     TooManyPlaces,
     /// In the requested unit, the number is above 18,446,744,073,709,551,615.
     TooLarge,
@@ -60,7 +60,7 @@ fn parts(text: &[u8], places: u32) -> (&[u8], &[u8])
     }
 }
 
-/// Appends the digits to those of `value`: the resulting number, if it fits in 64 bits.
+/// The number that has the digits of `value` and then `digits`, or `None` if it does not fit in 64 bits.
 fn with_digits(value: u64, digits: &[u8]) -> Option<u64>
     requires { IsTrue (list_all is_ascii_digit digits.now) }
     ensures { SomeIff result (digits_value_after 10 value digits.now < 2 ^ 64)
@@ -75,7 +75,7 @@ fn with_digits(value: u64, digits: &[u8]) -> Option<u64>
     Some(total)
 }
 
-/// A number times ten to the power of `places`, if it fits in 64 bits.
+/// `value` times ten to the power of `places`, or `None` if that does not fit in 64 bits.
 fn scaled(value: u64, places: u32) -> Option<u64>
     ensures { SomeIff result (value * 10 ^ places < 2 ^ 64) (value * 10 ^ places) }
 {
@@ -91,7 +91,7 @@ fn is_numeral(whole: &[u8], fraction: &[u8]) -> bool
     are_digits(whole) && are_digits(fraction) && whole.len() + fraction.len() > 0
 }
 
-/// The number that digits write, times ten to the power of `rest`, if it fits in 64 bits.
+/// The number with the digits `whole` and then `fraction`, times ten to the power of `rest`; `None` if that does not fit in 64 bits.
 fn in_units(whole: &[u8], fraction: &[u8], rest: u32) -> Option<u64>
     requires { IsTrue (is_numeral (whole.now ++ fraction.now)) }
     ensures { SomeIff result (digits_value 10 (whole.now ++ fraction.now) * 10 ^ rest < 2 ^ 64)
@@ -102,8 +102,8 @@ fn in_units(whole: &[u8], fraction: &[u8], rest: u32) -> Option<u64>
     scaled(value, rest)
 }
 
-/// The number that a text writes, times ten to the power of `places`. The text has at least one digit. For places
-/// above 0 it may have one point, with at most `places` digits after it. No sign, no rounding.
+/// Reads the number in `text`, and multiplies it by ten to the power of `places`. The text must have at least one digit. If `places` is
+/// above 0, it may have one point, with at most `places` digits after it. No sign, no rounding.
 #[tactic(auto, unfolding(crate::specs::Decimal::decimal_of))]
 pub fn decimal(text: &[u8], places: u32) -> Result<u64, NumFault>
     ensures { result ≡ decimal_of text.now places }

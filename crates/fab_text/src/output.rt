@@ -1,4 +1,4 @@
-//! Whole writes: a sink for bytes, and a write that goes on until all bytes are written or one write fails.
+//! A sink for bytes, and a write that goes on until all bytes are written or one write fails.
 
 ghost use Rattle.std.specs.Prelude.{◌≡◌, ℕ, Bool, true, false, Option, Some, ◌≤◌, ◌<◌, List, length, take, IfOk, OnOk, OnErr};
 ghost use Rattle.std.specs.Io.KnownBytes.{Appends, WriteAppends};
@@ -24,7 +24,7 @@ impl fmt::Display for WriteFault {
 
 /// Takes bytes, and counts the writes that failed.
 pub trait Sink {
-    /// What it has taken, where that is known.
+    /// What it has taken, if that is known.
     ghost contents: { Self → Option (List ℕ) };
 
     /// How many writes have failed.
@@ -33,19 +33,19 @@ pub trait Sink {
     /// Whether a sink of this type may answer that it is not ready.
     ghost may_be_unready: { Bool };
 
-    /// Takes the first `n` of the bytes and returns `n`. They are appended to its contents. A fault takes none.
+    /// Takes the first `n` of `bytes`, appends them to its contents, and returns `n`. If it returns a fault, it has taken none.
     fn write(&mut self, bytes: &[u8]) -> Result<usize, WriteFault>
         ensures within { IfOk result (λ n. n ≤ length bytes.now) }
         ensures taken { WriteAppends (contents self.old) (contents self.new) result bytes.now }
         ensures failed { failed self.new ≡ failed_after bytes.now result (failed self.old) };
 
-    /// How many writes failed: those that returned a fault, and those that took none of some bytes. The count stays
-    /// at its greatest value.
+    /// How many writes failed. A write fails if it returns a fault, or if it takes no byte though there are some. The count stops at its
+    /// greatest value.
     fn failures(&self) -> u64
         ensures { result ≡ failed self.now };
 
-    /// Whether it can be written to, as far as this is known before the first byte. Callers ask before long work, so that
-    /// the work is not wasted. Takes nothing. A writer that is not ready counts one more failure; one that cannot tell is ready.
+    /// Whether it can be written to, as far as is known before the first byte. Ask before long work, so that the work is not wasted. Takes
+    /// no byte. If a sink is not ready, it counts one more failure. A sink that cannot know returns true.
     fn is_ready(&mut self) -> bool
         ensures kept { contents self.new ≡ contents self.old }
         ensures ready { result ≡ false → may_be_unready ≡ true }
@@ -71,7 +71,7 @@ impl<W: Write> Model for Counted<W> {
 }
 
 impl<W: Write> Counted<W> {
-    /// A writer with no failed write yet.
+    /// Wraps `inner`. No write has failed yet.
     pub fn new(inner: W) -> Self
         ensures contents { result.contents ≡ W.contents inner }
         ensures failures { result.failures ≡ 0 }
@@ -115,7 +115,7 @@ impl<W: Write> Sink for Counted<W> {
     }
 }
 
-/// Writes all of the bytes. If a write fails, only a beginning of them has been written.
+/// Writes all of `bytes`. If a write fails, it has written only a beginning of them.
 pub fn write_whole<W: Sink>(out: &mut W, bytes: &[u8]) -> Result<(), WriteFault>
     ensures whole { OnOk result (Appends (W.contents out.old) (W.contents out.new) bytes.now) }
     ensures beginning { OnErr result ((n : ℕ) × (n < length bytes.now) ×

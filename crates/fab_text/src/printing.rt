@@ -1,4 +1,4 @@
-//! Numbers as text, appended to a line that is being made.
+//! Appends numbers, as text, to a line.
 
 ghost use Rattle.std.specs.Prelude.{◌≡◌, ◌++◌, decimal, OnOk, OnErr};
 ghost use Rattle.fab_text.specs.Fixed.{fixed3, fixed4};
@@ -6,7 +6,7 @@ ghost use Rattle.fab_text.specs.Fixed.{fixed3, fixed4};
 use itoa::Buffer;
 use std::alloc::AllocError;
 
-/// Appends the decimal digits of a number, without leading zeros. If memory runs out, nothing changes.
+/// Appends the decimal digits of `n`, without leading zeros. If memory runs out, nothing changes.
 pub fn push_number(out: &mut Vec<u8>, n: u64) -> Result<(), AllocError>
     ensures ok { OnOk result (out.new.items ≡ out.old.items ++ decimal n) }
     ensures err { OnErr result (out.new.items ≡ out.old.items) }
@@ -15,7 +15,7 @@ pub fn push_number(out: &mut Vec<u8>, n: u64) -> Result<(), AllocError>
     out.extend_from_slice(buffer.format(n).as_bytes())
 }
 
-/// Appends a whole number and then some bytes. If memory runs out, nothing changes.
+/// Appends the digits of `whole`, and then `rest`. If memory runs out, nothing changes.
 fn push_parts(out: &mut Vec<u8>, whole: u64, rest: &[u8]) -> Result<(), AllocError>
     ensures ok { OnOk result (out.new.items ≡ out.old.items ++ (decimal whole ++ rest.now)) }
     ensures err { OnErr result (out.new.items ≡ out.old.items) }
@@ -29,8 +29,7 @@ fn push_parts(out: &mut Vec<u8>, whole: u64, rest: &[u8]) -> Result<(), AllocErr
     Ok(())
 }
 
-/// Appends a number of ten-thousandths: its whole part, a point and four digits, such as `6.4968` for
-/// 64968. If memory runs out, nothing changes.
+/// Appends `n` ten-thousandths: the whole part, a point and four digits, such as `6.4968` for 64968. If memory runs out, nothing changes.
 pub fn push_fixed4(out: &mut Vec<u8>, n: u64) -> Result<(), AllocError>
     ensures ok { OnOk result (out.new.items ≡ out.old.items ++ fixed4 n) }
     ensures err { OnErr result (out.new.items ≡ out.old.items) }
@@ -45,8 +44,7 @@ pub fn push_fixed4(out: &mut Vec<u8>, n: u64) -> Result<(), AllocError>
     push_parts(out, n / 10_000, &rest)
 }
 
-/// Appends a number of thousandths: its whole part, a point and three digits, such as `1.680` for 1680.
-/// If memory runs out, nothing changes.
+/// Appends `n` thousandths: the whole part, a point and three digits, such as `1.680` for 1680. If memory runs out, nothing changes.
 pub fn push_fixed3(out: &mut Vec<u8>, n: u64) -> Result<(), AllocError>
     ensures ok { OnOk result (out.new.items ≡ out.old.items ++ fixed3 n) }
     ensures err { OnErr result (out.new.items ≡ out.old.items) }

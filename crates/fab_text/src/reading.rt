@@ -1,5 +1,4 @@
-//! The lines of a text, one after the other, without a copy of its bytes: the reader that every input
-//! format is built on.
+//! Reads the lines of a text one after the other, without a copy of its bytes. The readers of all input formats use it.
 
 ghost use Rattle.std.specs.Prelude.{◌≡◌, ℕ, List, ◌+◌, ◌-◌, ◌++◌, ◌∷◌, [], ◌≤◌, ◌<◌, length, map, take, drop, slice_range, position, IfOk, OnOk, OnErr, IfSome, IfNone, if◌then◌else◌};
 ghost use Rattle.std.specs.List.{before_first};
@@ -48,7 +47,7 @@ fn line_feed_place(rest: &[u8]) -> Option<usize>
     rest.iter().position(|byte| *byte == b'\n')
 }
 
-/// The first physical line of a text that is not empty, and how many bytes it takes, its line feed included.
+/// The first physical line of `rest`, which is not empty, and how many bytes it takes with its line feed.
 fn plain_line(rest: &[u8]) -> (&[u8], usize)
     requires { 0 < length rest.now }
     ensures line { result.0.now ≡ before_first is_line_feed rest.now }
@@ -65,7 +64,7 @@ fn plain_line(rest: &[u8]) -> (&[u8], usize)
     }
 }
 
-/// The same, and what stands in the line before its first `#`.
+/// The same as `plain_line`, and also the part of the line before its first `#`.
 fn first_line(rest: &[u8]) -> (&[u8], usize, &[u8])
     requires { 0 < length rest.now }
     ensures line { result.0.now ≡ before_first is_line_feed rest.now }
@@ -88,8 +87,8 @@ fn first_line(rest: &[u8]) -> (&[u8], usize, &[u8])
     (line, taken, before)
 }
 
-/// Whether the next line continues a physical line, and how many of its first bytes hold its words. `before` is what stands before its
-/// first `#`.
+/// `before` is the part of a physical line before its first `#`. Returns whether the next line continues that line, and how many of its
+/// first bytes hold its words.
 fn kept_len(before: &[u8]) -> (bool, usize)
     ensures continued { (line : List ℕ) → before.now ≡ before_first is_hash line →
         result.0 ≡ is_continued (content line) }
@@ -106,10 +105,10 @@ fn kept_len(before: &[u8]) -> (bool, usize)
     }
 }
 
-// The most words that room is made for before they are found.
+// Memory for at most this many words is reserved before the words are found.
 const MOST_ROOM: usize = 64;
 
-// The most words whose room is used for the next line, too.
+// The memory of a line is used again for the next one, unless it has room for more words than this.
 const MOST_KEPT: usize = 256;
 
 /// The words found so far, each as bytes and as a place in the text.
@@ -132,7 +131,7 @@ impl<'a> Gathered<'a> {
         }
     }
 
-    /// Nothing yet, in the room of a line that nobody needs any more. Much room is given back.
+    /// No words yet. Uses the memory of `line`, which is no longer needed, unless it has room for more than `MOST_KEPT` words.
     fn in_room_of(alloc: Global, text: &'a [u8], line: Option<Line<'a>>) -> Self
         ensures { (result.text.now ≡ text.now) × (result.spans.items ≡ []) }
     {
@@ -168,8 +167,8 @@ impl<'a> Gathered<'a> {
         Ok(())
     }
 
-    /// Makes room for the words of so many bytes at once. The guess is a word for each three bytes, and at most 64: beyond these the room
-    /// grows with the words.
+    /// Reserves memory at once for the words of `bytes` bytes. The guess is a word for each three bytes, and at most 64 words. If there are
+    /// more words, the memory grows with them.
     fn reserve(&mut self, bytes: usize) -> Result<(), AllocError>
         ensures text { self.new.text.now ≡ self.old.text.now }
         ensures spans { self.new.spans.items ≡ self.old.spans.items }
@@ -179,7 +178,7 @@ impl<'a> Gathered<'a> {
         self.spans.reserve(room)
     }
 
-    /// Adds the words between two places.
+    /// Adds the words of the bytes from place `from` up to but not including `to`.
     fn push_words(&mut self, from: usize, to: usize) -> Result<(), AllocError>
         requires order { from ≤ to }
         requires within { to ≤ length self.old.text.now }
@@ -209,7 +208,7 @@ impl<'a> Gathered<'a> {
         Ok(())
     }
 
-    /// Adds the words of the physical line at a place. Returns whether the next line continues it, and where that line begins.
+    /// Adds the words of the physical line at place `at`. Returns whether the next line continues it, and where the next line begins.
     fn push_physical(&mut self, at: usize) -> Result<(bool, usize), AllocError>
         requires { at < length self.old.text.now }
         ensures text { self.new.text.now ≡ self.old.text.now }
@@ -224,8 +223,8 @@ impl<'a> Gathered<'a> {
     }
 }
 
-/// The whole line at a place before the end: its words, where the next line begins, and that line's number. The words are put where none
-/// are yet.
+/// The whole line at place `at`, which is before the end: its words, where the next line begins, and the number of that line. The words are
+/// put into `empty`.
 fn read_joined<'a>(
     empty: Gathered<'a>,
     text: &'a [u8],
@@ -254,8 +253,7 @@ fn read_joined<'a>(
     }
 }
 
-/// The first line with words from a place on, and where the rest begins, with the number of the line there. The words are put where none
-/// are yet.
+/// The first line with words from place `at` on, where the rest begins, and the number of the line there. The words are put into `empty`.
 fn next_line<'a>(
     empty: Gathered<'a>,
     text: &'a [u8],
@@ -332,7 +330,7 @@ impl<'a> Lines<'a> {
         }
     }
 
-    /// Takes the next line; `None` after the last one. If memory runs out, nothing changes.
+    /// Takes the next line, or returns `None` after the last one. If memory runs out, nothing changes.
     pub fn next(&mut self) -> Result<Option<Line<'a>>, AllocError>
         ensures some { IfOk result (λ r. IfSome r (λ line. self.old ≡ shown line ∷ self.new)) }
         ensures none { IfOk result (λ r. IfNone r ((self.old ≡ []) × (self.new ≡ []))) }
@@ -341,8 +339,8 @@ impl<'a> Lines<'a> {
         self.next_in_room_of(None)
     }
 
-    /// Takes the next line as [`Lines::next`] does. It uses the room of a line that nobody needs any more, so that few lines need
-    /// memory of their own.
+    /// Takes the next line as [`Lines::next`] does. It uses the memory of `done`, a line that is no longer needed, so that few lines
+    /// allocate.
     pub fn next_in_room_of(
         &mut self,
         done: Option<Line<'a>>,
@@ -359,7 +357,7 @@ impl<'a> Lines<'a> {
     }
 }
 
-/// The law that the words of a line are the longest runs without separators, whatever the text.
+/// The law that the words of a line are the longest runs without separators, for every text.
 pub fn words_are_greatest_runs()
     ensures separators { SeparatorsPassed }
     ensures runs { RunsAreWords }

@@ -12,7 +12,7 @@ use Rattle.vplace.specs.declared.requests.WordFault.TheVariants.{SizeInPart, Sto
 use Rattle.vplace.specs.declared.requests.PlaceWords.{PlaceWords}
 use Rattle.vplace.specs.declared.requests.ResumeWords.{ResumeWords}
 
--- the requested size of the array: both numbers give one, and without both none is requested; one number alone is refused
+-- the requested size of the array: two numbers give one, and no number requests none. One number alone is refused
 abbrev pub size_asked : Option ℕ → Option ℕ → Option (Option (ℕ × ℕ))
 size_asked (Some nx) (Some ny) = Some (Some (nx, ny))
 size_asked None None = Some None
@@ -24,7 +24,7 @@ columns_alone = refl
 pub no_size : size_asked None None ≡ Some None
 no_size = refl
 
--- the requested stop: a stop with a save name gives one, and without both none is requested; one of them alone is refused
+-- the requested stop: a stop with a save name gives one. Without both, no stop is requested. One of them alone is refused
 abbrev pub stop_asked : {A : Type 0} → Option ℕ → Option A → Option (Option ℕ)
 stop_asked (Some stop) (Some save) = Some (Some stop)
 stop_asked None None = Some None

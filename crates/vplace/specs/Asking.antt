@@ -17,7 +17,7 @@ use Rattle.vplace.specs.Given.{AreGivenBy, AreGivenToCheck, AreGivenToResume}
 abbrev pub subcommand : List (List ℕ) → Option (Text × List Row)
 subcommand words = subcommand_of vplace (shown_after_name words)
 
--- the kinds of what the parser says about the words, by the first thing that is wrong with them or asks for help; none if they are right
+-- the kinds of the parser's message about the words, by the first thing that is wrong with them or asks for help; none if they are right
 abbrev pub faults : List (List ℕ) → Kinds
 faults words = fault_of vplace (shown_after_name words)
 
@@ -29,7 +29,7 @@ AskForHelp words = IsAmong DisplayHelp (faults words) ⊎ IsAmong DisplayVersion
 abbrev pub AskForHelpAlone : List (List ℕ) → Type 0
 AskForHelpAlone words = (words ≡ [] → ⊥) × ((faults words ≡ DisplayHelp ∷ []) ⊎ (faults words ≡ DisplayVersion ∷ []))
 
--- a text that was asked for was told, unless memory ran out or the output failed
+-- a text that was asked for was printed, unless memory ran out or the output failed
 abbrev pub IsServed : Status → ℕ → ℕ → Type 0
 IsServed status failed_old failed_new = (status ≡ Done) ⊎ ((status ≡ NoMemory) ⊎ ((status ≡ Device) × (failed_new ≡ grown failed_old)))
 
@@ -44,8 +44,8 @@ IsAskedBy used (Check names) = (rows : List Row) × (used ≡ Some (codes "check
 IsAskedBy used (Place words) = (rows : List Row) × (used ≡ Some (codes "place", rows)) × AreGivenBy rows words
 IsAskedBy used (Resume words) = (rows : List Row) × (used ≡ Some (codes "resume", rows)) × AreGivenToResume rows words
 
--- The words after the program's name ask for this: no words for the check of the built-in example; words that are right for what their
--- subcommand and its options say.
+-- The words after the program's name ask for this. No words ask for the check of the built-in example. Words that are right ask for what
+-- their subcommand and its options give.
 abbrev pub Asks : List (List ℕ) → Asked → Type 0
 Asks words Example = words ≡ []
 Asks words asked = (faults words ≡ []) × IsAskedBy (subcommand words) asked

@@ -17,8 +17,8 @@ letter_of byte = if nat_lt byte 128 then byte else 1113856 + byte
 abbrev pub is_stand_in : ℕ → Bool
 is_stand_in letter = nat_le 1113984 letter
 
--- A word as the parser is shown it. A word that is UTF-8 is shown as it is, unless one of its letters is such a letter; of any other word each
--- byte is shown as a letter.
+-- A word as the parser sees it. A word that is UTF-8 is shown as it is, unless one of its letters stands for a byte. In any other word,
+-- each byte is shown as a letter.
 abbrev pub shown : List ℕ → Text
 shown word = if is_utf8 word && not (list_any is_stand_in (chars word)) then word else encode_utf8_all (map letter_of word)
 
@@ -30,7 +30,7 @@ bytes_of letter = if is_stand_in letter then (letter - 1113856) ∷ [] else enco
 abbrev pub word_of : Text → List ℕ
 word_of text = flat_map bytes_of (chars text)
 
--- the words of a command line as the parser is shown them: after the program's name
+-- the words of a command line as the parser sees them: after the program's name
 abbrev pub shown_after_name : List (List ℕ) → List Text
 shown_after_name words = codes "vplace" ∷ map shown words
 

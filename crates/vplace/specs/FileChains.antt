@@ -44,8 +44,8 @@ pub record Finds (c : ResumeCall) (arch_text net_text saved : Option (List ℕ))
   pub net : c.before c.words.net.items ≡ net_text
   pub point : c.before c.words.point.items ≡ saved
 
--- calls after one that ended like this and saved this: each finds the architecture and the netlist of the run, and what the call before it
--- saved when it stopped; the last one finished
+-- calls after one that had this ending and saved this. Each finds the architecture and the netlist of the run, and what the call before it
+-- saved when it stopped. The last one finished
 abbrev pub AreBehind : Option (List ℕ) → Option (List ℕ) → Ending → Option (List ℕ) → List ResumeCall → Type 0
 AreBehind arch net Finished saved [] = Unit {0}
 AreBehind arch net (Stopped q) saved [] = ⊥

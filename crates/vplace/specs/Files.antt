@@ -21,8 +21,8 @@ Lacks (Some held) name = held name ≡ None
 abbrev pub Shut : Type 0
 Shut = List ℕ → Bool
 
--- no bytes can be put at the name; nothing is claimed if such names are not known, like those of the system
--- (it is true of every name if they are not known, so that an answer which says so claims nothing)
+-- no bytes can be put at the name. If such names are not known, like those of the system, this is true of every name, so that an answer
+-- which says so claims nothing
 abbrev pub is_shut : Option Shut → List ℕ → Bool
 is_shut None name = true
 is_shut (Some shut) name = shut name

@@ -1,4 +1,4 @@
--- How a piece of a run with a stop ends, as far as its schedule tells before the first move (our own).
+-- How a piece of a run with a stop ends, as far as its schedule determines that before the first move (our own).
 use Rattle.std.specs.Prelude.{ℕ, Bool, true, false, ◌≡◌, ◌+◌, ◌*◌, ◌||◌, nat_lt, nat_le, if◌then◌else◌, Option, Some, None, refl}
 use Rattle.fab_sched.specs.declared.schedules.Cooling.{Cooling}
 use Rattle.fab_sched.specs.declared.schedules.Cooling.TheVariants.{Factor, Adaptive}
@@ -41,7 +41,7 @@ may_leave Finishes Point = false
 may_leave Stops Place = false
 may_leave f role = true
 
--- how a run ends as far as it is known by what it keeps; a run without a stop keeps nothing, and finishes
+-- how a run ends, as far as what it keeps shows that. A run without a stop keeps nothing, and finishes
 abbrev pub forecast_in : Option Kept → Forecast
 forecast_in None = Finishes
 forecast_in (Some k) = k.forecast

@@ -20,7 +20,7 @@ IsNumberOf bits given (Some n) = (text : List ℕ) × (given ≡ Some text) × I
 abbrev pub GivesNumber : ℕ → List Row → List ℕ → Option ℕ → Type 0
 GivesNumber bits rows option n = IsNumberOf bits (one_of option rows) n
 
--- the number in the row of an option that has a default, where the parser puts the default if none is given; 0 only if the row has no
+-- the number in the row of an option that has a default. The parser puts the default there if none is given. 0 only if the row has no
 -- number
 abbrev pub GivesDefault : List Row → List ℕ → ℕ → Type 0
 GivesDefault rows option n = (given : Option ℕ) × GivesNumber 64 rows option given × (n ≡ unwrap_or given 0)

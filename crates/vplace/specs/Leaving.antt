@@ -21,7 +21,7 @@ use Rattle.vplace.specs.Files.{Held, IsShut, Puts, Shut}
 use Rattle.vplace.specs.Forecasts.{may_leave}
 use Rattle.vplace.specs.Said.{report_line, unwritable_line}
 
--- the name that a checkpoint goes to: the save name, which is given wherever a run can stop
+-- the name that a checkpoint goes to: the save name, which is given if a run can stop
 abbrev pub save_or_out : List ℕ → Option (List ℕ) → List ℕ
 save_or_out out (Some save) = save
 save_or_out out None = out
@@ -62,7 +62,7 @@ no_plan = plan_for [] None Finishes None
 abbrev pub IsShutFor : OutPlan → OutRole → Type 0
 IsShutFor p role = (may_leave p.forecast role ≡ true) × IsShut p.shut (name_for p.out p.save role)
 
--- a file that the run may leave by its forecast cannot be written, and that is what is said
+-- a file that the run may leave by its forecast cannot be written, and that is printed
 abbrev pub IsTriedInVain : (Forecast → Type 0) → List ℕ → Option (List ℕ) → Option Shut → (List ℕ → Type 0) → Type 0
 IsTriedInVain IsOf out save shut Said =
     (f : Forecast) × IsOf f × (role : OutRole) × IsShutFor (plan_for out save f shut) role × Said (unwritable_line role)
@@ -72,13 +72,13 @@ abbrev pub role_by : Ending → OutRole
 role_by Finished = Place
 role_by (Stopped q) = Point
 
--- what a run left cannot be put at its name, and that is what is said
+-- what a run left cannot be put at its name, and that is printed
 abbrev pub IsPutInVain : (Answer → List ℕ → Type 0) → List ℕ → Option (List ℕ) → Option Shut → (List ℕ → Type 0) → Type 0
 IsPutInVain IsAnswer out save shut Said =
     (a : Answer) × (place : List ℕ) × IsAnswer a place × IsShut shut (name_for out save (role_by a.ending)) × Said (unwritable_line (role_by a.ending))
 
--- a device failed in a run, and that is what is said: the report's writer; or a name that the run may need by its forecast; or the name of
--- what it left. When a name was tried no clause says
+-- a device failed in a run, and that is printed: the report's writer; or a name that the run may need by its forecast; or the name of what
+-- it left. No clause says when a name was tried
 abbrev pub IsDeviceTold : (Forecast → Type 0) → (Answer → List ℕ → Type 0) → List ℕ → Option (List ℕ) → Option Shut → ℕ → ℕ → (List ℕ → Type 0) → Type 0
 IsDeviceTold IsOf IsAnswer out save shut failed_old failed_new Said =
     ((failed_new ≡ grown failed_old) × Said report_line)

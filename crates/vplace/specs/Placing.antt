@@ -22,7 +22,7 @@ abbrev pub AreTextsUnread : Option Held → List ℕ → List ℕ → Status →
 AreTextsUnread held arch net status Said =
     IsUnread held Arch arch status Said ⊎ (((text : List ℕ) × Gives held arch text) × IsUnread held Net net status Said)
 
--- a file of a check was not read: the first of architecture, netlist and placement of which this is so
+-- a file of a check was not read: the first unread one of architecture, netlist and placement
 abbrev pub IsCheckUnread : Option Held → CheckNames → Status → (List ℕ → Type 0) → Type 0
 IsCheckUnread held n status Said =
     AreTextsUnread held n.arch.items n.net.items status Said
@@ -52,7 +52,7 @@ abbrev pub IsPadsUnread : Option Held → Option (List ℕ) → Status → (List
 IsPadsUnread held None status Said = ⊥
 IsPadsUnread held (Some name) status Said = IsUnread held Pads name status Said
 
--- a file of a run was not read: the first of architecture, netlist and location file of which this is so
+-- a file of a run was not read: the first unread one of architecture, netlist and location file
 abbrev pub AreUnread : Option Held → PlaceWords → Status → (List ℕ → Type 0) → Type 0
 AreUnread held w status Said =
     AreTextsUnread held w.arch.items w.net.items status Said

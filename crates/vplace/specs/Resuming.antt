@@ -26,7 +26,7 @@ pub record AreNamedToResume (held : Option Held) (w : ResumeWords) (t : Texts) (
   pub net_label : t.net_label ≡ w.net.items
   pub arch_label : t.arch_label ≡ w.arch.items
 
--- a file of a resumed run was not read: the first of architecture, netlist and checkpoint of which this is so
+-- a file of a resumed run was not read: the first unread one of architecture, netlist and checkpoint
 abbrev pub AreUnreadToResume : Option Held → ResumeWords → Status → (List ℕ → Type 0) → Type 0
 AreUnreadToResume held w status Said =
     AreTextsUnread held w.arch.items w.net.items status Said

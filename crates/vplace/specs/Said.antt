@@ -1,4 +1,4 @@
--- What is said on standard error (our own).
+-- What is printed on standard error (our own).
 use Rattle.std.specs.Prelude.{ℕ, ◌≡◌, ◌<◌, ◌⊎◌, List, ◌++◌, Option, Some, codes, length, refl}
 use Rattle.std.specs.Io.KnownBytes.{Appends}
 use Rattle.fab_text.specs.Failures.{grown}
@@ -27,7 +27,7 @@ use Rattle.vplace.specs.declared.requests.WordFault.TheVariants.{SizeInPart, Sto
 abbrev pub IsSaid : List ℕ → Option (List ℕ) → Option (List ℕ) → ℕ → ℕ → Type 0
 IsSaid line old new failed_old failed_new = Appends old new (line ++ codes "\n") ⊎ (failed_new ≡ grown failed_old)
 
--- something was said: a text that is not empty was written, unless the writer failed
+-- something was printed: a text that is not empty was written, unless the writer failed
 abbrev pub IsFaultSaid : Option (List ℕ) → Option (List ℕ) → ℕ → ℕ → Type 0
 IsFaultSaid old new failed_old failed_new = (text : List ℕ) × (0 < length text) × (Appends old new text ⊎ (failed_new ≡ grown failed_old))
 
@@ -52,20 +52,20 @@ abbrev pub unwritable_line : OutRole → List ℕ
 unwritable_line OutPlace = codes "vplace: cannot write place"
 unwritable_line OutPoint = codes "vplace: cannot write point"
 
--- a file of this role and name was not read, and that is what is said: no file has the name, or memory ran out
+-- a file of this role and name was not read, and that is printed: no file has the name, or memory ran out
 abbrev pub IsUnread : Option Held → Role → List ℕ → Status → (List ℕ → Type 0) → Type 0
 IsUnread held role name status Said =
     ((status ≡ Device) × Lacks held name × Said (unreadable_line role)) ⊎ ((status ≡ NoMemory) × Said no_memory_line)
 
--- what is said of a run that gave no answer: that memory ran out (for the run, its place text, a place at a name, or the line of its fault);
--- for a place text whose writer failed otherwise, which name was refused; for any other fault its line
+-- what is printed of a run that gave no answer. If memory ran out (for the run, its place text, a place at a name, or the line of its
+-- fault), it is that. If the writer of the place text failed otherwise, it is which name was refused. For any other fault it is its line
 abbrev pub IsFaultTold : RunFault → Option Refusal → List ℕ → Status → (List ℕ → Type 0) → Type 0
 IsFaultTold fault refusal net status Said =
     ((status ≡ NoMemory) × Said no_memory_line)
     ⊎ (((fault ≡ RunPlace Write) × (status ≡ Device) × (x : Refusal) × (refusal ≡ Some x) × (x.fault ≡ Unwritable) × Said (unwritable_line x.role))
     ⊎ ((fault ≡ RunPlace Write → ⊥) × (status_of fault ≡ NoMemory → ⊥) × (status ≡ status_of fault) × Said (fault_line fault net)))
 
--- a run or a check was refused for a fault of its inputs, and its line is what is said
+-- a run or a check was refused for a fault of its inputs, and the line of the fault is printed
 abbrev pub IsToldRefusal : (RunFault → Type 0) → List ℕ → Status → (List ℕ → Type 0) → Type 0
 IsToldRefusal IsFault net status Said = (fault : RunFault) × IsFault fault × (status_of fault ≡ status) × Said (fault_line fault net)
 

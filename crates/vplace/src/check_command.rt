@@ -51,7 +51,7 @@ pub fn check_files<F: NamedFiles, O: Sink, E: Sink>(
         (sites : List Site) → F.held files.now ≡ Some h →
         AreGiven (Some h) names.now arch net place → AreChecked arch net place d g sites →
         (result ≡ Status.Done) ⊎ ((result ≡ Status.NoMemory) ⊎ (result ≡ Status.Device)) }
-    // The status is that of a device only if a file is not there; or if all checks passed, and the report's writer failed.
+    // The status is that of a device only if a file is not there, or if all checks passed and the report's writer failed.
     ensures device { result ≡ Status.Device →
         IsCheckUnread (F.held files.now) names.now result (λ line.
         IsSaid line (E.contents err.old) (E.contents err.new) (E.failed err.old)
@@ -100,8 +100,8 @@ pub fn check_files<F: NamedFiles, O: Sink, E: Sink>(
     )
 }
 
-/// Checks a placement whose texts have all been read. If they mean a design, an array and a legal placement, the report is written; else
-/// one line about the first check that fails goes to standard error.
+/// Checks a placement whose texts have all been read. If they mean a design, an array and a legal placement, writes the report. Otherwise
+/// prints one line on standard error about the first check that fails.
 pub fn check_texts<O: Sink, E: Sink>(
     alloc: Global,
     arch: &[u8],

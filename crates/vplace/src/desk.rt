@@ -1,5 +1,5 @@
-//! For tests: a small design in memory of two pads and one logic block, whose every move finds its block's own site; with its files, and
-//! runs of the program on them.
+//! For tests: a small design in memory, its files, and runs of the program on them. The design has two pads and one logic block; every move
+//! finds its block's own site.
 
 ghost use Rattle.std.specs.Prelude.{Some, [], ◌∷◌, option_map, codes};
 ghost use Rattle.vplace.specs.Files.{shut_but, text_among};
@@ -90,8 +90,8 @@ pub const WORDS: [&[u8]; 17] = [
 
 /// The files of the design, and `u.net`, a netlist whose second net has no driver. Bytes that are put at `t.place` and at `t.point` are
 /// kept. Two more names can be reserved: for `late` the disk is full when the bytes come, and for `huge` memory has run out by then. No
-/// other name can; `none` runs out of memory. A name stands on the right of each comparison, as in the definitions, so that the proof
-/// search needs no lemma.
+/// other name can be reserved; for `none` memory runs out. A name stands on the right of each comparison, as in the definitions, so that
+/// the proof search needs no lemma.
 #[derive(Drop)]
 pub struct Desk {
     arch: &'static [u8],
@@ -232,7 +232,7 @@ pub fn run(
     run_on(rt, Desk::new(rt.alloc(), None), words, 100_000)
 }
 
-/// The same on these files, with an output that takes `room` bytes.
+/// The same, on `files`, with an output that takes `room` bytes.
 pub fn run_on(
     rt: &(impl AllocGlobal + Threads + Wait + Sync),
     mut desk: Desk,

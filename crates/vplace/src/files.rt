@@ -29,7 +29,7 @@ pub enum WriteFault {
 }
 
 impl WriteFault {
-    /// The fault that an error of the system is reported as: want of memory as itself, any other as one of the file.
+    /// The fault as which an error of the system is reported: a lack of memory as such, any other error as a fault of the file.
     pub fn of(error: &Error) -> Self
         ensures { (result ≡ NoMemory) ↔ (error_kind error.now ≡ OutOfMemory) }
     {
@@ -54,7 +54,7 @@ pub trait NamedFiles {
     /// The name that a place was reserved for.
     ghost name_of: { Self.Outlet → List ℕ };
 
-    /// All bytes of a file.
+    /// Reads all bytes of a file.
     fn read(&self, alloc: Global, name: &[u8]) -> Result<Vec<u8>, ReadFault>
         ensures gives { IfOk result (λ bytes. Gives (held self.now) name.now bytes.items) }
         ensures lacks { IfErr result (λ fault.

@@ -34,26 +34,26 @@ const NAME: &str = "vplace";
 
 const VERSION: &str = "1.0.0";
 
-const ABOUT: &str =
-    "Place FPGA designs by simulated annealing, after VPR 4.30, and check placements";
+const ABOUT: &str = "Place FPGA designs by simulated annealing, after VPR 4.30; check placements";
 
-const AFTER: &str =
-    "Without a command, vplace checks a built-in example of four blocks on a 3 x 3 array.
-A run of `place` can stop early and write a checkpoint, from which `resume` goes on.
+const AFTER: &str = "Without a command, vplace checks a built-in example of four blocks on a 3 x 3
+array. A run of `place` can stop early and write a checkpoint, from which
+`resume` goes on.
 
 Exit status:
   0  done
-  1  a file or the size of the array is refused, or the design does not fit on it
+  1  a file or the size of the array is refused, or the design does not fit
   2  the command line is wrong, or one of its other numbers is out of range
   3  memory ran out
-  4  a file cannot be read, or the report, the out file or the save file cannot be written";
+  4  a file cannot be read, or the report or a file cannot be written";
 
 const CHECK_ABOUT: &str = "Check a placement: legal or not, and its wire cost";
 
 const CHECK_AFTER: &str =
-    "A placement is legal if each block of the netlist is on a site of its kind, and no two blocks are on one site.
-Prints two lines, `legal B blocks on a NX x NY array` and `cost C`, or one line on standard error that
-names the first fault, such as `vplace: place: P8 Missing block 3`.
+    "A placement is legal if each block of the netlist is on a site of its kind, and
+no two blocks are on one site. Prints two lines, `legal B blocks on a NX x NY
+array` and `cost C`, or one line on standard error that names the first fault,
+such as `vplace: place: P8 Missing block 3`.
 
 Example:
   vplace check --arch c880_ble.arch --net c880_ble.net --place c880_ble.place";
@@ -65,7 +65,7 @@ const CHECK_OPTIONS: [OptionRow; 3] = [
     (
         "place",
         Takes::NeededFile,
-        "The placement: the size of the array, and the site of each block",
+        "The placement: the array, and the site of each block",
     ),
 ];
 
@@ -83,7 +83,7 @@ fn vplace_command<'a>(alloc: Global) -> Result<Command<'a>, AllocError>
 {
     Command::new(alloc, NAME)
         .version(VERSION)
-        // Words without a command are wrong; no words at all are not.
+        // Words without a command are wrong. No words at all are right.
         .subcommand_required(true)
         .override_usage("vplace [COMMAND]")
         .about(ABOUT)
@@ -131,7 +131,8 @@ fn asked_for(alloc: Global, matches: &ArgMatches<'_>) -> Result<Asked, AllocErro
     }
 }
 
-/// What the words ask for; else what to say about them. No words ask for the check of the built-in example.
+/// What the words ask for. An error is what to print about wrong words, or the requested help. No words ask for the check of the built-in
+/// example.
 pub fn parse_words(alloc: Global, words: &[Vec<u8>]) -> Result<Asked, Error>
     ensures example { words.now ≡ [] → result ≡ Ok Example }
     ensures asked { IfOk result (Asks (map (λ word. word.items) words.now)) }

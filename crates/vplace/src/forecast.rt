@@ -1,4 +1,4 @@
-//! How a run with a stop ends, as far as its schedule tells before the first move.
+//! How a run with a stop ends, as far as its schedule determines that before the first move.
 
 ghost use Rattle.std.specs.Prelude.{◌≡◌, ◌≤◌, ◌<◌, ℕ, MatchResult};
 ghost use Rattle.fab_commit.specs.Run.Points.{done_at};
@@ -10,14 +10,14 @@ use crate::messages::OutRole;
 use fab_run::{Moves, Options, Point};
 use fab_sched::{Cooling, SchedFault, Schedule, moves_of};
 
-/// How a piece of a run ends, as far as its schedule tells before the first move.
+/// How a piece of a run ends, as far as its schedule determines that before the first move.
 #[derive(Clone, Copy, Debug, PartialEq, Eq)]
 pub enum Forecast {
-    /// It makes the last move: it meets no stop before that.
+    /// It makes the last move, and meets no stop before that.
     Finishes,
     /// It stops while moves are left.
     Stops,
-    /// One of the two: how many moves there are depends on how many are accepted.
+    /// Either: how many moves there are depends on how many are accepted.
     Either,
 }
 
@@ -33,8 +33,9 @@ impl Forecast {
     }
 }
 
-/// The forecast of a piece that begins after `done` moves of a run by this schedule. A stop that lies before its beginning has no effect on
-/// it. With a factor, the schedule alone determines how many moves a run has; else it tells the most that there can be.
+/// The forecast of a piece that begins after `done` moves of a run by this schedule. A stop before the beginning of the piece has no effect
+/// on it. With a factor, the schedule alone determines how many moves a run has. If it is adaptive, it gives the most moves that there can
+/// be.
 pub fn forecast_for(schedule: &Schedule, done: u64, stop: Option<u64>) -> Forecast
     ensures { IsForecast schedule.now done stop result }
 {
@@ -52,7 +53,7 @@ pub fn forecast_for(schedule: &Schedule, done: u64, stop: Option<u64>) -> Foreca
     }
 }
 
-/// The schedule that the options ask for, of a design with this many blocks. An error if a number is out of its limits.
+/// The schedule that the options ask for, for a design with `blocks` blocks. An error means that a number is outside its limits.
 pub fn schedule_by(options: &Options, blocks: usize) -> Result<Schedule, SchedFault>
     requires { blocks ≤ 65535 }
     ensures only { (p : Plan) → IsAskedPlan options.now blocks p → IsLawful p →

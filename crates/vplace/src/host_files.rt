@@ -1,5 +1,5 @@
-//! The files of the system. A plain file is written to a part file next to it (`NAME.vplace-part`), which then replaces it, so that neither
-//! a full disk nor a kill damages the old file. Where that is not possible, the file itself is written.
+//! The files of the system. To write a plain file, the program writes a part file next to it (`NAME.vplace-part`), which then replaces it.
+//! So neither a full disk nor a kill damages the old file. If that is not possible, the file itself is written.
 
 ghost use Rattle.std.specs.Prelude.{◌≡◌, None, IfOk};
 ghost use Rattle.std.specs.Io.KnownBytes.{Appends};
@@ -14,7 +14,7 @@ use std::{fs, str};
 // How many names are tried for a temporary file.
 const MOST_BESIDE: u32 = 100;
 
-// How often a file is looked at while memory is short, before a run gives up.
+// How often the program looks at a file while memory is short, before it gives up.
 const MOST_LOOKS: u32 = 3;
 
 // How many symbolic links are followed, as in Linux.
@@ -68,7 +68,7 @@ impl NamedFiles for HostFiles<'_> {
 
     ghost name_of = { λ outlet. outlet.name.items };
 
-    /// The library opens files only by names that are text; a file with another name is not read.
+    /// The library opens files only by names that are text. A file with another name is not read.
     fn read(&self, _alloc: Global, name: &[u8]) -> Result<Vec<u8>, ReadFault> {
         let Ok(name) = str::from_utf8(name) else {
             return Err(ReadFault::Unreadable);
@@ -108,7 +108,7 @@ impl NamedFiles for HostFiles<'_> {
     }
 }
 
-/// Writes all of the bytes, and returns the writer only if that succeeds. A write that a signal interrupts is made again.
+/// Writes all of the bytes, and returns the writer only if that succeeds. A write that a signal interrupts is retried.
 fn written<W: Write + Drop>(mut out: W, bytes: &[u8]) -> Result<W, WriteFault>
     ensures whole { IfOk result (λ w. Appends (W.contents out) (W.contents w) bytes.now) }
 {
@@ -118,8 +118,8 @@ fn written<W: Write + Drop>(mut out: W, bytes: &[u8]) -> Result<W, WriteFault>
     }
 }
 
-// Waits until the bytes of a file are on its disk. Pipes, most devices and some file systems cannot sync, and the system answers
-// `InvalidInput`: that is no fault.
+// Waits until the bytes of a file are on its disk. Pipes, most devices and some file systems cannot sync. Then the system returns
+// `InvalidInput`, which is no fault.
 fn synced(file: File) -> Result<(), WriteFault> {
     match file.sync_all() {
         Err(error) if error.kind() != ErrorKind::InvalidInput => Err(WriteFault::of(&error)),
@@ -127,7 +127,7 @@ fn synced(file: File) -> Result<(), WriteFault> {
     }
 }
 
-// Whether the name is that of an open file of a process, which /dev/stdout leads to. Its writer may already have put bytes there.
+// Whether the name is that of an open file of a process; /dev/stdout leads to such a name. Its writer may already have put bytes there.
 fn is_open_file(name: &str) -> bool {
     name.starts_with("/dev/fd/") || name.starts_with("/proc/") && name.contains("/fd/")
 }
@@ -204,8 +204,9 @@ impl HostFiles<'_> {
         }
     }
 
-    // Makes a temporary file next to the target, and gives it the group and the mode of what is there before it has a byte. If the folder
-    // takes no new file, or none with so long a name, the target itself is written; if it is not there yet, making it is tried first.
+    // Makes a temporary file next to the target. Before it has a byte, it gets the group and the mode of what is at the target. If the
+    // folder takes no new file, or none with a name of that length, the target itself is written. If the target is not there yet, making it
+    // is tried first.
     fn place_beside(
         &self,
         alloc: Global,
@@ -229,8 +230,8 @@ impl HostFiles<'_> {
         Err(WriteFault::Unwritable)
     }
 
-    // Whether a file of a name that is not there can be made: it is made, and removed again. So a run that could not write it ends before
-    // its first move.
+    // Tests whether a file can be made at a name where there is none: makes it, and removes it again. So a run that could not write it ends
+    // before its first move.
     fn try_new(&self, name: &str) -> Result<(), WriteFault> {
         match self.create(name) {
             Ok(_) => {
@@ -258,8 +259,8 @@ impl HostFiles<'_> {
             }
         };
         if let Some(old) = old {
-            // The group comes first, since a new one may take bits of the mode away. It stays as it is where the user of this run is not in
-            // the old one.
+            // The group comes first, since a new group may take bits of the mode away. The group stays as it is if the user of this run is
+            // not in the old one.
             let _ = fchown(&file, None, Some(old.gid()));
             match file.set_permissions(old.permissions()) {
                 Err(error) if !has_mode_of(&file, &old) => {
@@ -287,7 +288,7 @@ impl HostFiles<'_> {
         }
     }
 
-    // A new file of this name, under a lock; none if another run uses the file that is there, or if something else has the name. A file
+    // A new file of this name, under a lock. `None` if another run uses the file that is there, or if something else has the name. A file
     // that a killed run left is removed first, so that the new one belongs to the user of this run.
     fn fresh(&self, name: &str) -> Result<Option<File>, Error> {
         match self.create(name) {
@@ -361,9 +362,9 @@ impl HostFiles<'_> {
         Err(WriteFault::NoMemory)
     }
 
-    // If the temporary file cannot replace the target (the target is a mount point, or belongs to another user in a sticky folder, or
-    // somebody removed the temporary file), the target itself is written. If memory is short while it is to replace the target, the
-    // temporary file stays: it is whole.
+    // Writes the temporary file, and replaces the target with it. The target itself is written if it cannot be replaced: it is a mount
+    // point, or belongs to another user in a sticky folder, or somebody removed the temporary file. If memory is short when the temporary
+    // file should replace the target, the temporary file stays: it is whole.
     fn replace(&self, beside: Beside, bytes: &[u8]) -> Result<(), WriteFault> {
         let Beside {
             file,
@@ -388,8 +389,8 @@ impl HostFiles<'_> {
         self.overwrite(target.as_str(), bytes)
     }
 
-    // Gives a temporary file the name of its target, if that is one that it may replace. Returns whether it did. An error means that memory
-    // is short.
+    // Gives a temporary file the name of its target, if it may replace what is there. Returns whether it did. An error means that memory is
+    // short.
     fn try_rename(&self, name: &str, target: &str) -> Result<bool, WriteFault> {
         if !self.is_replaceable(target)? {
             return Ok(false);
@@ -465,7 +466,7 @@ fn has_mode_of(file: &File, other: &Metadata) -> bool {
     }
 }
 
-// What is there, if anything can be told of it. An error means that memory is short.
+// What is there, if the system reports it. An error means that memory is short.
 fn there(found: Result<Metadata, Error>) -> Result<Option<Metadata>, WriteFault> {
     match found {
         Ok(found) => Ok(Some(found)),
@@ -474,7 +475,7 @@ fn there(found: Result<Metadata, Error>) -> Result<Option<Metadata>, WriteFault>
     }
 }
 
-// Whether another run holds the lock of a file; if none does, this run takes it. A file system without locks is used without.
+// Whether another run holds the lock of a file. If none does, this run takes it. On a file system without locks, none are used.
 fn is_in_use(file: &File) -> bool {
     matches!(file.try_lock(), Err(TryLockError::WouldBlock))
 }

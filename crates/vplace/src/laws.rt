@@ -12,9 +12,9 @@ pub fn pieces_are_one_run()
     ensures told { UnbrokenCallsAreTold }
 {}
 
-/// The law that a run ends only as it is forecast before its first move: if the forecast of its schedule, beginning and stop is
-/// `Forecast::Finishes`, it finishes, and if that is `Forecast::Stops`, it stops. So each file that a run leaves is one that the forecast
-/// allows (`Forecast::may_leave`). The same holds for a run that goes on from a checkpoint text.
+/// The law that a run ends only as it is forecast before its first move. If the forecast of its schedule, beginning and stop is
+/// `Forecast::Finishes`, it finishes. If the forecast is `Forecast::Stops`, it stops. So each file that a run leaves is one that the
+/// forecast allows (`Forecast::may_leave`). The same holds for a run that goes on from a checkpoint text.
 pub fn forecasts_hold()
     ensures runs { RunsEndAsForecast }
     ensures resumed { ResumedEndAsForecast }

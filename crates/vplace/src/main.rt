@@ -1,4 +1,4 @@
-//! `vplace`, the program: its words, the files that they name, and what is said on the two outputs.
+//! `vplace`, the program: its words, the files that they name, and what is printed on the two outputs.
 #![tactic(auto)]
 
 mod arguments;

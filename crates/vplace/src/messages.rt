@@ -15,7 +15,7 @@ use fab_run::{RunFault, fault_line};
 use fab_text::{Sink, write_whole};
 use std::alloc::{AllocError, Global};
 
-/// Says that memory ran out. If standard error fails too, nobody can be told.
+/// Prints that memory ran out. If standard error fails too, nothing can be reported.
 pub fn no_memory<E: Sink>(err: &mut E) -> Status
     ensures status { result ≡ Status.NoMemory }
     ensures said { IsSaid no_memory_line (E.contents err.old) (E.contents err.new)
@@ -49,7 +49,7 @@ fn unreadable_text(role: Role) -> &'static [u8]
     }
 }
 
-/// Says that the file of a role cannot be read.
+/// Prints that the file of a role cannot be read.
 pub fn unreadable<E: Sink>(err: &mut E, role: Role) -> Status
     ensures status { result ≡ Status.Device }
     ensures said { IsSaid (unreadable_line role) (E.contents err.old) (E.contents err.new)
@@ -61,7 +61,7 @@ pub fn unreadable<E: Sink>(err: &mut E, role: Role) -> Status
     Status::Device
 }
 
-/// Says that the report cannot be written.
+/// Prints that the report cannot be written.
 pub fn unwritable_report<E: Sink>(err: &mut E) -> Status
     ensures status { result ≡ Status.Device }
     ensures said { IsSaid report_line (E.contents err.old) (E.contents err.new) (E.failed err.old)
@@ -82,7 +82,7 @@ pub enum OutRole {
     Point,
 }
 
-/// Says that the file of a role cannot be written.
+/// Prints that the file of a role cannot be written.
 pub fn unwritable<E: Sink>(err: &mut E, role: OutRole) -> Status
     ensures status { result ≡ Status.Device }
     ensures said { IsSaid (unwritable_line role) (E.contents err.old) (E.contents err.new)
@@ -121,7 +121,7 @@ fn word_fault_text(alloc: Global, fault: WordFault) -> Result<String, AllocError
     }
 }
 
-/// Says what is wrong with the words of `place` or of `resume`.
+/// Prints what is wrong with the words of `place` or of `resume`.
 pub fn word_fault<E: Sink>(alloc: Global, err: &mut E, fault: WordFault) -> Status
     ensures status { (result ≡ Status.CommandLine) ⊎ (result ≡ Status.NoMemory) }
     ensures said { ((result ≡ Status.CommandLine) ×
@@ -142,10 +142,10 @@ pub fn word_fault<E: Sink>(alloc: Global, err: &mut E, fault: WordFault) -> Stat
     }
 }
 
-/// Says why a run gave no answer. `net` is the netlist text that the span of a fault refers to. Memory may run out for its line.
+/// Prints why a run gave no answer. `net` is the netlist text that the span of a fault refers to. Memory may run out for the fault's line.
 pub fn run_fault<E: Sink>(alloc: Global, err: &mut E, fault: &RunFault, net: &[u8]) -> Status
     ensures status { (result ≡ status_of fault.now) ⊎ (result ≡ Status.NoMemory) }
-    // The line of the fault was written, or that there was no memory.
+    // The line of the fault was written, or the line that there was no memory.
     ensures said { ((status_of fault.now ≢ Status.NoMemory) × (result ≡ status_of fault.now) ×
         IsSaid (line_of_fault fault.now net.now) (E.contents err.old) (E.contents err.new)
         (E.failed err.old) (E.failed err.new)) ⊎

@@ -1,4 +1,4 @@
-//! The options of a subcommand: what each takes, and what it was given.
+//! The options of a subcommand: what each takes, and which value the words give for it.
 
 ghost use Rattle.std.specs.Prelude.{◌≡◌, IfOk, false, map, option_map};
 ghost use Rattle.clap.specs.Words.{app_of, first_of, found_of, rows_of, rule_of};
@@ -33,7 +33,7 @@ pub type OptionRow = (&'static str, Takes, &'static str);
 pub const ARCH: OptionRow = (
     "arch",
     Takes::NeededFile,
-    "The architecture: pads for each position, and the pins of a logic block",
+    "The architecture: pads and pins of a logic block",
 );
 
 /// The netlist file.
@@ -47,35 +47,35 @@ pub const NET: OptionRow = (
 pub const OUT: OptionRow = (
     "out",
     Takes::NeededFile,
-    "The file for the placement, written when the run is over",
+    "The file for the placement, written at the end",
 );
 
 /// The most moves of a turn.
 pub const BATCH: OptionRow = (
     "batch",
     Takes::Whole(Some("64")),
-    "How many moves are judged ahead at a time, 1 to 4096; the placement does not depend on it",
+    "The moves judged ahead, 1 to 4096",
 );
 
-/// At most how many threads judge moves ahead.
+/// The most threads that judge moves ahead.
 pub const WORKERS: OptionRow = (
     "workers",
     Takes::Whole(Some("4")),
-    "At most how many threads judge moves ahead, 1 to 64; the placement does not depend on it",
+    "The most threads that judge, 1 to 64",
 );
 
 /// After how many moves of the whole run to stop.
 pub const STOP: OptionRow = (
     "stop",
     Takes::Whole(None),
-    "Stop after this many moves of the whole run, if any are left then; with --save",
+    "Stop after this many moves of the run, with --save",
 );
 
 /// The file for the checkpoint of a run that stops.
 pub const SAVE: OptionRow = (
     "save",
     Takes::File,
-    "The file for the checkpoint of a run that stops; with --stop",
+    "The file for the checkpoint, with --stop",
 );
 
 // An option with one value.
@@ -117,7 +117,7 @@ fn option_of<'a>(alloc: Global, name: &'a str, takes: Takes, help: &'a str) -> A
     }
 }
 
-/// A subcommand with these options, which its help shows in this order.
+/// The subcommand `command` with `options`. Its help shows them in this order.
 pub fn with_options<'a>(
     alloc: Global,
     mut command: Command<'a>,
@@ -133,7 +133,7 @@ pub fn with_options<'a>(
     Ok(command)
 }
 
-// The text that an option was given, if it was.
+// The text that was given for an option, if there is one.
 fn given<'a>(matches: &ArgMatches<'a>, option: &str) -> Option<&'a str>
     ensures { option_map (λ text. text.now) result ≡
         first_of option.now (rows_of (found_of matches.now)) }
@@ -141,7 +141,7 @@ fn given<'a>(matches: &ArgMatches<'a>, option: &str) -> Option<&'a str>
     matches.get_str(option)
 }
 
-/// The file name that an option was given; empty if it was not given.
+/// The file name that was given for an option; empty if there is none.
 pub fn file_name(
     alloc: Global,
     matches: &ArgMatches<'_>,
@@ -153,7 +153,7 @@ pub fn file_name(
     as_bytes(alloc, given(matches, option).unwrap_or(""))
 }
 
-/// The file name that an option was given, if it was.
+/// The file name that was given for an option, if there is one.
 pub fn optional_name(
     alloc: Global,
     matches: &ArgMatches<'_>,
@@ -169,14 +169,14 @@ pub fn optional_name(
     }
 }
 
-/// The whole number that an option was given, if it was.
+/// The whole number that was given for an option, if there is one.
 pub fn whole(matches: &ArgMatches<'_>, option: &str) -> Option<u64>
     ensures { GivesNumber 64 (rows_of (found_of matches.now)) option.now result }
 {
     matches.get_one::<u64>(option)
 }
 
-/// The number of columns or rows that an option was given, if it was.
+/// The number of columns or rows that was given for an option, if there is one.
 pub fn side(matches: &ArgMatches<'_>, option: &str) -> Option<u16>
     ensures { GivesNumber 16 (rows_of (found_of matches.now)) option.now result }
 {

@@ -1,5 +1,5 @@
-//! The output file of a run: its text stays in memory until the run has answered, and the names of the files that the run may leave are
-//! tried before the first move.
+//! The output file of a run. Its text stays in memory until the run has answered. The names of the files that the run may leave are tried
+//! before the first move.
 
 ghost use Rattle.std.specs.Prelude.{◌≡◌, [], true, Some, OnOk, OnErr, IfErr};
 ghost use Rattle.std.specs.Option.{ForSome};
@@ -15,8 +15,8 @@ use std::alloc::Global;
 use std::io::Write;
 use std::marker::{Brand, PhantomData};
 
-/// What is known of the files of a run before its first move, as part of a type: code that borrows an out file of this type cannot leave
-/// one of another name or forecast.
+/// What is known of the files of a run before its first move, as part of a type. So code that borrows an out file of this type cannot put
+/// one of another name or forecast in its place.
 pub trait Planned {
     ghost plan: { OutPlan };
 }
@@ -57,7 +57,7 @@ pub struct OutFile<'a, F: NamedFiles, N: Planned> {
 }
 
 impl<'a, F: NamedFiles, N: Planned> OutFile<'a, F, N> {
-    /// No bytes yet, and no place.
+    /// An out file with no bytes yet, and no place.
     pub fn new<R: AllocGlobal>(environment: &Environment<'a, R, F>, forecast: Forecast) -> Self
         requires { plan_of environment.now.names forecast (F.shut environment.now.files.now) ≡
             N.plan }
@@ -114,7 +114,7 @@ impl<'a, F: NamedFiles, N: Planned> OutFile<'a, F, N> {
         Ok(())
     }
 
-    // Reserves both places, that at the out name first.
+    // Reserves both places, first the one at the out name.
     fn reserve(&mut self) -> Result<(), Refusal>
         ensures text { self.new.text ≡ self.old.text }
         ensures failures { self.new.failures ≡ self.old.failures }

@@ -13,7 +13,7 @@ pub struct OutNames<'a> {
 }
 
 impl<'a> OutNames<'a> {
-    /// The name of a checkpoint: the save name. There is one wherever a run stops.
+    /// The name of a checkpoint: the save name. A run that stops has one.
     pub fn of_point(&self) -> &'a [u8]
         ensures { result.now ≡ point_name self.now }
     {

@@ -1,4 +1,4 @@
-//! Writers whose interrupted writes are made again.
+//! Writers that retry interrupted writes.
 
 ghost use Rattle.std.specs.Io.{WritesAtMost};
 ghost use Rattle.std.specs.Io.KnownBytes.{WriteAppends};
@@ -6,16 +6,16 @@ ghost use Rattle.std.specs.Io.KnownBytes.{WriteAppends};
 use std::io;
 use std::io::{Error, ErrorKind, Write};
 
-// How often a write is made that is interrupted each time.
+// How often a write is tried if a signal interrupts it each time.
 const MOST_TRIES: u32 = 1_000_000;
 
-/// A writer that makes a write again where a signal interrupts it.
+/// A writer that retries a write if a signal interrupts it.
 #[derive(Drop)]
 pub struct Patient<W: Write> {
     pub inner: W,
 }
 
-/// One write, made again while signals interrupt it.
+/// One write, retried while signals interrupt it.
 fn write_again<W: Write>(writer: &mut W, bytes: &[u8]) -> io::Result<usize>
     ensures bound { WritesAtMost result bytes.now }
     ensures bytes { WriteAppends (W.contents writer.old) (W.contents writer.new) result bytes.now }

@@ -1,5 +1,5 @@
-//! The subcommand `place`: reads all files before it looks at the first text; writes the placement, or the checkpoint of a run that stops,
-//! after the run has answered.
+//! The subcommand `place`. It reads all files before it looks at the first text. After the run has answered, it writes the placement, or
+//! the checkpoint of a run that stopped.
 
 ghost use Rattle.std.specs.Prelude.{◌≡◌, ◌≢◌, ◌⊎◌, [], Some, None, OnOk, OnErr, IfOk, IfErr, IfSome, option_copied, option_map};
 ghost use Rattle.fab_text.specs.Failures.{grown};
@@ -113,8 +113,8 @@ fn read_texts<F: NamedFiles, E: Sink>(
     Ok(Read { arch, net, pads })
 }
 
-/// Reads what a run with a stop keeps for its checkpoint, by its first three checks; nothing without a stop. A schedule that is out of
-/// range is left to the run, which has other checks before it.
+/// Reads what a run with a stop keeps for its checkpoint; this makes the first three checks of the run. A run without a stop keeps nothing.
+/// A schedule that is out of range is left to the run, which makes other checks before that one.
 fn keep(alloc: Global, inputs: &Inputs, options: &Options) -> Result<Option<Kept>, RunFault>
     ensures none { IfOk result (λ kept. kept ≡ None → options.now.stop ≡ None) }
     ensures kept { IfOk result (λ kept.
@@ -144,8 +144,8 @@ fn keep(alloc: Global, inputs: &Inputs, options: &Options) -> Result<Option<Kept
     }))
 }
 
-/// Places the design of a run. Returns the text of the point where it stopped, if it did. A run without a stop, of which nothing is kept,
-/// does not.
+/// Places the design of a run. Returns the text of the point where it stopped, if it did. If `kept` is `None`, the run has no stop, and
+/// does not stop.
 fn run_place<R: AllocGlobal + Threads + Wait + Sync, O: Sink, P: Sink>(
     rt: &R,
     inputs: &Inputs,
@@ -186,7 +186,7 @@ fn run_place<R: AllocGlobal + Threads + Wait + Sync, O: Sink, P: Sink>(
     }
 }
 
-/// Places the design of a run of which `kept` is known, and writes the report.
+/// Places the design of a run that keeps `kept` for its checkpoint, and writes the report.
 fn place_kept<R: AllocGlobal + Threads + Wait + Sync, F: NamedFiles, O: Sink, E: Sink, N: Planned>(
     environment: &Environment<'_, R, F>,
     inputs: &Inputs,
@@ -263,7 +263,7 @@ pub fn place_texts<R: AllocGlobal + Threads + Wait + Sync, F: NamedFiles, O: Sin
         AreLeft (AskFor (texts_of inputs.now) options.now) (texts_of inputs.now) options.now.seed
         (O.contents out.old) (O.contents out.new) left.place.items
         (option_map (λ bytes. bytes.items) left.point)) }
-    // A place that was reserved is one at the name of its file.
+    // A reserved place is at the name of its file.
     ensures at_out { IfOk result (λ left.
         IfSome left.out (λ outlet. F.name_of outlet ≡ environment.now.names.out.now)) }
     ensures at_save { IfOk result (λ left.
@@ -324,8 +324,8 @@ pub fn place_files<R: AllocGlobal + Threads + Wait + Sync, F: NamedFiles, O: Sin
     out: &mut O,
     err: &mut E,
 ) -> Status
-    // The report of a run of the named files, by the requested numbers, is written. The text of its placement is put at the out name, or,
-    // if it stopped, the text of its point at the save name.
+    // The report of a run of the named files, by the requested numbers, is written. The text of its placement is put at the out name. If it
+    // stopped, the text of its point is put at the save name instead.
     ensures placed { result ≡ Status.Done →
         DidPlace words.now (F.held files.old) (F.held files.new) (O.contents out.old)
         (O.contents out.new) }
@@ -348,8 +348,8 @@ pub fn place_files<R: AllocGlobal + Threads + Wait + Sync, F: NamedFiles, O: Sin
         F.held files.old ≡ Some h → AreNamed (Some h) words.now t → AreAsked words.now o →
         IsSetting t o s → (result ≡ Status.Done) ⊎
         ((result ≡ Status.NoMemory) ⊎ (result ≡ Status.Device)) }
-    // The status is that of a device only if a file is not there; or if all checks passed, and the report's writer failed, or no bytes can
-    // be put at a name that the run may need by its forecast, or at that of what it left.
+    // The status is that of a device only if a file is not there, or if all checks passed and then the report's writer failed, or no bytes
+    // can be put at a name that the run may need by its forecast, or at the name of what it left.
     ensures device { result ≡ Status.Device →
         AreUnread (F.held files.old) words.now result (λ line.
         IsSaid line (E.contents err.old) (E.contents err.new) (E.failed err.old)
@@ -375,7 +375,7 @@ pub fn place_files<R: AllocGlobal + Threads + Wait + Sync, F: NamedFiles, O: Sin
         IsReportBegun (AskFor t o) (O.contents out.old) (O.contents out.new)) }
     ensures written { result ≡ Status.Done → O.failed out.new ≡ O.failed out.old }
     ensures quiet { result ≡ Status.Done → E.contents err.new ≡ E.contents err.old }
-    // Otherwise something was said about the fault.
+    // Otherwise something was printed about the fault.
     ensures said { result ≢ Status.Done →
         IsFaultSaid (E.contents err.old) (E.contents err.new) (E.failed err.old)
         (E.failed err.new) }

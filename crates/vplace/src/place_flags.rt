@@ -1,4 +1,4 @@
-//! The subcommand `place` on the command line: its options, and what they say.
+//! The subcommand `place` on the command line: its options, and what they give.
 
 ghost use Rattle.std.specs.Prelude.{◌≡◌, IfOk, codes, false};
 ghost use Rattle.clap.specs.Words.{found_of, rows_of, shape_of};
@@ -15,43 +15,51 @@ use std::alloc::{AllocError, Global};
 
 const ABOUT: &str = "Place a design by simulated annealing, and write its placement";
 
-const AFTER: &str =
-    "Anneals stage by stage: each stage makes the same number of moves at one temperature, and the next is colder.
-Temperatures are in units of cost, with at most four decimals; the last stage, at 0, accepts no move that costs more.
-Prints the design and its array, the cost at the start, a line for each stage as it ends, and the final cost;
-then writes the placement. The same files and numbers give the same bytes on every machine, whatever --batch and
+const AFTER: &str = "Anneals stage by stage: each stage makes the same number of moves at one
+temperature, and the next is colder. The last one, at 0, accepts no move that
+costs more. Prints the design and its array, the cost at the start, a line for
+each stage as it ends, and the final cost; then writes the placement. The same
+files and numbers give the same bytes on every machine, whatever --batch and
 --workers are.
 
-With --stop and --save a run stops after this many moves, if any are left then, and writes a checkpoint instead of
-the placement: `vplace resume` goes on from it, on this or another machine. The reports of the pieces, joined as by
-cat, are the report of the unbroken run, and the last piece writes its placement. A run that ends before the stop
-writes the placement, and no checkpoint.
+Temperatures are in units of cost, 0.0001 to 107374.1824. The next one is the
+last one times --alpha-t, 0.001 to 0.999; with `adaptive` the factor follows
+the share of accepted moves, as in VPR. A stage makes --inner, 1 to 10000,
+times the number of blocks to the power 4/3 moves, or --moves, 1 to 1073741824.
+The seed is 0 to 18446744073709551615. Without --nx and --ny the array is the
+smallest square that holds the design.
+
+A line of the location file fixes a block at a site; with a last word `free`
+the block only starts there.
+
+With --stop and --save a run stops after this many moves, if any are left then,
+and writes a checkpoint instead of the placement: `vplace resume` goes on from
+it, on this or another machine. The reports of the pieces, joined as by cat,
+are the report of the unbroken run, and the last piece writes its placement. A
+run that ends before the stop writes the placement, and no checkpoint.
 
 Examples:
   vplace place --arch c880_ble.arch --net c880_ble.net --out c880.place --seed 7
-  vplace place --arch c880_ble.arch --net c880_ble.net --out c880.place --seed 7 --stop 100000 --save c880.point";
+  vplace place --arch c880_ble.arch --net c880_ble.net --out c880.place \\
+    --seed 7 --stop 100000 --save c880.point";
 
-const PADS: &str =
-    "The locations: a line `NAME X Y SUB` fixes a block there; with a last word `free` it only starts there";
+const PADS: &str = "The location file: lines `NAME X Y SUB [free]`";
 
-const NX: &str =
-    "The columns of the array, 1 to 1000, with --ny; without both, the smallest square array that holds the design";
+const NX: &str = "The columns of the array, 1 to 1000, with --ny";
 
 const NY: &str = "The rows of the array, 1 to 1000, with --nx";
 
-const SEED: &str = "The seed of the random words, 0 to 18446744073709551615";
+const SEED: &str = "The seed of the random words";
 
-const INIT_T: &str = "The first temperature, in units of cost, 0.0001 to 107374.1824";
+const INIT_T: &str = "The first temperature";
 
-const EXIT_T: &str = "The lowest temperature that is run, in units of cost, 0.0001 to 107374.1824";
+const EXIT_T: &str = "The lowest temperature";
 
-const ALPHA_T: &str =
-    "The factor from one temperature to the next, 0.001 to 0.999, or `adaptive` for VPR's own, by the share of accepted moves";
+const ALPHA_T: &str = "The factor, or `adaptive`";
 
-const INNER: &str =
-    "The moves of a stage, as a multiple of the number of blocks to the power 4/3, 1 to 10000";
+const INNER: &str = "The moves of a stage over blocks^(4/3)";
 
-const MOVES: &str = "The moves of a stage, 1 to 1073741824; --inner is then ignored";
+const MOVES: &str = "The moves of a stage; --inner is then ignored";
 
 // The options by name, in the order of the help.
 const OPTIONS: [OptionRow; 16] = [
@@ -81,7 +89,7 @@ pub fn place_command<'a>(alloc: Global) -> Result<Command<'a>, AllocError>
     with_options(alloc, command, OPTIONS.as_slice())
 }
 
-/// What the options say.
+/// What the options give.
 pub fn place_words(alloc: Global, matches: &ArgMatches<'_>) -> Result<PlaceWords, AllocError>
     ensures { IfOk result (AreGivenBy (rows_of (found_of matches.now))) }
 {

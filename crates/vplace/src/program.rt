@@ -24,13 +24,13 @@ use std::alloc::{AllocError, Global};
 use std::sync::Wait;
 use std::thread::Threads;
 
-// The text of what the parser says about a command line, as bytes.
+// The parser's message about a command line, as bytes.
 fn text_of(alloc: Global, error: &Error) -> Result<Vec<u8>, AllocError> {
     let text = error.to_string(alloc)?;
     as_bytes(alloc, text.as_str())
 }
 
-// Requested help goes to the output; what is wrong with the words goes to standard error.
+// Prints requested help on the output, and what is wrong with the words on standard error.
 fn tell<O: Sink, E: Sink>(alloc: Global, error: &Error, out: &mut O, err: &mut E) -> Status
     ensures silent { IsRefused result → O.contents out.new ≡ O.contents out.old }
     ensures written { result ≡ Status.Done → O.failed out.new ≡ O.failed out.old }
@@ -123,11 +123,12 @@ pub fn program<R: AllocGlobal + Threads + Wait + Sync, F: NamedFiles, O: Sink, E
     // Nothing is written to the output if a file, the size of the array or the command line is refused.
     ensures silent { (result ≡ 1) ⊎ (result ≡ 2) → O.contents out.new ≡ O.contents out.old }
 
-    // If the status is 0, no write to the output failed, and nothing was said on standard error.
+    // If the status is 0, no write to the output failed, and nothing was printed on standard error.
     ensures written { result ≡ 0 → O.failed out.new ≡ O.failed out.old }
     ensures quiet { result ≡ 0 → E.contents err.new ≡ E.contents err.old }
 
-    // If it is not 0, something was said there, unless standard error failed too; with 3, that there was no memory.
+    // If the status is not 0, something was printed on standard error, unless that failed too. With status 3, it is that there was no
+    // memory.
     ensures said { result ≢ 0 →
         IsFaultSaid (E.contents err.old) (E.contents err.new) (E.failed err.old)
         (E.failed err.new) }
@@ -135,13 +136,13 @@ pub fn program<R: AllocGlobal + Threads + Wait + Sync, F: NamedFiles, O: Sink, E
         IsSaid no_memory_line (E.contents err.old) (E.contents err.new) (E.failed err.old)
         (E.failed err.new) }
 
-    // With no words it is 0 only if the report of the check of the built-in texts was written.
+    // With no words, the status is 0 only if the report of the check of the built-in texts was written.
     ensures example { words.now ≡ [] → result ≡ 0 →
         IsExample ARCH.now NET.now PLACE.now (O.contents out.old) (O.contents out.new) }
 
-    // In all, 0 means that something that can be asked for was written: help or the version; the report of the built-in check, or of a
-    // check of named files; or the report of a run of named files, or of one that goes on from a named checkpoint, whose placement is then
-    // at the out name, or, if it stopped, its checkpoint at the save name.
+    // In all, status 0 means that one of these was written: help or the version; the report of the built-in check, or of a check of named
+    // files; or the report of a run of named files, or of a run that goes on from a named checkpoint. After a run, its placement is at the
+    // out name; if it stopped, its checkpoint is at the save name.
     ensures done { result ≡ 0 → IsTold (O.contents out.old) (O.contents out.new) ⊎
         (IsExample ARCH.now NET.now PLACE.now (O.contents out.old) (O.contents out.new) ⊎
         (IsChecked (F.held files.old) (O.contents out.old) (O.contents out.new) ⊎
@@ -150,8 +151,8 @@ pub fn program<R: AllocGlobal + Threads + Wait + Sync, F: NamedFiles, O: Sink, E
         IsResumed (F.held files.old) (F.held files.new) (O.contents out.old)
         (O.contents out.new)))) }
 
-    // And it was the words that asked for it: help or the version was told only if they ask for that, the built-in check was done only
-    // with no words, and the names and numbers of a check or a run are those that its own subcommand's options give.
+    // And it is what the words ask for. Help or the version was printed only if they ask for it. The built-in check was done only with no
+    // words. The names and numbers of a check or a run are those that its own subcommand's options give.
     ensures decided { result ≡ 0 →
         IsAsAsked ARCH.now NET.now PLACE.now (map (λ word. word.items) words.now) (F.held files.old)
         (F.held files.new) (O.contents out.old) (O.contents out.new) }
@@ -164,7 +165,7 @@ pub fn program<R: AllocGlobal + Threads + Wait + Sync, F: NamedFiles, O: Sink, E
     ensures served { AskForHelpAlone (map (λ word. word.items) words.now) → (result ≡ 0) ⊎
         ((result ≡ 3) ⊎ ((result ≡ 4) × (O.failed out.new ≡ grown (O.failed out.old)))) }
 
-    // If it is not 0, the files are as before.
+    // If the status is not 0, the files are as before.
     ensures kept { result ≢ 0 → F.held files.new ≡ F.held files.old }
 {
     run(rt, words, files, out, err).code()

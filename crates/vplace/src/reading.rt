@@ -12,7 +12,7 @@ use crate::status::Status;
 use fab_text::Sink;
 use std::alloc::Global;
 
-/// Reads the file of a role, or says on standard error why it could not.
+/// Reads the file of a role, or prints on standard error why it could not.
 pub fn read_role<F: NamedFiles, E: Sink>(
     alloc: Global,
     files: &F,
@@ -49,7 +49,7 @@ pub fn read_arch_and_net<F: NamedFiles, E: Sink>(
 ) -> Result<(Vec<u8>, Vec<u8>), Status>
     ensures arch { IfOk result (λ texts. Gives (F.held files.now) arch_name.now texts.0.items) }
     ensures net { IfOk result (λ texts. Gives (F.held files.now) net_name.now texts.1.items) }
-    // Only where the architecture was read, the netlist is.
+    // The netlist is read only if the architecture was.
     ensures unread { IfErr result (λ status.
         AreTextsUnread (F.held files.now) arch_name.now net_name.now status (λ line.
         IsSaid line (E.contents err.old) (E.contents err.new) (E.failed err.old)

@@ -11,7 +11,7 @@ use fab_run::{Moves, Options};
 use fab_sched::Cooling;
 use fab_text::{NumFault, decimal};
 
-/// What the words of `place` say. Temperatures and the factor are texts that are not read yet.
+/// What the words of `place` give. Temperatures and the factor are texts that are not read yet.
 #[derive(Drop)]
 pub struct PlaceWords {
     pub arch: Vec<u8>,
@@ -32,7 +32,7 @@ pub struct PlaceWords {
     pub save: Option<Vec<u8>>,
 }
 
-/// What the words of `resume` say.
+/// What the words of `resume` give.
 #[derive(Drop)]
 pub struct ResumeWords {
     pub arch: Vec<u8>,
@@ -64,7 +64,7 @@ pub enum WordFault {
     BadNumber(Number, NumFault),
 }
 
-/// The size of the array, if both its columns and its rows are given; one without the other is refused.
+/// The size of the array, if both its columns and its rows are given; `None` if neither is. One without the other is refused.
 fn size_of(words: &PlaceWords) -> Result<Option<(u16, u16)>, WordFault>
     ensures { MatchResult result (λ size.
         size_asked words.now.nx words.now.ny ≡ Some size)
@@ -77,7 +77,7 @@ fn size_of(words: &PlaceWords) -> Result<Option<(u16, u16)>, WordFault>
     }
 }
 
-/// The stop, if it is given with a save name; one without the other is refused.
+/// The stop, if it is given with a save name; `None` if neither is given. One without the other is refused.
 pub fn stop_of(stop: Option<u64>, save: &Option<Vec<u8>>) -> Result<Option<u64>, WordFault>
     ensures { MatchResult result (λ asked. stop_asked stop save.now ≡ Some asked) (λ fault.
         (fault ≡ StopInPart) × (stop_asked stop save.now ≡ None)) }
@@ -88,7 +88,7 @@ pub fn stop_of(stop: Option<u64>, save: &Option<Vec<u8>>) -> Result<Option<u64>,
     }
 }
 
-/// A number with at most this many decimal places, in its smallest unit.
+/// A number with at most `places` decimal places, in its smallest unit.
 fn scaled(option: Number, text: &[u8], places: u32) -> Result<u64, WordFault>
     ensures { MatchResult result (λ n. decimal_of text.now places ≡ Ok n) (λ fault.
         (e : NumFaultOf) × (fault ≡ BadNumber option e) × (decimal_of text.now places ≡ Err e)) }

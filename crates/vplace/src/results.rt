@@ -37,7 +37,7 @@ pub struct Left<O: Drop> {
     pub save: Option<O>,
 }
 
-/// Says why a run gave no answer. `refusal` is why a name that was tried was refused, if one was.
+/// Prints why a run gave no answer. `refusal` is why a name that was tried was refused, if one was.
 fn tell_fault<E: Sink>(
     alloc: Global,
     err: &mut E,
@@ -71,8 +71,8 @@ fn release<F: NamedFiles>(files: &F, outlet: Option<F::Outlet>) {
     }
 }
 
-/// What a run left in memory: its place text, and what it answered, `told`: the text of the point where it stopped, if it did. If the run
-/// failed, its reserved places are released, and the fault is printed.
+/// What a run left in memory: its place text, and the text of the point where it stopped, if it did. `told` is this text, or the run's
+/// fault. If the run failed, releases its reserved places, and prints the fault.
 pub fn left_by<F: NamedFiles, N: Planned, E: Sink>(
     alloc: Global,
     told: Result<Option<Vec<u8>>, RunFault>,

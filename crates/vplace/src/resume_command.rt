@@ -1,5 +1,5 @@
-//! The subcommand `resume`: reads all files before it looks at the first text; writes the placement, or the checkpoint of a run that stops
-//! again, after the run has answered.
+//! The subcommand `resume`. It reads all files before it looks at the first text. After the run has answered, it writes the placement, or
+//! the checkpoint of a run that stopped again.
 
 ghost use Rattle.std.specs.Prelude.{◌≡◌, ◌≢◌, ◌⊎◌, ℕ, List, [], Option, Some, None, OnOk, OnErr, IfOk, IfErr, IfSome, option_copied, option_map};
 ghost use Rattle.fab_text.specs.Failures.{grown};
@@ -89,7 +89,8 @@ fn read_texts<F: NamedFiles, E: Sink>(
     Ok(Read { arch, net, point })
 }
 
-/// Reads what a resumed run with a stop keeps for its checkpoint, by its first three checks; nothing without a stop.
+/// Reads what a resumed run with a stop keeps for its checkpoint; this makes the first three checks of the run. A run without a stop keeps
+/// nothing.
 fn keep(alloc: Global, inputs: &Inputs, restart: &Restart) -> Result<Option<Kept>, RunFault>
     ensures none { IfOk result (λ kept. kept ≡ None → restart.now.stop ≡ None) }
     ensures kept { IfOk result (λ kept.
@@ -115,7 +116,7 @@ fn keep(alloc: Global, inputs: &Inputs, restart: &Restart) -> Result<Option<Kept
     }))
 }
 
-/// Resumes a run. Returns the text of the point where it stopped, if it did. A run without a stop, of which nothing is kept, does not.
+/// Resumes a run. Returns the text of the point where it stopped, if it did. If `kept` is `None`, the run has no stop, and does not stop.
 fn run_on<R: AllocGlobal + Threads + Wait + Sync, O: Sink, P: Sink>(
     rt: &R,
     inputs: &Inputs,
@@ -160,7 +161,7 @@ fn run_on<R: AllocGlobal + Threads + Wait + Sync, O: Sink, P: Sink>(
     }
 }
 
-/// Resumes a run of which `kept` is known, and writes the report.
+/// Resumes a run that keeps `kept` for its checkpoint, and writes the report.
 fn resume_kept<R: AllocGlobal + Threads + Wait + Sync, F: NamedFiles, O: Sink, E: Sink, N: Planned>(
     environment: &Environment<'_, R, F>,
     inputs: &Inputs,
@@ -237,14 +238,14 @@ pub fn resume_texts<R: AllocGlobal + Threads + Wait + Sync, F: NamedFiles, O: Si
     out: &mut O,
     err: &mut E,
 ) -> Result<Left<F::Outlet>, Status>
-    // The report of annealing one move at a time from the point is written, and what is left is the text of its placement, or of the point
-    // where it stopped, with the seed of the checkpoint that it went on from.
+    // The report of annealing one move at a time from the point is written. What is left is the text of its placement, or the text of the
+    // point where it stopped, with the seed of the checkpoint that it went on from.
     ensures placed { IfOk result (λ left.
         (s : Going) × HasPoint (texts_of inputs.now) restart.now.point.now s ×
         AreLeft (AskToGoOn (texts_of inputs.now) restart.now.point.now restart.now.batch
         restart.now.workers restart.now.stop) (texts_of inputs.now) s.seed (O.contents out.old)
         (O.contents out.new) left.place.items (option_map (λ bytes. bytes.items) left.point)) }
-    // A place that was reserved is one at the name of its file.
+    // A reserved place is at the name of its file.
     ensures at_out { IfOk result (λ left.
         IfSome left.out (λ outlet. F.name_of outlet ≡ environment.now.names.out.now)) }
     ensures at_save { IfOk result (λ left.
@@ -312,7 +313,7 @@ pub fn resume_files<R: AllocGlobal + Threads + Wait + Sync, F: NamedFiles, O: Si
     err: &mut E,
 ) -> Status
     // The report of the piece that goes on from the named checkpoint, up to the requested stop or to the end, is written. The text of its
-    // placement is put at the out name, or, if it stopped, the text of its point at the save name.
+    // placement is put at the out name. If it stopped, the text of its point is put at the save name instead.
     ensures placed { result ≡ Status.Done →
         DidResume words.now (F.held files.old) (F.held files.new) (O.contents out.old)
         (O.contents out.new) }
@@ -338,8 +339,8 @@ pub fn resume_files<R: AllocGlobal + Threads + Wait + Sync, F: NamedFiles, O: Si
         stop_asked words.now.stop words.now.save ≡ Some stop →
         IsGoing t point words.now.batch words.now.workers s → (result ≡ Status.Done) ⊎
         ((result ≡ Status.NoMemory) ⊎ (result ≡ Status.Device)) }
-    // The status is that of a device only if a file is not there; or if all checks passed, and the report's writer failed, or no bytes can
-    // be put at a name that the run may need by its forecast, or at that of what it left.
+    // The status is that of a device only if a file is not there, or if all checks passed and then the report's writer failed, or no bytes
+    // can be put at a name that the run may need by its forecast, or at the name of what it left.
     ensures device { result ≡ Status.Device →
         AreUnreadToResume (F.held files.old) words.now result (λ line.
         IsSaid line (E.contents err.old) (E.contents err.new) (E.failed err.old)
@@ -370,7 +371,7 @@ pub fn resume_files<R: AllocGlobal + Threads + Wait + Sync, F: NamedFiles, O: Si
         (O.contents out.old) (O.contents out.new)) }
     ensures written { result ≡ Status.Done → O.failed out.new ≡ O.failed out.old }
     ensures quiet { result ≡ Status.Done → E.contents err.new ≡ E.contents err.old }
-    // Otherwise something was said about the fault.
+    // Otherwise something was printed about the fault.
     ensures said { result ≢ Status.Done →
         IsFaultSaid (E.contents err.old) (E.contents err.new) (E.failed err.old)
         (E.failed err.new) }

@@ -1,4 +1,4 @@
-//! The subcommand `resume` on the command line: its options, and what they say.
+//! The subcommand `resume` on the command line: its options, and what they give.
 
 ghost use Rattle.std.specs.Prelude.{◌≡◌, IfOk, codes, false};
 ghost use Rattle.clap.specs.Words.{found_of, rows_of, shape_of};
@@ -15,18 +15,21 @@ use std::alloc::{AllocError, Global};
 
 const ABOUT: &str = "Go on with a run from a checkpoint, and write its placement";
 
-const AFTER: &str =
-    "A checkpoint is what `vplace place` or `vplace resume` wrote at its --save name when it stopped. It holds the seed, the
-array, the schedule, the site of each block, and which blocks are fixed; give the same architecture and netlist with it.
-Prints the rest of the report: the lines of the stages that end from here on, and the final cost. The reports of the
-pieces of a run, joined as by cat, are the report of the unbroken run, and the last piece writes its placement.
+const AFTER: &str = "A checkpoint is what `vplace place` or `vplace resume` wrote at its --save name
+when it stopped. It holds the seed, the array, the schedule, the site of each
+block, and which blocks are fixed; give the same architecture and netlist with
+it. Prints the rest of the report: the lines of the stages that end from here
+on, and the final cost. The reports of the pieces of a run, joined as by cat,
+are the report of the unbroken run, and the last piece writes its placement.
 
-With --stop and --save the run stops again after this many moves, counted from its very first move, and writes a
-checkpoint instead of the placement.
+With --stop and --save the run stops again after this many moves, counted from
+its very first move, and writes a checkpoint instead of the placement.
 
 Examples:
-  vplace resume --arch c880_ble.arch --net c880_ble.net --point c880.point --out c880.place
-  vplace resume --arch c880_ble.arch --net c880_ble.net --point c880.point --out c880.place --stop 200000 --save later.point";
+  vplace resume --arch c880_ble.arch --net c880_ble.net --point c880.point \\
+    --out c880.place
+  vplace resume --arch c880_ble.arch --net c880_ble.net --point c880.point \\
+    --out c880.place --stop 200000 --save later.point";
 
 // The options by name, in the order of the help.
 const OPTIONS: [OptionRow; 8] = [
@@ -52,7 +55,7 @@ pub fn resume_command<'a>(alloc: Global) -> Result<Command<'a>, AllocError>
     with_options(alloc, command, OPTIONS.as_slice())
 }
 
-/// What the options say.
+/// What the options give.
 pub fn resume_words(alloc: Global, matches: &ArgMatches<'_>) -> Result<ResumeWords, AllocError>
     ensures { IfOk result (AreGivenToResume (rows_of (found_of matches.now))) }
 {

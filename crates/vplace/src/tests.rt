@@ -295,7 +295,7 @@ fn help_goes_to_the_output(rt: HostRuntime) -> Result<(), Fail> {
         ),
         (
             &[b"place", b"--help"],
-            b"The first temperature, in units of cost, 0.0001 to 107374.1824 [default: 100]\n",
+            b"      --init-t <NUMBER>   The first temperature [default: 100]\n",
         ),
         (
             &[b"resume", b"--help"],

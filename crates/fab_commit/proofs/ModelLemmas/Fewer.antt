@@ -1,14 +1,13 @@
 -- The design without its nets of many terminals: a move that accepted swaps touch through such nets alone proposes the same, and changes the cost
 -- of all other nets as before.
-use Rattle.std.proofs.Common.{◌≡◌, ℕ, zero, suc, ◌+◌, ◌<◌, ◌≤◌, Bool, true, false, cond, not, ◌&&◌, ◌||◌, ◌==◌, List, [], ◌∷◌, ◌++◌, map, Option, Some, None, is_some, length, refl, sym, ap, subst, ◌∙◌, inl, inr, arith}
+use Rattle.std.proofs.Common.{◌≡◌, ℕ, zero, suc, ◌+◌, ◌<◌, ◌≤◌, Bool, true, false, cond, not, ◌&&◌, ◌||◌, List, [], ◌∷◌, ◌++◌, map, Option, Some, None, length, refl, sym, ap, ◌∙◌, inl, inr, arith}
 use Rattle.std.specs.Prelude.{nat_le, slice_index}
-use Rattle.std.specs.List.{filter, list_any}
+use Rattle.std.specs.List.{filter}
 use Rattle.std.proofs.lemmas.Bool.{false_from_ne_true, false≢true, le-leb, or_cases, or_left, or_parts, or_right}
 use Rattle.fab_arch.specs.declared.array.Site.{Site}
 use Rattle.fab_net.specs.declared.netlist_types.BlockId.{BlockId}
 use Rattle.fab_net.specs.Netlist.{Netlist, nets_of}
 use Rattle.fab_site.specs.declared.placement_types.Swap.{Swap}
-use Rattle.fab_site.specs.Placement.{swapped}
 use Rattle.fab_site.proofs.Swaps.{IsHeldBy, IsReady}
 use Rattle.fab_cost.specs.Runs.{few_of, is_large}
 use Rattle.fab_cost.specs.Swapping.{swapped_by}
@@ -25,7 +24,7 @@ use Rattle.fab_commit.specs.Model.World.{accepted_as, accepted_now, clash}
 use Rattle.fab_commit.proofs.ModelLemmas.Backwards.{clash-append, judged_can, length_step}
 use Rattle.fab_commit.proofs.ModelLemmas.Listing.{has_mark-append}
 use Rattle.fab_commit.proofs.ModelLemmas.Noninterference.{judged_kept}
-use Rattle.fab_commit.proofs.ModelLemmas.Sitings.{OtherAt, StandsSo}
+use Rattle.fab_commit.proofs.ModelLemmas.Sitings.{OtherAt}
 use Rattle.fab_commit.proofs.ModelLemmas.TurnLaws.{step_bounds}
 use Rattle.fab_commit.proofs.RunLemmas.Folding.{left_step, not_over, step_is, still_hot}
 use Rattle.fab_sched.specs.Annealing.{next_heat, next_range}

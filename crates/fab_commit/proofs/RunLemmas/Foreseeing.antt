@@ -1,7 +1,7 @@
 -- What is foreseen, one move after another.
 use mathlib.Core.Logic.{dite}
 use native.Mathlib.Decide.{dec_le}
-use Rattle.std.proofs.Common.{◌≡◌, ℕ, suc, pos, ◌+◌, ◌<◌, false, List, length, Some, None, is_some, lt_of_not-le, refl, sym, ap, subst, ◌∙◌, arith, get_or-set_other}
+use Rattle.std.proofs.Common.{◌≡◌, ℕ, suc, pos, ◌+◌, ◌<◌, ◌≤◌, false, true, List, length, Some, None, is_some, lt_of_not-le, refl, sym, ap, subst, ◌∙◌, arith, get_or-set_other}
 use Rattle.std.proofs.lemmas.Bool.{false≢true}
 use Rattle.std.proofs.lemmas.List.{get_or-set_same}
 use Rattle.std.specs.Prelude.{slice_index, slice_index_or, slice_set}
@@ -20,7 +20,7 @@ use Rattle.fab_move.proofs.Judgements.{judged_on}
 use Rattle.fab_commit.specs.declared.run.foreseen.Foreseen.{Foreseen}
 use Rattle.fab_commit.specs.Serial.{Run, Standing, judged_here, or_zero}
 use Rattle.fab_commit.specs.Model.Worlds.{IsBlock}
-use Rattle.fab_commit.specs.Run.Foreseen.{AreKept, IsForeseen, decision_in, swap_in}
+use Rattle.fab_commit.specs.Run.Foreseen.{AreKept, IsForeseen, decision_in, large_nets, swap_in}
 use Rattle.fab_commit.specs.Run.StampTables.{IsWithin}
 use Rattle.fab_commit.proofs.ModelLemmas.Noninterference.{judged_as-footprint}
 
@@ -46,6 +46,7 @@ pub record IsMadeBy (r : Run) (x : Standing) (k : ℕ) (q : Proposal) (t w : ℕ
   pub within : (s : Swap) → q ≡ Move s → IsWithin r.problem.design r.problem.grid s
   pub kind : (s : Swap) → q ≡ Move s → kind_at r.problem.grid s.to ≡ kind_at r.problem.grid s.from
   pub nets : (s : Swap) → q ≡ Move s → AreKept r.problem.design s f.nets
+  pub kept : (s : Swap) → q ≡ Move s → length (large_nets r.problem.design s) ≤ 5 → f.nets.is_kept ≡ true
 
 within_other : (d : Netlist) (g : GridShape) (s : Swap) (b : BlockId) → IsWithin d g s → s.other ≡ Some b → b.0 < length d.kinds
 within_other d g s b within e = subst (IsBlock d) e within.other
@@ -65,6 +66,7 @@ foreseen_by r x k q t w f is =
       other = λ s b e o. within_other p.design p.grid s b (is.within s (sym is.proposes ∙ e)) o;
       kind = λ s e. is.kind s (sym is.proposes ∙ swap_is f.proposal s e);
       nets = λ s e. is.nets s (sym is.proposes ∙ e);
+      kept = λ s e few. is.kept s (sym is.proposes ∙ e) few;
     }
 
 -- a move that proposes no swap
@@ -99,6 +101,7 @@ foreseen_none r x k q words f plain is same none =
       within = λ s m. absurd (no_move q s none m);
       kind = λ s m. absurd (no_move q s none m);
       nets = λ s m. absurd (no_move q s none m);
+      kept = λ s m few. absurd (no_move q s none m);
     })
 
 pub move_is : (a b : Swap) → Move a ≡ Move b → a ≡ b

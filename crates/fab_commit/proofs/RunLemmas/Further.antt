@@ -9,7 +9,7 @@ use Rattle.fab_commit.specs.declared.run.state.State.{State}
 use Rattle.fab_commit.specs.declared.run.stamps.Stamps.{Stamps}
 use Rattle.fab_commit.specs.Serial.{Run, Standing, accepted_among, after_move, from, judged_here, moves_left, numbers_if}
 use Rattle.fab_commit.specs.Run.Alone.{IsMade}
-use Rattle.fab_commit.specs.Run.Commits.{AnnealOf, IsSound, run_for, standing_of}
+use Rattle.fab_commit.specs.Run.Commits.{IsSound, run_for, standing_of}
 use Rattle.fab_commit.specs.Run.Noted.{noted, noted_more}
 use Rattle.fab_commit.specs.Run.Owners.{verdict_of}
 use Rattle.fab_commit.specs.Run.Pipelines.{HasTurn, IsBehind}

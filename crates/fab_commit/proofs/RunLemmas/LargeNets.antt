@@ -1,8 +1,8 @@
 -- The nets with many terminals that are kept of a swap.
-use Rattle.std.proofs.Common.{◌≡◌, ℕ, zero, suc, ◌+◌, ◌<◌, ◌≤◌, Bool, true, false, List, [], ◌∷◌, ◌++◌, length, get_or, take, cond, Some, None, Option, refl, sym, ap, subst, ◌∙◌}
+use Rattle.std.proofs.Common.{◌≡◌, ℕ, zero, suc, ◌+◌, ◌<◌, ◌≤◌, Bool, true, false, List, [], ◌∷◌, ◌++◌, length, get_or, take, cond, Some, None, refl, sym, ap, subst, ◌∙◌, arith}
 use Rattle.std.specs.Prelude.{filter, map}
 use Rattle.std.proofs.lemmas.Bool.{false≢true}
-use Rattle.std.proofs.lemmas.List.{append-nil, append_assoc, length-map, take_more}
+use Rattle.std.proofs.lemmas.List.{append-nil, append_assoc, length-append, length-map, take_more}
 use mathlib.Core.List.{map-append}
 use Rattle.fab_net.specs.declared.netlist_types.BlockId.{BlockId}
 use Rattle.fab_net.specs.declared.netlist_types.NetId.{NetId}
@@ -10,7 +10,7 @@ use Rattle.fab_net.specs.Netlist.{Netlist, nets_of}
 use Rattle.fab_site.specs.declared.placement_types.Swap.{Swap}
 use Rattle.fab_cost.specs.Runs.{AreLarge, is_large}
 use Rattle.fab_commit.specs.declared.run.kept_nets.LargeNets.{LargeNets}
-use Rattle.fab_commit.specs.Run.Foreseen.{AreAppended, AreKept, large_among, nets_at, nets_on}
+use Rattle.fab_commit.specs.Run.Foreseen.{AreAppended, AreKept, large_among, large_nets, nets_at, nets_on}
 
 -- if none are kept, nothing is said
 pub none_kept : (d : Netlist) (s : Swap) (n : LargeNets) → n.is_kept ≡ false → AreKept d s n
@@ -25,6 +25,8 @@ none_added n most = record {
   most = most;
   were = λ k. k;
   nets = λ k. sym (append-nil (take n.all n.nets));
+  all = λ k. omega arith;
+  still = λ k few. k;
 }
 
 -- some nets, and then others
@@ -33,6 +35,11 @@ added_both a b c xs ys first then = record {
   most = then.most;
   were = λ k. first.were (then.were k);
   nets = λ k. then.nets k ∙ ap (λ l. l ++ ys) (first.nets (then.were k)) ∙ append_assoc (take a.all a.nets) xs ys;
+  all = λ k. (let both = length-append xs ys in let one = first.all (then.were k) in let other = then.all k in omega arith);
+  still = λ k few.
+      let both = length-append xs ys in
+      let kept = first.still k (omega arith) in
+      let one = first.all kept in then.still kept (omega arith);
 }
 
 -- the net at a place of a list
@@ -91,3 +98,17 @@ kept_own d s a b none is first = record {
       ∙ sym (append-nil (large_among d (nets_on d (Some s.block))))
       ∙ ap (λ p. large_among d (nets_on d (Some s.block)) ++ large_among d (nets_on d p)) (sym is);
 }
+
+-- they are kept if they are few
+pub few_of_both : (d : Netlist) (s : Swap) (a b c : LargeNets) (o : BlockId) → a.all ≡ 0 → a.is_kept ≡ true → s.other ≡ Some o → AreAppended a b (large_among d (nets_on d (Some s.block))) → AreAppended b c (large_among d (nets_on d (Some o)))
+    → length (large_nets d s) ≤ 5 → c.is_kept ≡ true
+few_of_both d s a b c o none here is first then few =
+    let both = added_both a b c (large_among d (nets_on d (Some s.block))) (large_among d (nets_on d (Some o))) first then in
+    let same : length (large_nets d s) ≡ length (large_among d (nets_on d (Some s.block)) ++ large_among d (nets_on d (Some o))) = ap (λ p. length (large_among d (nets_on d (Some s.block)) ++ large_among d (nets_on d p))) is in
+    both.still here (omega arith)
+
+pub few_of_own : (d : Netlist) (s : Swap) (a b : LargeNets) → a.all ≡ 0 → a.is_kept ≡ true → s.other ≡ None → AreAppended a b (large_among d (nets_on d (Some s.block))) → length (large_nets d s) ≤ 5 → b.is_kept ≡ true
+few_of_own d s a b none here is first few =
+    let own = large_among d (nets_on d (Some s.block)) in
+    let same : length (large_nets d s) ≡ length (own ++ []) = ap (λ p. length (own ++ large_among d (nets_on d p))) is in
+    let long : length (own ++ []) ≡ length own = ap length (append-nil own) in first.still here (omega arith)

@@ -1,25 +1,21 @@
 -- A move that was foreseen, where swaps accepted since touched at most nets with many terminals of what it rests on.
-use Rattle.std.proofs.Common.{◌≡◌, ℕ, ◌+◌, ◌<◌, ◌≤◌, ◌^◌, ◌+ℤ◌, ℤ, false, Bool, List, length, Some, refl, sym, ap, subst, ◌∙◌, arith}
+use Rattle.std.proofs.Common.{◌≡◌, ℕ, ◌+ℤ◌, ℤ, false, length, Some, refl, sym, ap, subst, ◌∙◌, arith}
 use Rattle.std.specs.Prelude.{nat_lt, slice_index}
-use Rattle.std.specs.List.{filter, list_any}
-use Rattle.fab_arch.specs.declared.array.Site.{Site}
+use Rattle.std.specs.List.{list_any}
 use Rattle.fab_arch.specs.Grid.{kind_at}
 use Rattle.fab_site.specs.declared.placement_types.Swap.{Swap}
 use Rattle.fab_site.specs.Placement.{IsSwapOf}
 use Rattle.fab_cost.specs.Runs.{few_of, large_of}
 use Rattle.fab_cost.specs.Swapping.{change}
 use Rattle.fab_cost.proofs.Few.{change_split}
-use Rattle.fab_move.specs.declared.proposals.Proposal.{Proposal}
 use Rattle.fab_move.specs.declared.proposals.Proposal.TheVariants.{Move}
-use Rattle.fab_move.specs.declared.verdicts.Decision.{Decision}
-use Rattle.fab_move.specs.Accept.{is_accepted}
-use Rattle.fab_move.specs.Judge.{IsDecision, Judged, footprint, judged_as}
+use Rattle.fab_move.specs.Judge.{Judged, footprint, judged_as}
 use Rattle.fab_move.specs.Propose.{proposal}
 use Rattle.fab_move.proofs.Judgements.{judged_on}
 use Rattle.fab_commit.specs.declared.run.foreseen.Foreseen.{Foreseen}
 use Rattle.fab_commit.specs.declared.run.owner.Owner.{Owner}
 use Rattle.fab_commit.specs.declared.run.state.State.{State}
-use Rattle.fab_commit.specs.Serial.{Run, Standing, from, judged_here, or_zero}
+use Rattle.fab_commit.specs.Serial.{Run, Standing, judged_here, or_zero}
 use Rattle.fab_commit.specs.Run.Alone.{AreOpen}
 use Rattle.fab_commit.specs.Run.Commits.{IsSound, standing_of}
 use Rattle.fab_commit.specs.Run.Foreseen.{IsForeseen, IsStill, swap_in}

@@ -1,9 +1,8 @@
 -- What is kept of what is near a block: how it is raised, and what it tells of stamps.
-use Rattle.std.proofs.Common.{◌≡◌, ℕ, ◌+◌, ◌<◌, ◌≤◌, Bool, true, false, cond, not, ◌||◌, ◌==◌, List, [], ◌∷◌, ◌++◌, length, get_or, set, take, map, Option, Some, None, refl, sym, ap, ◌∙◌, inl, inr, arith}
+use Rattle.std.proofs.Common.{◌≡◌, ℕ, ◌<◌, ◌≤◌, Bool, true, false, cond, not, ◌||◌, ◌==◌, List, [], ◌∷◌, ◌++◌, length, set, map, Option, Some, None, refl, sym, ap, ◌∙◌, inl, inr, arith}
 use Rattle.std.specs.Prelude.{nat_lt, slice_index}
 use Rattle.std.specs.List.{filter, list_any}
-use Rattle.std.proofs.lemmas.Bool.{cases_Bool, eqb-true, false≢true, le-ltb, or_cases, or_left, or_right}
-use Rattle.std.proofs.lemmas.List.{append-nil, append_assoc, take_more}
+use Rattle.std.proofs.lemmas.Bool.{cases_Bool, le-ltb}
 use Rattle.std.proofs.lemmas.List.Folds.{list_any-append}
 use Rattle.fab_arch.specs.Grid.{GridShape}
 use Rattle.fab_net.specs.declared.netlist_types.BlockId.{BlockId}
@@ -17,13 +16,12 @@ use Rattle.fab_cost.specs.Runs.{few_of, is_large}
 use Rattle.fab_cost.specs.Swapping.{blocks_of}
 use Rattle.fab_cost.proofs.Few.{nets_few}
 use Rattle.fab_move.specs.declared.marks.Mark.{Mark}
-use Rattle.fab_move.specs.declared.marks.Mark.TheVariants.{Block, Place, Net}
+use Rattle.fab_move.specs.declared.marks.Mark.TheVariants.{Place, Net}
 use Rattle.fab_move.specs.declared.proposals.Proposal.TheVariants.{Move}
 use Rattle.fab_move.specs.Judge.{block_marks, footprint, other_marks}
 use Rattle.fab_commit.specs.declared.run.stamps.Stamps.{Stamps}
-use Rattle.fab_commit.specs.Model.Worlds.{IsBlock}
 use Rattle.fab_commit.specs.Run.Foreseen.{large_among, nets_on}
-use Rattle.fab_commit.specs.Run.StampTables.{IsNear, IsQuiet, IsTable, kept_stamp, near_of, stamp_in}
+use Rattle.fab_commit.specs.Run.StampTables.{IsNear, IsQuiet, IsTable, kept_stamp, near_of}
 use Rattle.fab_commit.proofs.RunLemmas.Stamping.{any_append, block_alone, nets_touched}
 
 -- a number among the names of nets

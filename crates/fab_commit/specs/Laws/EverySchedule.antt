@@ -5,8 +5,8 @@ use Rattle.fab_commit.specs.Serial.{Run, Standing, judged_here, from}
 use Rattle.fab_commit.specs.declared.model.judged.JudgedMove.{JudgedMove}
 use Rattle.fab_commit.specs.Model.World.{World, world, run_through, ways, usable, verdict_here}
 
--- the verdict that a commit would take here is the judgement of the next move on the live placement. The law below holds for every
--- list of events, so it holds at each commit of a list, by the events before it
+-- the verdict that a commit would take here is the judgement of the next move on the live placement. The law below holds for every list of
+-- events, so it holds at each commit of a list: take the events before that commit
 abbrev pub TakesTheMove : Run → World → Type 0
 TakesTheMove p w = (v : JudgedMove) → usable p w (verdict_here w) ≡ Some v → v.judged ≡ judged_here p w.live w.live.done
 

@@ -39,7 +39,7 @@ PlacementsStayLegal =
 abbrev pub SeedsGiveWords : Type 0
 SeedsGiveWords = (seed : ℕ) → AreWords (stream_moves seed)
 
--- on a legal placement each proposed swap goes to a site of its block's kind, as it does by words below 2^32
+-- on a legal placement each proposed swap goes to a site of its block's kind. Words below 2^32 propose such swaps
 abbrev pub ProposesKinds : Problem → Type 0
 ProposesKinds p =
     (sites : List Site) (range k : ℕ) (s : Swap)
@@ -47,7 +47,7 @@ ProposesKinds p =
     → proposal p.design p.grid p.fixed sites range (p.words k) ≡ Move s
     → kind_at p.grid s.to ≡ kind_at p.grid s.from
 
--- the same by words of any size that propose sites of the block's kind
+-- the same for words of any size that propose sites of the block's kind
 abbrev pub PlacementsStayLegalByKinds : Type 0
 PlacementsStayLegalByKinds =
     (r : Run) (x : Standing) (n : ℕ)
@@ -55,8 +55,8 @@ PlacementsStayLegalByKinds =
     → IsLegal r.problem.design r.problem.grid r.problem.fixed x.sites
     → IsLegal r.problem.design r.problem.grid r.problem.fixed (from r x n).sites
 
--- a verdict is for a move of the stage that is not made yet, and is the judgement of that move on the placement of its base, which is
--- one that moves made one at a time from x lead through
+-- a verdict is for a move of the stage that is not made yet. It is the judgement of that move on the placement of its base. Moves made one
+-- at a time from x lead through that placement
 pub record IsOfItsBase (p : Run) (x : Standing) (w : World) (v : JudgedMove) : Type 0 where
   pub due : w.live.done ≤ v.number
   pub in_stage : v.number < end p w
@@ -75,7 +75,7 @@ AcceptedSwapsAreSerial =
     (p : Run) (x : Standing) (events : List Event) → 0 < p.plan.moves →
     let now = run_through p (world x) events in now.accepted ≡ accepted_from p x (now.live.done - x.done)
 
--- moves made one at a time and the verdict's base alone tell whether the next move's verdict still holds
+-- moves made one at a time and the verdict's base alone determine whether the next move's verdict is stale
 abbrev pub RedoneIsSerial : Type 0
 RedoneIsSerial =
     (p : Run) (x : Standing) (events : List Event) (v : JudgedMove) → 0 < p.plan.moves →

@@ -1,4 +1,4 @@
--- How many moves turns judge again: what is true of one turn, and of several in a row (our own).
+-- How many moves turns redo: what is true of one turn, and of several in a row (our own).
 use Rattle.std.specs.Prelude.{ℕ, ◌≡◌, ◌-◌, ◌<◌, ◌≤◌, List, [], ◌∷◌, ◌++◌, replicate, take, refl}
 use Rattle.std.specs.List.{count_by, range_with_len}
 use Rattle.fab_commit.specs.declared.model.events.Way.{Way}
@@ -13,7 +13,7 @@ abbrev pub ways_of_turns : Run → World → List ℕ → List Way
 ways_of_turns r w [] = []
 ways_of_turns r w (batch ∷ batches) = ways r w (turn_events r batch w) ++ ways_of_turns r (turn r batch w) batches
 
--- of the first m moves of a turn, as many are redone as moves made one at a time and their bases determine
+-- moves made one at a time and their bases determine how many of the first m moves of a turn are redone
 abbrev pub WaysOfABeginning : Type 0
 WaysOfABeginning =
     (r : Run) (t : LastTurn) (batch m : ℕ) → 0 < r.plan.moves → IsOfAStage r t → m ≤ (next_turn r batch t).made

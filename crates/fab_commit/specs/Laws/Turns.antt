@@ -11,8 +11,8 @@ use Rattle.fab_commit.specs.Model.Stamps.{is_stamped}
 use Rattle.fab_commit.specs.Model.TurnEvents.{LastTurn, IsOfAStage, commit_each, cut_turn, is_redone_behind, judge_each, next_turn, no_turn, stands, turn, turn_events, turn_making, world_behind}
 use Rattle.fab_commit.specs.Model.Turns.{last_turn, turns}
 
--- events lead to the world after a turn, from a world where nothing is claimed or judged; so each law of the world's events applies
--- to it
+-- events lead from a world where nothing is claimed or judged to the world after a turn. So each law of the world's events applies to the
+-- world after a turn
 abbrev pub TurnsAreReached : Type 0
 TurnsAreReached =
     (r : Run) (t : LastTurn) → 0 < r.plan.moves → IsOfAStage r t
@@ -30,18 +30,18 @@ CutTurnsLeadOn =
     (r : Run) (t : LastTurn) (made : ℕ) → 0 < r.plan.moves → IsOfAStage r t → made ≤ moves_left r (stands r t)
     → (turn_making r made 0 (world_behind r t) ≡ world_behind r (cut_turn r made t)) × IsOfAStage r (cut_turn r made t)
 
--- whatever their batches, turns lead to the standing of moves made one at a time, and only the verdicts of the last turn are left
+-- turns of any batches lead to the standing of moves made one at a time, and only the verdicts of the last turn are left
 abbrev pub EveryBatchIsSerial : Type 0
 EveryBatchIsSerial =
     (r : Run) (x : Standing) (batches : List ℕ) → 0 < r.plan.moves →
     let now = turns r (world x) batches in
     (now.live ≡ from r x (now.live.done - x.done)) × (now ≡ world_behind r (last_turn r (no_turn x) batches))
 
--- how a move got its answer, if it was judged again, and if not
+-- how a move got its answer, by whether it is redone
 abbrev pub way_if : Bool → Way
 way_if redone = if redone then Redone else Taken
 
--- no move of a turn is late; moves made one at a time and their bases tell which moves are redone
+-- no move of a turn is late; moves made one at a time and their bases determine which moves are redone
 abbrev pub WaysOfTurns : Type 0
 WaysOfTurns =
     (r : Run) (t : LastTurn) (batch : ℕ) → 0 < r.plan.moves → IsOfAStage r t

@@ -13,7 +13,7 @@ abbrev pub accepted_from : Run → Standing → ℕ → List Accepted
 accepted_from p x zero = []
 accepted_from p x (suc n) = accepted_at p x ++ accepted_from p (step p x) n
 
--- move k, judged on the placement after `base` moves, rests on something that an accepted move has touched since
+-- move k was judged on the placement after `base` moves, and an accepted move has touched its footprint since
 abbrev pub is_redone : Run → Standing → ℕ → ℕ → Bool
 is_redone p x base k =
     clash p.problem.design (accepted_from p x (k - x.done)) base (judged_here p (from p x (base - x.done)) k).footprint

@@ -103,7 +103,7 @@ cut_turn r made t = record { start = stands r t; made = made; ahead = 0 }
 abbrev pub base_behind : Run → LastTurn → ℕ → ℕ
 base_behind r t k = if nat_lt k ((stands r t).done + t.ahead) then t.start.done else (stands r t).done
 
--- move k of the next turn is judged again
+-- move k of the next turn is redone
 abbrev pub is_redone_behind : Run → LastTurn → ℕ → Bool
 is_redone_behind r t k = is_redone r t.start (base_behind r t k) k
 

@@ -121,7 +121,7 @@ abbrev pub lost : World → ℕ → Option ℕ → World
 lost w worker None = lost_verdict w worker
 lost w worker (Some k) = record w { claims = without_worker worker w.claims }
 
--- the verdict, if no swap accepted since its base touched what it rests on; otherwise none, and the move is judged again
+-- the verdict, if no swap accepted since its base touched its footprint; otherwise none, and the move is redone
 abbrev pub usable : Run → World → Option JudgedMove → Option JudgedMove
 usable p w None = None
 usable p w (Some v) = if clash p.problem.design w.accepted v.base v.judged.footprint then None else Some v
@@ -194,7 +194,7 @@ abbrev pub ways : Run → World → List Event → List Way
 ways p w [] = []
 ways p w (e ∷ events) = ways_now p w e ++ ways p (happens p w e) events
 
--- the move was judged again
+-- the move was redone
 abbrev pub is_redone_way : Way → Bool
 is_redone_way Taken = false
 is_redone_way Redone = true

@@ -90,7 +90,7 @@ pub record IsWhole (r : Run) (s : WorldState) : Type 0 where
 abbrev pub without_last : ℕ → List JudgedMove → List JudgedMove
 without_last worker verdicts = filter (λ (v : JudgedMove). not (v.worker == worker && is_last worker verdicts v.number)) verdicts
 
--- the greatest number of the worker's verdicts in `all`, if its verdict is among these, which are some of `all`
+-- the greatest number of the worker's verdicts in `all`, if the verdict of that number is in the second list, a part of `all`
 abbrev pub last_among : ℕ → List JudgedMove → List JudgedMove → Option ℕ
 last_among worker all [] = None
 last_among worker all (v ∷ rest) =

@@ -1,5 +1,5 @@
--- Moves of a stage that an owner makes by turns, alone or beside a crew, as contracts see them (our own). The count of moves judged again is
--- that of the turns of the batch in both cases, so one set of definitions serves both; their names are those of the owner alone.
+-- Moves of a stage that an owner makes by turns, alone or beside a crew, as contracts see them (our own). The count of redone moves is that
+-- of the turns of the batch in both cases. So one set of definitions serves both; it is named after the owner alone.
 use Rattle.std.specs.Prelude.{ℕ, ◌≡◌, zero, suc, ◌+◌, ◌-◌, ◌<◌, ◌≤◌, nat_lt, Bool, List, [], ◌∷◌, ◌++◌, length, replicate, slice_index_or, Result, MatchResult, OnOk, OnErr}
 use Rattle.std.specs.List.{count_by, filter, list_any, range_with_len}
 use Rattle.std.specs.declared.alloc.AllocError.{AllocError}
@@ -26,7 +26,7 @@ use Rattle.fab_commit.specs.Model.World.{World, is_redone_way, ways}
 abbrev pub AreWords : (ℕ → List ℕ) → ℕ → List (List ℕ) → Type 0
 AreWords words k all = (i : ℕ) → i < length all → slice_index_or all i [] ≡ words (k + i)
 
--- move `base` or a later one touched what the judgement of the next move on the live placement rests on
+-- move `base` or a later one touched the footprint of the next move, judged on the live placement
 abbrev pub is_touched_here : Run → Owner → ℕ → Bool
 is_touched_here r o base =
     list_any (λ m. nat_lt base (kept_stamp r.problem.grid o.stamps m)) (judged_here r (standing_of o.state) o.state.done).footprint
@@ -44,7 +44,7 @@ pub record AreOpen (r : Run) (o : Owner) (base n : ℕ) : Type 0 where
   pub before : AreBefore o.state.done log
   pub recent : filter (since base) log ≡ accepted_from r start made
 
--- what is kept after turn t, where the moves that count as judged ahead are those that the turn would have judged
+-- what is kept after turn t. The moves that count as judged ahead are those that the turn would have judged
 pub record IsAlone (r : Run) (t : LastTurn) (o : Owner) (ahead : Ahead) : Type 0 where
   pub plan : IsLawful r.plan
   pub stage : IsOfAStage r t
@@ -67,8 +67,8 @@ pub record HasGone (r : Run) (t : LastTurn) (o : Owner) (made ahead : ℕ) (now 
   pub accepted : noted now.state.accepted ≡ noted_more (noted o.state.accepted) (accepted_among r (standing_of o.state) made)
   pub redone : now.redone ≡ o.redone + count_by (is_redone_behind r t) (range_with_len (stands r t).done made)
 
--- after whatever turn came a turn of at most `batch` moves, and the answer tells the moves after it that count as judged ahead; or memory ran
--- out, and the turn made no move
+-- whatever turn came before, there came a turn of at most `batch` moves, and the answer is which moves after it count as judged ahead; or
+-- memory ran out, and the turn made no move
 abbrev pub TurnsOnce : Run → ℕ → Owner → Ahead → Result Ahead AllocError → Owner → Type 0
 TurnsOnce r batch o ahead answer now =
     MatchResult answer
@@ -100,8 +100,8 @@ with_shorter turns batch (suc short) = replicate turns batch ++ suc short ∷ []
 abbrev pub unjudged : LastTurn → LastTurn
 unjudged t = record { start = t.start; made = t.made; ahead = 0 }
 
--- after turn t, turns of this batch and then a shorter one made `made` moves; if that used up the stage, no turn is shorter than the stage
--- makes it, and nothing is left to judge ahead
+-- after turn t, turns of this batch and then a shorter one made `made` moves. If these are all moves that the stage had left, only the end
+-- of the stage makes a turn shorter (`short` is 0), and nothing is left to judge ahead
 pub record HaveEnded (r : Run) (batch : ℕ) (t : LastTurn) (o : Owner) (made : ℕ) (now : Owner) (due : Ahead) : Type 0 where
   pub turns : ℕ
   pub short : ℕ
@@ -122,8 +122,8 @@ LeadsTo r batch x y old new = (z : Standing) (before : List Reading) → HasShow
 abbrev pub EndsAt : Run → ℕ → Standing → Standing → List Reading → List Reading → Type 0
 EndsAt r batch x y old new = (z : Standing) (before : List Reading) → HasShown r batch z before x old → new ≡ before ++ readings r z batch (y.done - z.done)
 
--- an owner made `count` moves, alone or beside a crew, in turns of this batch, of which the last may be shorter; or memory ran out after some
--- turns. Nothing counts as judged ahead
+-- an owner made `count` moves, alone or beside a crew, in turns of this batch; the last turn may be shorter. Or memory ran out after some
+-- turns. In both cases nothing counts as judged ahead
 pub record AreMadeAlone {A : Type 0} (r : Run) (batch count : ℕ) (o : Owner) (ahead : Ahead) (now : Owner) (due : Ahead) (answer : Result A AllocError) (old new : List Reading) : Type 0 where
   pub none : due.moves ≡ 0
   pub ended : OnOk answer ((t : LastTurn) → IsAlone r t o ahead → HaveEnded r batch t o count now due)
@@ -137,13 +137,13 @@ pub record IsUnjudged (now : Pipeline) (due : Ahead) : Type 0 where
   pub base : now.base ≡ due.base
   pub ahead : now.ahead.items ≡ []
 
--- how many moves the turns of these batches judge again in a world
+-- how many moves the turns of these batches redo in a world
 abbrev pub redone_in : Run → World → List ℕ → ℕ
 redone_in r w [] = 0
 redone_in r w (batch ∷ batches) = count_by is_redone_way (ways r w (turn_events r batch w)) + redone_in r (turn r batch w) batches
 
--- an annealer made `count` moves of its stage, alone or beside a crew, in turns of this batch, of which the last may be shorter, and showed
--- each turn; or memory ran out after some turns
+-- an annealer made `count` moves of its stage, alone or beside a crew, in turns of this batch, and showed each turn; the last turn may be
+-- shorter. Or memory ran out after some turns
 pub record IsMade {W A : Type 0} (moves : W → ℕ → List ℕ) (batch count : ℕ) (a b : AnnealOf W) (answer : Result A AllocError) (old new : List Reading) : Type 0 where
   -- What the run is given stays the same.
   pub same : IsSameRun a b
@@ -160,7 +160,7 @@ pub record IsMade {W A : Type 0} (moves : W → ℕ → List ℕ) (batch count :
   pub ends : OnOk answer (EndsAt (run_of moves a) batch a.standing b.standing old new)
   pub shown_cut : OnErr answer (LeadsTo (run_of moves a) batch a.standing b.standing old new)
 
--- they are also the moves of turns of a world, and the count of moves judged again is that of these turns
+-- the moves are also those of turns of a world, and the count of redone moves is that of these turns
 pub record IsMadeByTurns {W A : Type 0} (moves : W → ℕ → List ℕ) (batch count : ℕ) (a b : AnnealOf W) (answer : Result A AllocError) (old new : List Reading) : Type 0 where
   pub made : IsMade moves batch count a b answer old new
   -- They are turns of a world, whatever was judged ahead in it; if memory ran out, all are whole, and a turn comes after them that makes no
@@ -171,9 +171,9 @@ pub record IsMadeByTurns {W A : Type 0} (moves : W → ℕ → List ℕ) (batch 
   pub whole : OnErr answer (short ≡ 0)
   pub world : OnOk answer (world_of b ≡ (let w = turns (run_of moves a) (world_of a) (with_shorter turns_made batch short) in record w { verdicts = [] }))
   pub cut : OnErr answer (world_of b ≡ turn_making (run_of moves a) 0 0 (turns (run_of moves a) (world_of a) (replicate turns_made batch)))
-  -- The count of moves judged again grows by those that these turns judge again.
+  -- The count of redone moves grows by those that these turns redo.
   pub redone : b.redone ≡ a.redone + redone_in (run_of moves a) (world_of a) (replicate turns_made batch ++ short ∷ [])
-  -- If turns of this batch led to `a` from some standing, those to the end of the stage are more of them; and the moves judged again since that
+  -- If turns of this batch led to `a` from some standing, the turns to the end of the stage are more of them. The moves redone since that
   -- standing are those of one batch, even if the last turn is shorter.
   pub by_turns : OnOk answer (count ≡ moves_left (run_of moves a) a.standing → LeadsByTurns (run_of moves a) batch a b)
   pub counted : OnOk answer ((x : Standing) → IsByTurns (run_of moves a) x batch a → b.redone ≡ redone_in_run (run_of moves a) x batch (b.standing.done - x.done))

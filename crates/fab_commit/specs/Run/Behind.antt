@@ -33,8 +33,8 @@ after_post x p =
       total = p.total;
     }
 
--- a post may be followed from a standing: each swap is one of the placement that it is made on, the placement that they lead to is
--- legal and has the cost that the post tells; the moves made are those of the post's stage, and no more were accepted than made
+-- a post may be followed from a standing. Each swap is one of the placement that it is made on. The placement that the swaps lead to is
+-- legal and has the post's cost. The moves made are those of the post's stage, and no more were accepted than made
 pub record MayBeFollowed (r : Run) (x : Standing) (p : Post) : Type 0 where
   pub leads : Leads r.problem.grid x.sites p.swaps.items (all_swapped x.sites p.swaps.items)
   pub cost : p.cost ≡ cost_of r.problem.design r.problem.grid (all_swapped x.sites p.swaps.items)

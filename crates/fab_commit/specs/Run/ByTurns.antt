@@ -5,7 +5,7 @@ use Rattle.fab_commit.specs.Run.Commits.{AnnealOf, world_of}
 use Rattle.fab_commit.specs.Model.TurnEvents.{no_turn, world_behind}
 use Rattle.fab_commit.specs.Model.Turns.{last_turn, redone}
 
--- some number of turns of a batch led here from a standing, and all moves that they judged again are counted
+-- some number of turns of a batch led here from a standing, and all moves that they redid are counted
 pub record IsByTurns {W : Type 0} (r : Run) (x : Standing) (batch : ℕ) (a : AnnealOf W) : Type 0 where
   pub turns : ℕ
   pub here : world_of a ≡ world_behind r (last_turn r (no_turn x) (replicate turns batch))

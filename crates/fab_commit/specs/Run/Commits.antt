@@ -25,8 +25,8 @@ run d g fixed words plan = record { problem = problem d g fixed words; plan = pl
 abbrev pub run_for : {W : Type 0} → (W → ℕ → List ℕ) → Given W → Run
 run_for moves g = run g.design.now g.grid.now g.fixed (moves g.words) g.schedule
 
--- an annealer: what its run is given, its standing, the verdicts judged ahead, the swaps that its last turn accepted, the numbers of
--- the moves that it accepted since it began, and how many of its moves it has counted as judged again
+-- an annealer: what its run is given, its standing, the verdicts judged ahead, the swaps that its last turn accepted, the numbers of the
+-- moves that it accepted since it began, and how many of its moves it has counted as redone
 pub record AnnealOf (W : Type 0) : Type 0 where
   pub design : Netlist
   pub grid : GridShape
@@ -88,8 +88,8 @@ standing_in p stage sites total =
       total = total;
     }
 
--- the stage can be one of the run, with moves left; after the last move it is an empty stage after the frozen one, and its
--- temperature is never read
+-- the stage can be one of the run, with moves left. After the last move it is an empty stage after the frozen one, and its temperature is
+-- never read
 abbrev pub StageStands : Plan → ℕ → Bool → Stage → Type 0
 StageStands p side false s = IsStage p side s × (s.done < p.moves)
 StageStands p side true s =

@@ -12,7 +12,8 @@ use Rattle.fab_commit.specs.Model.TurnEvents.{LastTurn}
 abbrev pub IsTied : {S : Type 0} → (S → Run) → (S → Standing) → (S → Post → S) → Option S → List Post → Run → Standing → Type 0
 IsTied {S} run standing after start posts r x = (s0 : S) × (start ≡ Some s0) × (run (followed after s0 posts) ≡ r) × (standing (followed after s0 posts) ≡ x)
 
--- before the first turn the crew, if any, is where the owner is; after turn t it is where t began, and the owner's swaps lead on from there
+-- if there is a crew: before the first turn it stands where the owner does; after turn t it stands where t began, and the owner's swaps
+-- lead on from there
 abbrev pub IsBeside : {S : Type 0} → (S → Run) → (S → Standing) → (S → Post → S) → Option S → Run → LastTurn → Owner → Bool → Option (List Post × List Post) → Type 0
 IsBeside run standing after start r t o begun crew =
     (begun ≡ false → IfSome crew (λ p. IsTied run standing after start p.0 r (standing_of o.state)))

@@ -33,29 +33,35 @@ abbrev pub nets_on : Netlist → Option BlockId → List NetId
 nets_on d None = []
 nets_on d (Some b) = map (λ n. record { 0 = n }) (nets_of d b.0)
 
--- those of some nets that have more than 16 terminals
+-- the nets of a list that have more than 16 terminals
 abbrev pub large_among : Netlist → List NetId → List NetId
 large_among d ns = filter (λ n. is_large d n.0) ns
 
--- those of some nets that stand at these places
+-- the nets at these places of a list
 abbrev pub nets_at : List NetId → List ℕ → List NetId
 nets_at ns places = map (λ i. slice_index_or ns i (record { 0 = 0 })) places
 
--- what is kept of a swap's nets with more than 16 terminals, if anything: first those of its block, then those of the block that it
--- displaces, 5 at most
+-- a swap's nets with more than 16 terminals: first those of its block, then those of the block that it displaces
+abbrev pub large_nets : Netlist → Swap → List NetId
+large_nets d s = large_among d (nets_on d (Some s.block)) ++ large_among d (nets_on d s.other)
+
+-- what is kept of a swap's nets with more than 16 terminals, if anything: all of them, 5 at most
 pub record AreKept (d : Netlist) (s : Swap) (n : LargeNets) : Type 0 where
   pub most : n.is_kept ≡ true → n.all ≤ 5
-  pub nets : n.is_kept ≡ true → take n.all n.nets ≡ large_among d (nets_on d (Some s.block)) ++ large_among d (nets_on d s.other)
+  pub nets : n.is_kept ≡ true → take n.all n.nets ≡ large_nets d s
 
--- if nets are still kept, they are those of before with these after them; there are 5 at most in any case
+-- the nets `more` were appended. If nets are still kept, they are the old ones followed by `more`. There are at most 5 in any case. They
+-- are still kept if there is room
 pub record AreAppended (old new : LargeNets) (more : List NetId) : Type 0 where
   pub most : new.all ≤ 5
   pub were : new.is_kept ≡ true → old.is_kept ≡ true
   pub nets : new.is_kept ≡ true → take new.all new.nets ≡ take old.all old.nets ++ more
+  pub all : new.is_kept ≡ true → new.all ≡ old.all + length more
+  pub still : old.is_kept ≡ true → old.all + length more ≤ 5 → new.is_kept ≡ true
 
--- this is what move k would be on the placement of x: what it proposes, its words, its decision, how much of its change of cost comes from nets
--- with up to 16 terminals, and its swap's other nets, if they are kept. All that the decision rests on is what the proposal names (`marks`). Its
--- swap, if any, is of blocks of the design (`block`, `other`), and between sites of one kind (`kind`)
+-- this is what is foreseen of move k on the placement of x: its proposal, its words, its decision, how much of its change of cost comes
+-- from nets with up to 16 terminals, and its swap's other nets, which are kept if there are at most 5. The footprint is what the proposal
+-- names (`marks`). The swap, if any, is of blocks of the design (`block`, `other`), and between sites of one kind (`kind`)
 pub record IsForeseen (r : Run) (x : Standing) (k : ℕ) (f : Foreseen) : Type 0 where
   pub proposes : f.proposal ≡ proposal r.problem.design r.problem.grid r.problem.fixed x.sites x.range (r.problem.words k)
   pub words : f.words ≡ r.problem.words k
@@ -66,8 +72,9 @@ pub record IsForeseen (r : Run) (x : Standing) (k : ℕ) (f : Foreseen) : Type 0
   pub other : (s : Swap) (b : BlockId) → f.proposal ≡ Move s → s.other ≡ Some b → b.0 < length r.problem.design.kinds
   pub kind : (s : Swap) → swap_in f.proposal ≡ Some s → kind_at r.problem.grid s.to ≡ kind_at r.problem.grid s.from
   pub nets : (s : Swap) → f.proposal ≡ Move s → AreKept r.problem.design s f.nets
+  pub kept : (s : Swap) → f.proposal ≡ Move s → length (large_nets r.problem.design s) ≤ 5 → f.nets.is_kept ≡ true
 
--- these are what moves in a row from k on would be on the placement of x
+-- these are what is foreseen of the moves from k on, on the placement of x
 abbrev pub AreForeseen : Run → Standing → ℕ → List Foreseen → Type 0
 AreForeseen r x k all = (i : ℕ) (f : Foreseen) → i < length all → IsForeseen r x (k + i) (slice_index_or all i f)
 
@@ -75,7 +82,7 @@ AreForeseen r x k all = (i : ℕ) (f : Foreseen) → i < length all → IsForese
 abbrev pub AreRejected : List Foreseen → Type 0
 AreRejected all = (i : ℕ) (f : Foreseen) → i < length all → (slice_index_or all i f).accepted ≡ false
 
--- on the placement of y, move k proposes this swap, and so much of its change of cost comes from nets with up to 16 terminals
+-- on the placement of y, move k proposes this swap, and `few` of its change of cost comes from nets with up to 16 terminals
 pub record IsStill (r : Run) (y : Standing) (k : ℕ) (few : ℤ) (s : Swap) : Type 0 where
   pub proposes : proposal r.problem.design r.problem.grid r.problem.fixed y.sites y.range (r.problem.words k) ≡ Move s
   pub few_is : few ≡ change (few_of r.problem.design) r.problem.grid y.sites s

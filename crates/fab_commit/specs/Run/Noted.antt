@@ -2,12 +2,12 @@
 use Rattle.std.specs.Prelude.{ℕ, ◌≡◌, ◌+◌, ◌≤◌, List, [], ◌∷◌, ◌++◌, Option, Some, None, vec_len, vec_capacity, refl}
 use Rattle.std.specs.Global.{Vec}
 
--- the numbers that are kept; none where none are kept
+-- the numbers that are kept; none if no numbers are kept
 abbrev pub noted : Option (Vec ℕ) → Option (List ℕ)
 noted None = None
 noted (Some v) = Some v.items
 
--- the kept numbers with these added; where none are kept, none
+-- the kept numbers with these added; none if no numbers are kept
 abbrev pub noted_more : Option (List ℕ) → List ℕ → Option (List ℕ)
 noted_more None more = None
 noted_more (Some l) more = Some (l ++ more)

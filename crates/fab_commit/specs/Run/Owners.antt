@@ -78,12 +78,12 @@ pub record AreDue (r : Run) (o : Owner) (base : ℕ) (answers : List Answer) : T
   pub before : AreBefore o.state.done log
   pub recent : filter (since base) log ≡ accepted_from r start made
 
--- how many of n moves are judged again, if the first ones were judged at an older standing and the others at this one
+-- how many of n moves are redone, if the first ones were judged at an older standing and the others at this one
 abbrev pub redone_of_both : Run → Standing → ℕ → Standing → ℕ → ℕ
 redone_of_both r start first x n =
     count_by (is_redone r start start.done) (range_with_len x.done (min first n))
     + count_by (is_redone r x x.done) (range_with_len (x.done + first) (n - first))
 
--- the moves that were judged again are counted
+-- the redone moves are counted
 pub record HasCounted (r : Run) (o : Owner) (base : ℕ) (answers : List Answer) (now : Owner) : Type 0 where
   pub redone : (due : AreDue r o base answers) → now.redone ≡ o.redone + redone_of_both r due.start (length answers) (standing_of o.state) (now.state.done - o.state.done)

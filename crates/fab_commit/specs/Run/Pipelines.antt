@@ -21,8 +21,8 @@ pub record IsAnswer (r : Run) (x : Standing) (k : ℕ) (a : Answer) : Type 0 whe
   pub is : verdict_of x.done a ≡ verdict_on r x k
   pub kind : KeepsKind r.problem.grid a
 
--- what is kept after turn t: the placement is where it led, the moves after it were judged ahead on the placement at its start, and the
--- stamps are those of a list of accepted moves whose part from the turn's start on is the turn's
+-- what is kept after turn t. The placement is where the turn led. The moves after it were judged ahead on the placement at its start. The
+-- stamps are those of a list of accepted moves; the part of that list from the turn's start on is the turn's
 pub record IsBehind (r : Run) (t : LastTurn) (s : Pipeline) : Type 0 where
   pub plan : IsLawful r.plan
   pub stage : IsOfAStage r t
@@ -44,8 +44,8 @@ pub record HasTurned (r : Run) (t : LastTurn) (s : Pipeline) (made ahead : ℕ) 
   pub accepted : noted now.owner.state.accepted ≡ noted_more (noted s.owner.state.accepted) (accepted_among r (stands r t) made)
   pub redone : now.owner.redone ≡ s.owner.redone + count_by (is_redone_behind r t) (range_with_len (stands r t).done made)
 
--- a turn of at most `batch` moves, whatever turn led to it: it made its moves and judged the next batch; or it was cut short, because memory
--- ran out, and nothing is judged ahead; memory runs out only if moves were left
+-- a turn of at most `batch` moves, whatever turn led to it. It made its moves and judged the next batch; or it was cut short because memory
+-- ran out, and nothing is judged ahead. Memory runs out only if moves were left
 pub record TurnsOn {A : Type 0} (r : Run) (batch : ℕ) (s now : Pipeline) (answer : Result A AllocError) : Type 0 where
   pub within : (s.owner.state.done ≤ now.owner.state.done) × (now.owner.state.done ≤ s.owner.state.done + min batch (moves_left r (standing_of s.owner.state)))
   pub ok : OnOk answer ((t : LastTurn) → IsBehind r t s → HasTurned r t s (next_turn r batch t).made (next_turn r batch t).ahead now)

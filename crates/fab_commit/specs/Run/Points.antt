@@ -33,7 +33,7 @@ pub record TellsPoint {W : Type 0} (a : AnnealOf W) (p : Point) : Type 0 where
   pub array : p.placement.grid ≡ a.grid
   pub sites : p.placement.sites ≡ a.standing.sites
 
--- the annealer that goes on from a point: nothing is accepted, judged ahead or judged again yet
+-- the annealer that goes on from a point: no move is accepted or redone yet, and nothing is judged ahead
 abbrev pub going_on : {W : Type 0} → Netlist → GridShape → Point → W → AnnealOf W
 going_on d g p words =
     record {

@@ -29,26 +29,26 @@ stamp_in g blocks places nets (Net n) = slice_index nets n.0
 abbrev pub kept_stamp : GridShape → Stamps → Mark → ℕ
 kept_stamp g s m = stamp_in g s.blocks.items s.places.items s.nets.items m
 
--- what is kept of what is near a block: where neither that nor the floor is above a number, no stamp of the block, or of one of its nets with up
--- to 16 terminals, is
+-- the `near` numbers of the blocks: if neither a block's number nor the floor is above a base, then no stamp of the block, or of one of its
+-- nets with up to 16 terminals, is above it
 pub record IsNear (d : Netlist) (blocks nets near : List ℕ) (floor : ℕ) : Type 0 where
   pub long : length near ≡ length d.kinds
   pub own : (b base : ℕ) → b < length d.kinds → slice_index near b ≤ base → floor ≤ base → slice_index blocks b ≤ base
   pub few : (b n base : ℕ) → b < length d.kinds → has_number b (blocks_of d n) ≡ true → is_large d n ≡ false → slice_index near b ≤ base → floor ≤ base → slice_index nets n ≤ base
 
--- there is a stamp for each block, site and net, and a number for each block that bounds the stamps of what is near it
+-- there is a stamp for each block, site and net, and a `near` number for each block
 pub record IsTable (d : Netlist) (g : GridShape) (s : Stamps) : Type 0 where
   pub blocks : length s.blocks.items ≡ length d.kinds
   pub places : length s.places.items ≡ site_count g
   pub nets : length s.nets.items ≡ length d.terminals
   pub near : IsNear d s.blocks.items s.nets.items s.near.items s.floor
 
--- the number of what is near a block, or 0 if there is no block
+-- the `near` number of a block, or 0 if there is no block
 abbrev pub near_of : List ℕ → Option BlockId → ℕ
 near_of near None = 0
 near_of near (Some b) = slice_index near b.0
 
--- neither the floor, nor the stamp of a swap's target, nor what is near its blocks is above a number
+-- neither the floor, nor the stamp of a swap's target, nor the `near` numbers of its blocks are above a number
 pub record IsQuiet (g : GridShape) (s : Stamps) (base : ℕ) (swap : Swap) : Type 0 where
   pub floor : s.floor ≤ base
   pub target : kept_stamp g s (Place swap.to) ≤ base

@@ -20,13 +20,13 @@ pub record IsTurned {W : Type 0} (moves : W → ℕ → List ℕ) (batch : ℕ) 
   pub ok : OnOk answer (b.standing.done ≡ a.standing.done + min batch (moves_left (run_of moves a) a.standing))
   pub within : (a.standing.done ≤ b.standing.done) × (b.standing.done ≤ a.standing.done + min batch (moves_left (run_of moves a) a.standing))
   pub told : IfOk answer (λ t. t ≡ turn_of b.standing.heat)
-  -- If no move is left, there is no error, and nothing changes but that the last turn, which is now this one, accepted no swap. Nothing was
+  -- If no move is left, there is no error. Nothing changes, except that this turn is now the last one, and it accepted no swap. Nothing was
   -- judged ahead.
   pub finished : a.standing.heat ≡ None → (answer ≡ Ok Finished) × (a.ahead ≡ []) × (b ≡ record a { swaps = [] })
   -- It is a turn of a world; if memory ran out, a turn that judges nothing ahead.
   pub world : OnOk answer (world_of b ≡ turn (run_of moves a) batch (world_of a))
   pub cut : OnErr answer (world_of b ≡ turn_making (run_of moves a) (b.standing.done - a.standing.done) 0 (world_of a))
-  -- The count of moves judged again grows by those that these events judge again, among the moves that were made.
+  -- The count of redone moves grows by those of the moves made that these events redo.
   pub redone : b.redone ≡ a.redone + count_by is_redone_way (take (b.standing.done - a.standing.done) (ways (run_of moves a) (world_of a) (turn_events (run_of moves a) batch (world_of a))))
   -- The verdicts after it are for the next moves of the stage, a batch of them or all that are left, on the placement at the turn's
   -- start; if memory ran out, there are none.

@@ -113,7 +113,7 @@ fn is_number(last: Option<u64>, number: u64) -> bool
     }
 }
 
-/// Drops a worker's verdict with this number.
+/// Drops a worker's verdict with the number `last`.
 fn drop_verdict(verdicts: &mut Vec<JudgedMove>, worker: u64, last: Option<u64>)
     ensures { verdicts.new.items ≡ without_verdict worker last verdicts.old.items }
 {

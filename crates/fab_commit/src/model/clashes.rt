@@ -1,4 +1,4 @@
-//! Whether an accepted swap touched what a verdict rests on. Part of the model: no run executes it.
+//! Whether an accepted swap touched a verdict's footprint. Part of the model: no run executes it.
 
 ghost use Rattle.std.specs.Prelude.{◌≡◌, ◌<◌, ◌==◌, length};
 ghost use Rattle.std.specs.List.{All, list_any};

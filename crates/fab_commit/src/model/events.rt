@@ -5,7 +5,7 @@
 pub enum Way {
     /// From its verdict.
     Taken,
-    /// It was judged again, because an accepted swap touched what its verdict rests on.
+    /// It was judged again, because an accepted swap touched its verdict's footprint.
     Redone,
     /// It was judged at its commit, because it had no verdict.
     Late,

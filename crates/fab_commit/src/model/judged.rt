@@ -40,7 +40,7 @@ impl Judgement {
         &self.answer
     }
 
-    /// The marks that it rests on.
+    /// The marks that the judgement rests on.
     pub(crate) fn footprint(&self) -> &[Mark]
         ensures { result.now ≡ self.now.footprint }
     {

@@ -17,8 +17,8 @@ use fab_site::{Fixed, Placement, Words};
 use std::alloc::{AllocError, Global};
 use std::marker::Model;
 
-/// Anneals a placement with moves judged ahead, but without workers: the caller decides which event happens next. Whatever the events
-/// are, the placement is that of moves made one at a time.
+/// Anneals a placement with moves judged ahead, but without workers: the caller decides which event happens next. For any events, the
+/// placement is that of moves made one at a time.
 pub struct World<'a, W: Words + Drop> {
     given: Given<'a, W>,
     state: WorldState,

@@ -1,4 +1,4 @@
-//! Moves that the owner decides itself, each on the live placement. It counts those that turns of the batch would judge again.
+//! Moves that the owner decides itself, each on the live placement. It counts those that turns of the batch would redo.
 
 ghost use Rattle.std.specs.Prelude.{◌≡◌, ℕ, ◌+◌, ◌<◌, ◌≤◌, ◌++◌, [], ◌∷◌, false, length, Some, IfSome, OnOk};
 ghost use Rattle.std.specs.List.{count_by, range_with_len};
@@ -34,7 +34,7 @@ pub(crate) struct Ahead {
 }
 
 /// Decides the next move on the live placement, by its words. Returns the decision, and whether a judgement on the placement after `base`
-/// moves was spoilt: whether a move accepted since has touched what the move rests on. Allocates nothing.
+/// moves is stale: whether a move accepted since has touched the move's footprint. Allocates nothing.
 #[inline(always)]
 pub(crate) fn decided_alone<W: Words>(
     given: &Given<'_, W>,
@@ -63,7 +63,7 @@ pub(crate) fn decided_alone<W: Words>(
     (weigh(&view, proposal, used[3]), again)
 }
 
-/// The words of move `k`. If it is judged again, they are asked for again.
+/// The words of move `k`. If the move counts as redone, they are asked for again.
 fn asked_again<W: Words>(source: &W, k: u64, words: [u32; 4], again: bool) -> [u32; 4]
     requires { words ≡ W.moves source.now k }
     ensures { result ≡ W.moves source.now k }
@@ -82,8 +82,8 @@ fn cost_if(cost: &EdgeBoxes, wanted: bool) -> Option<&EdgeBoxes>
     if wanted { Some(cost) } else { None }
 }
 
-/// Makes the moves that have these words. They count as judged on the placement after `base` moves. The caller has called `before_judge`
-/// for the first one; a gate that does nothing gets no more such calls. `near` says whether a crew works. Allocates nothing.
+/// Makes the next moves, whose words are `words`. They count as judged on the placement after `base` moves. The caller has called
+/// `before_judge` for the first one; a gate that does nothing gets no more such calls. `near` says whether a crew works. Allocates nothing.
 fn commit_some<W: Words, G: Gate>(
     given: &Given<'_, W>,
     owner: &mut Owner,
@@ -121,7 +121,7 @@ fn commit_some<W: Words, G: Gate>(
 /// The most moves whose words are made at once.
 pub(crate) const AT_ONCE: usize = 32;
 
-/// For how many moves words are made in one call: 1 if the gate does something, since such a gate may note that the words of a move are
+/// For how many moves words are made in one call. It is 1 if the gate does something: such a gate may notice that the words of a move are
 /// asked for between the calls before and after its judgement.
 pub(crate) fn at_once<G: Gate>(gate: &G) -> usize
     ensures { (1 ≤ result) × (result ≤ 32) }
@@ -129,9 +129,9 @@ pub(crate) fn at_once<G: Gate>(gate: &G) -> usize
     if gate.does_nothing() { AT_ONCE } else { 1 }
 }
 
-/// Makes the next moves of the running stage, each decided by the owner on the live placement, alone or beside a crew. They count as judged
-/// on the placement after `due.base` moves. `words` is room for the words of some moves, and `near` says whether a crew works. Allocates
-/// nothing.
+/// Makes the next `due.moves` moves of the running stage. The owner decides each on the live placement, alone or beside a crew. They count
+/// as judged on the placement after `due.base` moves. `words` is room for the words of some moves, and `near` says whether a crew works.
+/// Allocates nothing.
 pub(crate) fn commit_alone<W: Words, G: Gate>(
     given: &Given<'_, W>,
     owner: &mut Owner,
@@ -164,8 +164,8 @@ pub(crate) fn commit_alone<W: Words, G: Gate>(
     }
 }
 
-/// Makes a turn of at most `batch` moves of the running stage, of which the first ones count as judged ahead. Returns the moves after
-/// it that do. An error means that memory ran out; then no move was made.
+/// Makes one turn of at most `batch` moves. The first `ahead.moves` count as judged on the base of `ahead`. Returns which moves the next
+/// turn counts so. An error means that memory ran out; then no move was made.
 pub(crate) fn turn_alone<W: Words, G: Gate>(
     given: &Given<'_, W>,
     owner: &mut Owner,

@@ -37,7 +37,7 @@ use std::snapshot::Snapshot;
 use std::sync::{Arc, Wait};
 use std::thread::Threads;
 
-/// Anneals a placement of a design on an array. `K` says what it keeps of the moves that it accepts: their numbers, or how many there are.
+/// Anneals a placement of a design on an array. `K` selects what it keeps of the accepted moves: their numbers, or only how many there are.
 pub struct Anneal<'a, W: Words + Drop, K: Keeping = KeepsNumbers> {
     pub(crate) given: Arc<Given<'a, W>>,
     pub(crate) pipeline: Pipeline,
@@ -132,7 +132,7 @@ impl<'a, W: Words + Drop> Anneal<'a, W> {
     }
 
     /// Creates an annealer that goes on from a snapshot of a run. By contract the snapshot is a lawful one of this design and array. The
-    /// annealer has accepted, judged ahead and judged again nothing yet. An error means that memory ran out.
+    /// new annealer has accepted and redone no move yet, and nothing is judged ahead. An error means that memory ran out.
     pub fn from_point(
         alloc: Global,
         design: &'a Design,
@@ -198,8 +198,7 @@ impl<'a, W: Words + Drop> Anneal<'a, W> {
         }
     }
 
-    /// The same annealer, which keeps what `K` says of the moves that it accepts. If numbers are kept no longer, their memory is given
-    /// back.
+    /// The same annealer, but it keeps of the accepted moves what `K` selects. If it no longer keeps their numbers, it frees that memory.
     pub fn keeping<K: Keeping>(self) -> Anneal<'a, W, K>
         ensures { result ≡ self.entry }
     {
@@ -250,8 +249,8 @@ impl<'a, W: Words + Drop, K: Keeping> Anneal<'a, W, K> {
         Ok(Some(point))
     }
 
-    /// A snapshot of the run as `point` returns it, in the memory of `room`: a snapshot of a run with the same design, array and fixed
-    /// blocks, such as an earlier one of this run. `None` after the last move. Needs no memory.
+    /// The snapshot of the run that `point` returns, in the memory of `room`. `room` is a snapshot of a run with the same design, array and
+    /// fixed blocks, for example an earlier one of this run. `None` after the last move. Allocates nothing.
     pub fn point_in(&self, room: Point) -> Option<Point>
         requires lawful { IsPoint self.now.design self.now.grid room }
         requires fixed { (b : ℕ) → fixed_at room.fixed b ≡ fixed_at self.now.fixed b }
@@ -342,9 +341,9 @@ impl<'a, W: Words + Drop, K: Keeping> Anneal<'a, W, K> {
         &self.pipeline.ahead
     }
 
-    /// How many moves this value judged again, because a move accepted before them had touched what their verdicts rested on. Where the
-    /// owner makes moves alone nothing is judged twice, and the number is that of the turns of the batch. Of a value that need not tell it
-    /// (`KeepsCount`), moves made alone add nothing to it.
+    /// How many moves this value redid, because a move accepted before them had touched their footprint. If the owner makes moves alone,
+    /// nothing is judged twice, and this counts the moves that turns of the batch would redo. With `KeepsCount`, moves made alone add
+    /// nothing to it.
     pub fn redone(&self) -> u64
         ensures { result ≡ self.now.redone }
     {
@@ -389,18 +388,19 @@ impl<'a, W: Words + Drop, K: Keeping> Anneal<'a, W, K> {
 }
 
 impl<'a, W: Words + Drop, K: Keeping> Anneal<'a, W, K> {
-    /// Makes the next `count` moves of the running stage, of which some are left, and at least so many. The calling thread judges each when
-    /// its turn comes, on the live placement; no move is judged ahead. The moves are those of turns of the plan's batch, from 1 to 4,096
-    /// moves, of which the last may be shorter. Each turn shows on the dial how far the run has come. The judgements ahead of these turns
-    /// would have been spoilt as often: where moves judged again are counted, `redone` grows by as many as they would have judged again,
-    /// though nothing is judged twice. The plan's workers are not asked. By contract the shower is one of the plan's dial.
+    /// Makes the next `count` moves of the running stage. The stage must have at least one move left, and at least `count`. The calling
+    /// thread judges each move when its turn comes, on the live placement; no move is judged ahead. The moves are made in turns of the
+    /// plan's batch (1 to 4,096 moves); the last turn may be shorter. Each turn shows on the dial how far the run has come. If redone moves
+    /// are counted, `redone` grows by the number that turns with a crew would have redone, though here nothing is judged twice. The plan's
+    /// workers are not used. By contract the shower is one of the plan's dial.
     ///
     /// The gate is called before and after the judgement of each move, and before its commit, all by the calling thread. So a gate that
-    /// waits in one call for another waits for ever here. If the gate says that it does nothing, the words of some moves are asked for
-    /// together, after one call for them all; else those of a move are asked for between the calls before and after its judgement.
+    /// waits in one call for another waits for ever here. If the gate does nothing, the words of several moves are asked for together,
+    /// after one call for all of them. With any other gate, the words of a move are asked for between the calls before and after its
+    /// judgement.
     ///
-    /// An error means that memory ran out. Then the turns that were made stay, as `done`, `accepted` and `redone` tell, and another call
-    /// can go on. In either case nothing is judged ahead then.
+    /// An error means that memory ran out. Then the turns that were made stay, as `done`, `accepted` and `redone` report, and another call
+    /// can go on. After either result nothing is judged ahead.
     pub fn make_alone<G: Gate, R: Wait>(
         &mut self,
         rt: &R,
@@ -441,16 +441,17 @@ impl<'a, W: Words + Drop, K: Keeping> Anneal<'a, W, K> {
 }
 
 impl<'a, W: Words + Send + Sync + Drop, K: Keeping> Anneal<'a, W, K> {
-    /// Makes the next `count` moves of the running stage as [`Anneal::make_alone`] does, while the plan's workers, from 1 to 64, judge
-    /// moves ahead, up to a batch of the stage behind the last of these. They are founded for these moves, each with a copy of the
-    /// placement and its boxes, and have ended when this returns. If there is no memory for them and the gate says that it does nothing, or
-    /// if the system starts no thread, the calling thread makes the moves alone. By contract the shower is one of the plan's dial.
+    /// Makes the next `count` moves of the running stage as [`Anneal::make_alone`] does, while the plan's workers (1 to 64) judge moves
+    /// ahead, up to a batch of the stage after the last of the `count` moves. The workers are started for this call, each with a copy of
+    /// the placement and its boxes, and have ended when it returns. If the system starts no thread, the calling thread makes the moves
+    /// alone. It does so too if there is no memory for the workers and the gate does nothing. By contract the shower is one of the plan's
+    /// dial.
     ///
-    /// The gate is called before and after the first judgement of each move, by whichever thread judges it, and before its commit, which
-    /// comes before a move is judged again. If the gate says that it does nothing, a worker judges some moves in a row; else it judges one,
-    /// and asks for its words between the calls before and after the judgement, and then takes another. For want of memory for the workers
-    /// no move is made then, and this answers that memory ran out. A gate that waits in one call for another waits for ever where one
-    /// thread makes both calls: where no thread starts, and for moves that [`Anneal::turn`] judged ahead.
+    /// The gate is called before and after the first judgement of each move, by the thread that judges it, and before its commit. If a move
+    /// is redone, that is after the call before its commit. If the gate does nothing, a worker judges several moves in a row. With any
+    /// other gate, a worker judges one move at a time, and asks for its words between the calls before and after the judgement; and if
+    /// there is no memory for the workers, no move is made, and this returns an error. A gate that waits in one call for another waits for
+    /// ever if one thread makes both calls: if no thread starts, and for moves that [`Anneal::turn`] judged ahead.
     pub fn make_beside<G: Gate, R: Threads + Wait + Sync>(
         &mut self,
         rt: &R,

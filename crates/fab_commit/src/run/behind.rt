@@ -1,4 +1,4 @@
-//! The state of those who follow the owner: a placement with its wire cost, some turns behind the live one. It makes the swaps that the
+//! The state that follows the owner: a placement with its wire cost, some turns older than the live one. It applies the swaps that the
 //! owner posts, and judges moves.
 
 ghost use Rattle.std.specs.Prelude.{◌≡◌, false};
@@ -15,7 +15,7 @@ use fab_site::Words;
 use std::marker::Model;
 use std::sync::Arc;
 
-/// A state of one's own that follows the owner's. Contracts see what the run is given, and the standing.
+/// A thread's own state, which follows the owner's. Contracts see what the run is given, and the standing.
 pub struct Behind<'a, 'g, W: Words + Drop, G: Gate> {
     given: Arc<Given<'a, W>>,
     state: State,
@@ -37,7 +37,7 @@ impl<'a, 'g, W: Words + Drop, G: Gate> Drop for Behind<'a, 'g, W, G> {
 }
 
 impl<'a, 'g, W: Words + Drop, G: Gate> Behind<'a, 'g, W, G> {
-    /// One that stands where the state does.
+    /// A follower that stands where `state` does.
     pub(crate) fn new(given: Arc<Given<'a, W>>, state: State, gate: &'g G) -> Behind<'a, 'g, W, G>
         requires sound { IsSound (run_for W.moves (arc_value given)) state }
         ensures { result ≡ record { given = arc_value given.entry; standing = standing_of state } }
@@ -115,12 +115,16 @@ impl<'a, 'g, W: Words + Drop, G: Gate> Follow<Post, Foreseen> for Behind<'a, 'g,
     ghost use Rattle.fab_commit.specs.Run.Behind.{MayBeFollowed, after_post};
     ghost use Rattle.fab_commit.specs.Run.Commits.{run_for};
     ghost use Rattle.fab_commit.specs.Run.Foreseen.{IsForeseen};
+    ghost use Rattle.std.specs.Prelude.{◌≡◌, is_some, true};
 
     ghost may = { λ s e. MayBeFollowed (run_for W.moves s.given) s.standing e };
 
     ghost after = { λ s e. record s { standing = after_post s.standing e } };
 
     ghost answer = { λ s k v. IsForeseen (run_for W.moves s.given) s.standing k v };
+
+    /// The run has not ended, so there is a temperature.
+    ghost ready = { λ s. is_some s.standing.heat ≡ true };
 
     fn first(&self, post: &Post) -> u64 {
         post.first
@@ -139,8 +143,8 @@ impl<'a, 'g, W: Words + Drop, G: Gate> Follow<Post, Foreseen> for Behind<'a, 'g,
         follow_post(given, &mut self.state, post);
     }
 
-    // The loop stands here, since a gate that all threads share cannot be lent to a function of this thread. A unit's words are drawn after
-    // `before_judge` of its first move. If the gate does something, a unit is one move.
+    // The loop is not in a function of its own, because a gate that all threads share cannot be lent to a function of this thread. A unit's
+    // words are drawn after `before_judge` of its first move. If the gate does something, a unit is one move.
     fn judge(&mut self, first: u64, count: u64, places: &mut [Foreseen]) -> bool {
         if self.state.ended || count == 0 {
             return false;

@@ -1,6 +1,6 @@
 //! Moves of a stage that are made beside a crew, which judges them ahead. The crew lives for these moves.
 
-ghost use Rattle.std.specs.Prelude.{All, ◌≡◌, ◌<◌, ◌≤◌, length, Some, IfOk, IfSome};
+ghost use Rattle.std.specs.Prelude.{All, ◌≡◌, ◌^◌, ◌<◌, ◌≤◌, length, Some, IfOk, IfSome};
 ghost use Rattle.std.specs.Arc.{arc_value};
 ghost use Rattle.std.specs.Thread.{IsSync};
 ghost use Rattle.fab_commit.specs.declared.run.alone.Ahead.{Ahead as IsAhead};
@@ -9,6 +9,7 @@ ghost use Rattle.fab_commit.specs.Run.Alone.{AreMadeAlone, IsUnjudged};
 ghost use Rattle.fab_commit.specs.Run.Commits.{IsSound, run_for, standing_of};
 ghost use Rattle.fab_commit.specs.Run.Followed.{IsTied};
 ghost use Rattle.fab_commit.specs.Run.Pipelines.{HasTurn};
+ghost use Rattle.fab_board.specs.Plans.{IsSharedOut};
 
 use crate::run::behind::{Behind, Pursue};
 use crate::run::followed::Followers;
@@ -40,8 +41,8 @@ pub struct StagePlan<'g, G: Gate> {
     pub dial: &'g Dial,
 }
 
-/// Makes the plan's moves of the running stage where there is no memory for a crew. With a gate that does nothing the owner makes them
-/// alone. Another gate may wait in one call for another, for ever if one thread makes all calls, so with it this makes no move.
+/// Makes the plan's moves of the running stage if there is no memory for a crew. If the gate does nothing, the owner makes them alone. Any
+/// other gate may wait in one call for another, and would wait for ever if one thread made all calls; so this makes no move.
 fn without_crew<W: Words, G: Gate, S: Pursue, J: Naming + Boarding + Origin<S>, R: Wait>(
     given: &Given<'_, W>,
     state: &mut Pipeline,
@@ -68,7 +69,7 @@ fn without_crew<W: Words, G: Gate, S: Pursue, J: Naming + Boarding + Origin<S>, 
     }
 }
 
-/// Makes the plan's moves of the running stage beside a crew of this name.
+/// Makes the plan's moves of the running stage beside a crew whose name is `J`.
 fn made_beside<
     W: Words + Sync,
     G: Gate,
@@ -89,6 +90,7 @@ fn made_beside<
     requires start { J.start ≡ Some parts.first }
     requires starts { All (λ s. J.start ≡ Some s) parts.others.items }
     requires many { length parts.claims.items ≡ length parts.others.items }
+    requires units { IsSharedOut parts.units plan.now.batch (length parts.others.items) }
     requires run { S.run parts.first ≡ (run_for W.moves given.now) }
     requires stands { S.standing parts.first ≡ standing_of state.old.owner.state }
     requires behind { HasTurn (run_for W.moves given.now) state.old }
@@ -148,7 +150,7 @@ fn made_beside<
     made
 }
 
-/// A state that stands where this one does, to follow the owner.
+/// A follower of the owner, which stands where `state` does.
 fn behind<'a, 'g, W: Words + Drop, G: Gate>(
     given: &Arc<Given<'a, W>>,
     state: &State,
@@ -162,9 +164,12 @@ fn behind<'a, 'g, W: Words + Drop, G: Gate>(
     Ok(Behind::new(Arc::try_clone(given)?, copy, gate))
 }
 
-/// How the moves of a turn are shared out. A gate may hold one judgement until another begins, so with one that does something a worker has
-/// single moves, of which none waits for another of its own.
-fn units_of<G: Gate>(batch: u64, workers: u64, gate: &G) -> Plan {
+/// How the moves of a turn are cut into units. A gate that does something may hold one judgement until another begins. With such a gate a
+/// unit is one move, so no judgement of a worker waits for another one of the same worker.
+fn units_of<G: Gate>(batch: u64, workers: u64, gate: &G) -> Plan
+    requires { batch ≤ 4096 }
+    ensures { IsSharedOut result batch workers }
+{
     if gate.does_nothing() {
         Plan::of(batch, workers)
     } else {
@@ -172,7 +177,7 @@ fn units_of<G: Gate>(batch: u64, workers: u64, gate: &G) -> Plan {
     }
 }
 
-/// What a crew of so many workers is made of, whose states stand where this one does, for turns of at most `batch` moves. An error means
+/// The parts of a crew of `workers` workers for turns of at most `batch` moves. The crew's states stand where `state` does. An error means
 /// that memory ran out.
 pub(crate) fn crew_parts<'a, 'g, W: Words + Drop, G: Gate>(
     given: &Arc<Given<'a, W>>,
@@ -182,7 +187,10 @@ pub(crate) fn crew_parts<'a, 'g, W: Words + Drop, G: Gate>(
     gate: &'g G,
 ) -> Result<CrewParts<Behind<'a, 'g, W, G>>, AllocError>
     requires sound { IsSound (run_for W.moves (arc_value given.now)) state.now }
+    requires batch { batch ≤ 4096 }
     requires workers { (1 ≤ workers) × (workers ≤ 64) }
+    ensures board { IfOk result (λ f. f.board.name.count ≡ 2 ^ 62) }
+    ensures units { IfOk result (λ f. IsSharedOut f.units batch workers) }
     ensures claims { IfOk result (λ f. All (λ s. s.board ≡ f.board.name) f.claims.items) }
     ensures first { IfOk result (λ f.
         f.first ≡ record { given = arc_value given.now; standing = standing_of state.now }) }
@@ -209,7 +217,7 @@ pub(crate) fn crew_parts<'a, 'g, W: Words + Drop, G: Gate>(
     })
 }
 
-/// Makes `count` moves of the running stage beside a crew of so many workers as the plan says, which is founded for them.
+/// Makes `count` moves of the running stage beside a crew of `plan.workers` workers, which is started for them.
 pub(crate) fn finish_beside<
     'a,
     'g,

@@ -1,4 +1,4 @@
-//! One turn beside a crew that is founded for it: the owner commits a batch on the live placement, while the crew judges the next one on
+//! One turn beside a crew that is started for it: the owner commits a batch on the live placement, while the crew judges the next one on
 //! the placement at the turn's start. For callers that make single turns; a run of the program makes none.
 
 ghost use Rattle.std.specs.Prelude.{All, ◌≡◌, ◌+◌, ◌-◌, ◌^◌, ◌<◌, ◌≤◌, [], true, false, length, min, Some, IfOk, IfSome, OnOk, OnErr};
@@ -33,7 +33,8 @@ use std::marker::Brand;
 use std::sync::{Arc, Wait};
 use std::thread::Threads;
 
-/// Posts a request for moves, to be judged on the present state. False if the post is refused, since there were too many.
+/// Asks the crew for the moves of `range`, to be judged on the present state. Returns false if the post is refused, because there were too
+/// many posts.
 fn ask<W: Words, S: Pursue, J: Naming + Boarding + Origin<S>, R: Wait>(
     rt: &R,
     _given: &Given<'_, W>,
@@ -55,7 +56,7 @@ fn ask<W: Words, S: Pursue, J: Naming + Boarding + Origin<S>, R: Wait>(
     followers.post(rt, post_of(state, none, range))
 }
 
-/// Requests the moves of `first`, then those of `second`. Returns an empty request, which makes those of `second` due once it is posted;
+/// Asks for the moves of `first`, then for those of `second`. Returns an empty request: once it is posted, the moves of `second` are due.
 /// `None` if a post is refused.
 fn ask_both<W: Words, S: Pursue, J: Naming + Boarding + Origin<S>, R: Wait>(
     rt: &R,
@@ -91,8 +92,8 @@ fn ask_both<W: Words, S: Pursue, J: Naming + Boarding + Origin<S>, R: Wait>(
     Some(post_of(state, none, nothing))
 }
 
-/// The verdicts on moves that the crew was asked for, once this post makes them due. An error means that memory ran out, or that there were
-/// too many posts.
+/// Posts `last`, which makes the moves of `range` due, and returns the crew's verdicts on them. An error means that memory ran out, or that
+/// there were too many posts.
 fn judged_ahead<W: Words, S: Pursue, J: Naming + Boarding + Origin<S>, R: Wait>(
     rt: &R,
     given: &Given<'_, W>,
@@ -123,8 +124,8 @@ struct Size {
     next: u64,
 }
 
-/// Makes the next moves of the running stage beside a crew, which stands where the owner does. It judges those that were not judged ahead,
-/// and the moves after them. Returns the verdicts on these.
+/// Makes the next `size.moves` moves of the running stage beside a crew, which stands where the owner does. The crew judges those of them
+/// that were not judged ahead, and the `size.next` moves after them. Returns the verdicts on the moves after them.
 fn make_moves<W: Words, G: Gate, S: Pursue, J: Naming + Boarding + Origin<S>, R: Wait>(
     given: &Given<'_, W>,
     state: &mut Pipeline,
@@ -219,8 +220,8 @@ fn make_turn<W: Words, G: Gate, S: Pursue, J: Naming + Boarding + Origin<S>, R: 
     }
 }
 
-/// Makes a turn beside a crew of this name. If there is no memory for the crew, this makes no move: alone, the owner would make all calls
-/// of the gate, and one that waits in a call for another would wait for ever.
+/// Makes a turn beside a crew whose name is `J`. If there is no memory for the crew, this makes no move: an owner alone would make all
+/// calls of the gate, and a gate that waits in one call for another would wait for ever.
 fn turned_by<
     W: Words + Sync,
     G: Gate,
@@ -273,7 +274,7 @@ fn turned_by<
     turned
 }
 
-/// Makes a turn beside a crew of so many workers, which is founded for it. If there is no memory for the crew, this makes no move.
+/// Makes a turn beside a crew of `workers` workers, which is started for it. If there is no memory for the crew, this makes no move.
 pub(crate) fn turn_beside<'a, 'g, W: Words + Send + Sync + Drop, G: Gate, R: Threads + Wait + Sync>(
     rt: &R,
     given: &Arc<Given<'a, W>>,
@@ -290,7 +291,7 @@ pub(crate) fn turn_beside<'a, 'g, W: Words + Send + Sync + Drop, G: Gate, R: Thr
         result }
 {
     let lent: &Given<'a, W> = given;
-    // If the run is over, nobody is needed.
+    // If the run is over, no crew is needed.
     if state.owner.state.ended {
         return idle_turn(lent, state, batch);
     }

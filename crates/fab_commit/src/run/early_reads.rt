@@ -1,5 +1,6 @@
-//! Reads early what the next moves look at. A large design does not fit the nearest caches, and the reads of a move wait for one another: its
-//! block, the target, the block there, the nets of both. Here the reads of many moves wait side by side. No result depends on what is read.
+//! Reads early what the next moves look at. A large design does not fit the nearest caches, and the reads of a move wait for one another:
+//! its block, the target, the block there, the nets of both. Here the reads of many moves wait side by side. No result depends on what is
+//! read.
 
 ghost use Rattle.fab_commit.specs.Run.Commits.{IsSound, run_for};
 
@@ -8,7 +9,7 @@ use fab_move::{Proposal, chosen, propose};
 use fab_net::BlockId;
 use fab_site::Words;
 
-/// Designs of fewer blocks fit the nearest caches, and reading early only takes time.
+/// A design of fewer blocks fits the nearest caches, and reading early would only take time.
 const LARGE: usize = 16_384;
 
 /// The most moves that are looked at together.
@@ -17,8 +18,8 @@ const MOST: usize = 32;
 /// The number of no block.
 const NO_BLOCK: BlockId = BlockId(u32::MAX);
 
-/// Reads what the moves with these words will look at, if the design is large. What it returns has no meaning: a caller keeps it, so that
-/// the compiler keeps the reads. Allocates nothing.
+/// If the design is large, reads what the moves with these words will look at. The returned value has no meaning: a caller keeps it, so
+/// that the compiler keeps the reads. Allocates nothing.
 pub(crate) fn read_early<W: Words>(given: &Given<'_, W>, state: &State, words: &[[u32; 4]]) -> u64
     requires sound { IsSound (run_for W.moves given.now) state.now }
 {
@@ -80,7 +81,7 @@ fn displaced<W: Words>(given: &Given<'_, W>, state: &State, words: [u32; 4]) -> 
     }
 }
 
-/// Reads what is kept of a block, if there is one of this number.
+/// Reads what is kept of `block`, if there is a block of this number.
 fn read_block(state: &State, block: BlockId) -> u64 {
     if block.0 as usize >= state.placement.blocks() {
         return 0;

@@ -49,13 +49,13 @@ pub(crate) struct TurnPlan<'g, R: Wait, G: Gate> {
     pub(crate) gate: &'g G,
 }
 
-/// The owner's end of a crew that follows it, and the sheet that it reads. Contracts see what was posted, and the posts on which this
+/// The owner's end of a crew that follows it, and the sheet that it reads. Contracts see what was posted, and the posts after which this
 /// turn's answers are judged.
 #[derive(Drop)]
 pub(crate) struct Followers<S: Pursue, J: Naming + Boarding + Origin<S>> {
     lead: Lead<S, Post, Foreseen, J>,
     sheet: Sheet<S, Post, Foreseen, J>,
-    /// The swaps of an older post, to be filled anew.
+    /// The list of swaps of an older post, to be used again.
     spare: Vec<Accepted>,
 }
 
@@ -69,7 +69,7 @@ impl<S: Pursue, J: Naming + Boarding + Origin<S>> Model for Followers<S, J> {
 }
 
 impl<S: Pursue, J: Naming + Boarding + Origin<S>> Followers<S, J> {
-    /// From now on what no worker judges is left to the owner.
+    /// From now on the owner has to decide the moves that no worker judges.
     pub(crate) fn leave_to_owner(&mut self)
         ensures { self.new ≡ self.old }
     {
@@ -91,15 +91,15 @@ impl<S: Pursue, J: Naming + Boarding + Origin<S>> Followers<S, J> {
         })
     }
 
-    /// Has ready what is foreseen of a move, on the placement of this turn's base. False if there is nothing.
+    /// Gets ready what is foreseen of move `number` on the placement of this turn's base. Returns false if there is nothing.
     pub(crate) fn seek<R: Wait>(&mut self, rt: &R, number: u64) -> bool
         ensures { self.new ≡ self.old }
     {
         self.lead.seek(rt, number, &mut self.sheet)
     }
 
-    /// Has ready what is foreseen of a move, on the placement of this turn's base, if a worker has taken it. Returns how many moves from
-    /// this one on are left to the owner; 0 if the answer is ready, or if there is none.
+    /// If a worker has taken move `number`, gets ready what is foreseen of it on the placement of this turn's base. Returns how many moves
+    /// from `number` on are left to the owner, as [`Lead::look`] does. Returns 0 if the answer is ready, or if there is none.
     pub(crate) fn look<R: Wait>(&mut self, rt: &R, number: u64) -> u64
         ensures { self.new ≡ self.old }
     {
@@ -115,7 +115,7 @@ impl<S: Pursue, J: Naming + Boarding + Origin<S>> Followers<S, J> {
         self.lead.answer(number, &self.sheet)
     }
 
-    /// What is foreseen of moves in a row from this one on, at most so many, as far as it is ready.
+    /// What is foreseen of the moves from `number` on, at most `most` of them, as far as it is ready.
     pub(crate) fn foreseen_from(&self, number: u64, most: u64) -> &[Foreseen]
         ensures most { length result.now ≤ most }
         ensures each { (r : Run) (x : Standing) →
@@ -136,7 +136,7 @@ impl<S: Pursue, J: Naming + Boarding + Origin<S>> Followers<S, J> {
         fresh
     }
 
-    /// Posts what the owner made. False if the crew was not given it, since there were too many posts.
+    /// Posts what the owner made. Returns false if the crew did not get it, because there were too many posts.
     pub(crate) fn post<R: Wait>(&mut self, rt: &R, post: Post) -> bool
         requires may { (r : Run) × (x : Standing) ×
             IsTied S.run S.standing S.after J.start self.old.0 r x × MayBeFollowed r x post }
@@ -156,8 +156,8 @@ impl<S: Pursue, J: Naming + Boarding + Origin<S>> Followers<S, J> {
     }
 }
 
-/// Decides the next move, which still proposes the swap that was foreseen, and whose nets with few terminals still change by `few`. Only
-/// the change of nets with many terminals is computed. `word` decides whether the swap is accepted.
+/// Decides the next move. By contract it still proposes `swap`, as was foreseen, and its nets with few terminals still change by `few`.
+/// Only the change of nets with many terminals is computed. `word` decides whether the swap is accepted.
 fn decided_by_large<W: Words>(
     given: &Given<'_, W>,
     state: &State,
@@ -186,7 +186,7 @@ fn decided_by_large<W: Words>(
     }
 }
 
-/// Judges a move again on the live placement, since an accepted move has touched what it rests on. If only nets with many terminals were
+/// Redoes the next move on the live placement, because an accepted move has touched its footprint. If only nets with many terminals were
 /// touched, only their change is computed. The move's words count as asked for once more.
 fn decided_again<W: Words>(
     given: &Given<'_, W>,
@@ -215,8 +215,8 @@ fn decided_again<W: Words>(
     decide_by(given, state, state.done, words)
 }
 
-/// Decides the next move: as it was foreseen on the placement after `base` moves, or again if an accepted move has touched what that rests
-/// on. Returns the decision, and whether it was decided again. The gate's call before the commit comes first. Allocates nothing.
+/// Decides the next move. Takes what was foreseen on the placement after `base` moves, or redoes the move if that is stale. Returns the
+/// decision, and whether the move was redone. The gate's call before the commit comes first. Allocates nothing.
 #[inline(always)]
 fn decided_followed<W: Words, G: Gate, const REJECTED: bool>(
     given: &Given<'_, W>,
@@ -249,8 +249,8 @@ fn decided_followed<W: Words, G: Gate, const REJECTED: bool>(
     }
 }
 
-/// Makes the next moves of the running stage, given what was foreseen of each on the placement after `base` moves. `REJECTED` says that it is
-/// foreseen that all are rejected. Allocates nothing.
+/// Makes the next moves of the running stage, given what was foreseen of each on the placement after `base` moves. If `REJECTED`, all of
+/// them are foreseen as rejected. Allocates nothing.
 fn commit_sheet<W: Words, G: Gate, const REJECTED: bool>(
     given: &Given<'_, W>,
     owner: &mut Owner,
@@ -280,8 +280,8 @@ fn commit_sheet<W: Words, G: Gate, const REJECTED: bool>(
     }
 }
 
-/// Makes the next moves of the running stage, given what was foreseen of each on the placement after `base` moves. In a cold stage it is mostly
-/// foreseen that all are rejected. Allocates nothing.
+/// Makes the next moves of the running stage, given what was foreseen of each on the placement after `base` moves. In a cold stage, all of
+/// them are foreseen as rejected in most cases. Allocates nothing.
 #[inline(always)]
 fn commit_foreseen<W: Words, G: Gate>(
     given: &Given<'_, W>,
@@ -312,8 +312,8 @@ fn commit_foreseen<W: Words, G: Gate>(
     }
 }
 
-/// Makes some of the next moves of the running stage, of which `ahead.moves` are due: those that a worker has judged together, or those
-/// that are left to the owner, or one, if its answer is missing. Returns how many it made. Allocates nothing of its own.
+/// Makes some of the next `ahead.moves` moves of the running stage: those that a worker has judged together, or those that are left to the
+/// owner, or one move if its answer is missing. Returns how many it made. Allocates nothing of its own.
 #[inline(always)]
 fn commit_next<W: Words, G: Gate, S: Pursue, J: Naming + Boarding + Origin<S>, R: Wait>(
     given: &Given<'_, W>,
@@ -359,8 +359,8 @@ fn commit_next<W: Words, G: Gate, S: Pursue, J: Naming + Boarding + Origin<S>, R
     moves
 }
 
-/// Makes the next moves of the running stage, which the crew judges on the placement after `ahead.base` moves. What is left to the owner it
-/// decides on the live placement. `words` is room for the words of some moves. Allocates nothing of its own.
+/// Makes the next `ahead.moves` moves of the running stage, which the crew judges on the placement after `ahead.base` moves. The owner
+/// decides the moves that are left to it on the live placement. `words` is room for the words of some moves. Allocates nothing of its own.
 pub(crate) fn commit_followed<
     W: Words,
     G: Gate,
@@ -400,8 +400,8 @@ pub(crate) fn commit_followed<
     }
 }
 
-/// Makes the next moves of the running stage, beside the crew if there is one. They count as judged on the placement after `ahead.base`
-/// moves. `words` is room for the words of some moves.
+/// Makes the next `ahead.moves` moves of the running stage, beside the crew if there is one. They count as judged on the placement after
+/// `ahead.base` moves. `words` is room for the words of some moves.
 fn commit_by<W: Words, G: Gate, S: Pursue, J: Naming + Boarding + Origin<S>, R: Wait>(
     given: &Given<'_, W>,
     owner: &mut Owner,
@@ -467,7 +467,7 @@ fn fresh_list<S: Pursue, J: Naming + Boarding + Origin<S>>(
     }
 }
 
-/// Posts for the crew, if there is one. If the post is refused, since there were too many, the crew is let go.
+/// Posts `post` to the crew, if there is one. If the post is refused, because there were too many posts, lets the crew go.
 fn post_or_let_go<S: Pursue, J: Naming + Boarding + Origin<S>, R: Wait>(
     rt: &R,
     followers: &mut Option<Followers<S, J>>,
@@ -493,9 +493,9 @@ fn post_or_let_go<S: Pursue, J: Naming + Boarding + Origin<S>, R: Wait>(
     }
 }
 
-/// Makes a turn of at most a batch of moves of the running stage: posts the swaps of the turn before, and asks for the moves after this
-/// turn; then makes the moves, of which the crew has judged the first ones. Returns the moves after it that are judged ahead. An error
-/// means that memory ran out; then no move was made. If the crew is let go, the owner makes all moves alone.
+/// Makes a turn of at most a batch of moves of the running stage. First posts the swaps of the turn before, and asks for the moves after
+/// this turn. Then makes the moves of this turn; the crew has judged the first `ahead.moves` of them. Returns which moves after it are
+/// judged ahead. An error means that memory ran out; then no move was made. If the crew is let go, the owner makes all moves alone.
 pub(crate) fn turn_followed<
     W: Words,
     G: Gate,
@@ -551,8 +551,8 @@ pub(crate) fn turn_followed<
     })
 }
 
-/// Makes the first turn of a crew, which stands where the owner does: what counts as judged ahead is judged by the owner, and the crew
-/// judges the other moves of the turn, and the moves after it. If the crew is let go, the owner makes all moves alone.
+/// Makes the first turn of a crew, which stands where the owner does. The owner judges the first `ahead.moves` moves, which count as judged
+/// ahead. The crew judges the other moves of the turn, and the moves after it. If the crew is let go, the owner makes all moves alone.
 pub(crate) fn begin_followed<
     W: Words,
     G: Gate,

@@ -1,6 +1,6 @@
-//! What is foreseen of a move by those who follow the owner.
+//! What a state that follows the owner foresees of a move.
 
-ghost use Rattle.std.specs.Prelude.{◌≡◌, pos, false, true};
+ghost use Rattle.std.specs.Prelude.{◌≡◌, pos, false, true, not};
 ghost use Rattle.fab_commit.specs.Run.Commits.{IsSound, run_for, standing_of};
 ghost use Rattle.fab_commit.specs.Run.Foreseen.{AreRejected, IsForeseen, decision_in};
 
@@ -9,12 +9,12 @@ use crate::run::state::{Given, State, view_of};
 use fab_move::{Decision, Proposal, accepts};
 use fab_site::Words;
 
-/// The judgement of a move on the placement of somebody who follows the owner. It rests on what its proposal names. What the owner reads of
-/// a move that is rejected stands first, in less than a cache line.
+/// The judgement of a move on the placement of a state that follows the owner. Its proposal names its footprint. The fields that the owner
+/// reads of a rejected move come first, in less than a cache line.
 #[derive(Clone, Copy)]
 pub struct Foreseen {
     pub(crate) proposal: Proposal,
-    /// The nets of its swap that have many terminals, if it has one and they are not too many.
+    /// The swap's nets with many terminals, if there is a swap and these nets are not too many.
     pub(crate) nets: LargeNets,
     pub(crate) accepted: bool,
     /// The move's words.
@@ -31,7 +31,7 @@ impl Foreseen {
         without_swap(Proposal::Nothing, [0; 4])
     }
 
-    /// The decision. `REJECTED` says that it is known that the move is rejected.
+    /// The decision. If `REJECTED`, it is known that the move is rejected.
     pub(crate) fn decision<const REJECTED: bool>(&self) -> Decision
         requires { REJECTED ≡ true → self.now.accepted ≡ false }
         ensures { result ≡ decision_in self.now }
@@ -48,17 +48,18 @@ impl Foreseen {
         }
     }
 
-    /// Whether it is rejected. A move that proposes no swap is.
+    /// Whether the move is rejected. A move that proposes no swap is rejected.
     fn is_rejected(&self) -> bool
-        ensures { result ≡ true → self.now.accepted ≡ false }
+        ensures { result ≡ not self.now.accepted }
     {
         !self.accepted
     }
 }
 
-/// Whether all are rejected. It looks at each, so that the cache lines that another processor wrote come over together.
+/// Whether all are rejected. It reads every one, so that the cache lines that another processor wrote are fetched together.
 pub(crate) fn are_rejected(foreseen: &[Foreseen]) -> bool
-    ensures { result ≡ true → AreRejected foreseen.now }
+    ensures rejected { result ≡ true → AreRejected foreseen.now }
+    ensures all { AreRejected foreseen.now → result ≡ true }
 {
     let mut all = true;
     for sight in foreseen {

@@ -1,5 +1,5 @@
-//! What an annealer keeps of the moves that it makes: the number of each that it accepted, or how many there are; and whether it tells how
-//! many moves turns judge again.
+//! What an annealer keeps of the moves that it makes: the number of each accepted move, or only how many there are. And whether it counts
+//! every move that turns redo.
 
 ghost use Rattle.std.specs.Prelude.{◌≡◌, Bool};
 
@@ -8,20 +8,20 @@ pub trait Keeping {
     /// Whether the numbers of accepted moves are kept, as contracts see it.
     ghost numbers: { Bool };
 
-    /// Whether the annealer tells how many moves turns judge again, as contracts see it.
+    /// Whether the annealer counts every move that turns redo, as contracts see it.
     ghost again: { Bool };
 
     /// Whether the numbers of accepted moves are kept.
     fn keeps() -> bool
         ensures { result ≡ numbers };
 
-    /// Whether the annealer tells how many moves turns judge again. Then moves that the calling thread makes alone are counted where turns
-    /// would judge them again.
+    /// Whether the annealer counts every move that turns redo. Then a move that the calling thread makes alone is counted if turns would
+    /// redo it.
     fn tells_redone() -> bool
         ensures { result ≡ again };
 }
 
-/// The number of each accepted move is kept, eight bytes a move, and the annealer tells how many moves turns judge again.
+/// Keeps the number of each accepted move, eight bytes a move, and counts every move that turns redo.
 pub struct KeepsNumbers;
 
 impl Keeping for KeepsNumbers {
@@ -40,8 +40,8 @@ impl Keeping for KeepsNumbers {
     }
 }
 
-/// How many moves were accepted is kept, and no number, so memory does not grow with the moves. Moves that the calling thread makes alone
-/// are not looked at for what turns would judge again, which takes time.
+/// Keeps only how many moves were accepted, so memory does not grow with the moves. If the calling thread makes moves alone, this does not
+/// find out which of them turns would redo, since that takes time.
 pub struct KeepsCount;
 
 impl Keeping for KeepsCount {

@@ -1,10 +1,10 @@
-//! The nets of a swap's two blocks that have many terminals, kept beside what is foreseen of a move, so that who looks at their stamps need
-//! not look into a large design.
+//! The nets with many terminals of a swap's two blocks. They are kept beside what is foreseen of a move, so that their stamps can be looked
+//! up without reading a large design.
 
-ghost use Rattle.std.specs.Prelude.{◌≡◌, ℕ, ◌<◌, ◌≤◌, ◌∷◌, [], false, length, slice_index, take, Some};
+ghost use Rattle.std.specs.Prelude.{◌≡◌, ℕ, ◌<◌, ◌≤◌, ◌∷◌, [], false, true, length, slice_index, take, Some};
 ghost use Rattle.fab_net.specs.declared.netlist_types.BlockId.{BlockId as Block};
 ghost use Rattle.fab_cost.specs.Swapping.{IsMadeFor};
-ghost use Rattle.fab_commit.specs.Run.Foreseen.{AreAppended, AreKept, large_among, nets_at, nets_on};
+ghost use Rattle.fab_commit.specs.Run.Foreseen.{AreAppended, AreKept, large_among, large_nets, nets_at, nets_on};
 
 use fab_cost::EdgeBoxes;
 use fab_net::{BlockId, Design, NetId};
@@ -13,7 +13,7 @@ use fab_site::Swap;
 /// The most nets that are kept of a swap.
 const MOST: usize = 5;
 
-/// The nets with many terminals of a swap's block, and behind them those of the block that it displaces.
+/// The nets with many terminals of a swap's block, followed by those of the block that it displaces.
 #[derive(Clone, Copy)]
 pub(crate) struct LargeNets {
     nets: [NetId; MOST],
@@ -37,12 +37,13 @@ impl LargeNets {
     }
 
     /// The nets of a swap, if there are at most 5.
-    #[tactic(auto, using(crate::proofs::RunLemmas::LargeNets::kept_both, crate::proofs::RunLemmas::LargeNets::kept_own))]
+    #[tactic(auto, using(crate::proofs::RunLemmas::LargeNets::kept_both, crate::proofs::RunLemmas::LargeNets::kept_own, crate::proofs::RunLemmas::LargeNets::few_of_both, crate::proofs::RunLemmas::LargeNets::few_of_own))]
     pub(crate) fn of(design: &Design, cost: &EdgeBoxes, swap: Swap) -> LargeNets
         requires made { IsMadeFor cost.now design.now }
         requires block { swap.block.0 < length design.now.kinds }
         requires other { (b : Block) → swap.other ≡ Some b → b.0 < length design.now.kinds }
-        ensures { AreKept design.now swap result }
+        ensures list { AreKept design.now swap result }
+        ensures kept { length (large_nets design.now swap) ≤ 5 → result.is_kept ≡ true }
     {
         let mut kept = LargeNets {
             nets: [NetId(0); MOST],
@@ -66,7 +67,7 @@ impl LargeNets {
     }
 }
 
-/// Adds a net behind the others. If there is no room, none are kept from then on.
+/// Adds a net after the others. If there is no room, no nets are kept from then on.
 fn push(kept: &mut LargeNets, net: NetId)
     requires { kept.old.all ≤ 5 }
     ensures { AreAppended kept.old kept.new (net ∷ []) }
@@ -80,7 +81,7 @@ fn push(kept: &mut LargeNets, net: NetId)
     }
 }
 
-/// Adds the nets of a block that have many terminals.
+/// Adds the nets with many terminals of a block.
 #[inline(always)]
 fn append_large(kept: &mut LargeNets, design: &Design, cost: &EdgeBoxes, block: BlockId)
     requires few { kept.old.all ≤ 5 }
@@ -96,7 +97,7 @@ fn append_large(kept: &mut LargeNets, design: &Design, cost: &EdgeBoxes, block: 
     );
 }
 
-/// Adds those of some nets that stand at these places.
+/// Adds those of `nets` that stand at `places`.
 #[inline(always)]
 fn append_at(kept: &mut LargeNets, nets: &[NetId], places: &[u32])
     requires few { kept.old.all ≤ 5 }

@@ -28,7 +28,7 @@ pub(crate) struct Owner {
     /// The swaps that the running turn accepted; between turns, those of the last turn.
     pub(crate) swaps: Vec<Accepted>,
     pub(crate) stamps: Stamps,
-    /// How many moves were judged again.
+    /// How many moves were redone.
     pub(crate) redone: u64,
 }
 
@@ -59,7 +59,7 @@ impl Owner {
     }
 }
 
-/// Stamps what a move touches, if it is accepted. Where a crew works, the cost is given.
+/// Stamps what a move touches, if it is accepted. Beside a crew, `near` is the wire cost.
 #[inline(always)]
 pub(crate) fn stamp<W: Words>(
     given: &Given<'_, W>,
@@ -87,8 +87,8 @@ pub(crate) fn stamp<W: Words>(
     }
 }
 
-/// Makes a move that is decided, beside a crew: notes its swap, stamps what it touches, commits it, and counts it if it is judged again.
-/// Allocates nothing.
+/// Makes a move that is decided, beside a crew: notes its swap, stamps what it touches, commits it, and counts it if it was redone
+/// (`again`). Allocates nothing.
 #[inline(always)]
 pub(crate) fn make_one<W: Words>(
     given: &Given<'_, W>,
@@ -117,9 +117,9 @@ pub(crate) fn make_one<W: Words>(
     owner.redone += u64::from(again);
 }
 
-/// Decides the next move, whose verdict was judged on the placement after `base` moves. Returns the decision, and whether the move was
-/// judged again: it is, on the live placement, if a move accepted since has touched what the verdict rests on. Otherwise the verdict is
-/// taken. For single turns; in a stage with a crew `decided_followed` decides. Allocates nothing.
+/// Decides the next move, whose verdict was judged on the placement after `base` moves. If a move accepted since has touched the verdict's
+/// footprint, redoes the move on the live placement; otherwise takes the verdict. Returns the decision, and whether the move was redone.
+/// For single turns; in a stage with a crew, `decided_followed` decides. Allocates nothing.
 fn decided<W: Words>(
     given: &Given<'_, W>,
     owner: &Owner,

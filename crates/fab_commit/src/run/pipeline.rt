@@ -99,7 +99,7 @@ pub(crate) fn reserve(owner: &mut Owner, moves: u64) -> Result<(), AllocError>
     Ok(())
 }
 
-/// Ends a turn for which memory ran out before its first move. Nothing is judged ahead then.
+/// Ends a turn for which memory ran out before its first move. Nothing is judged ahead afterwards.
 pub(crate) fn cut_turn<W: Words>(_given: &Given<'_, W>, pipeline: &mut Pipeline)
     ensures cut { (t : LastTurn) → IsBehind (run_for W.moves _given.now) t pipeline.old →
         HasTurned (run_for W.moves _given.now) t pipeline.old 0 0 pipeline.new }
@@ -124,7 +124,7 @@ pub(crate) fn idle_turn<W: Words>(
     Ok(())
 }
 
-/// Makes a turn of a run that is not over where there is no memory for its crew: no move. Nothing is judged ahead then.
+/// Ends a turn that has no memory for its crew, in a run that is not over. No move is made, and nothing is judged ahead afterwards.
 pub(crate) fn refused_turn<W: Words>(
     given: &Given<'_, W>,
     pipeline: &mut Pipeline,

@@ -28,7 +28,7 @@ pub struct Point {
     pub placement: Placement,
 }
 
-/// Fixes a block in `copy` at the site where it is fixed in `fixed`, if it is.
+/// If `block` is fixed in `fixed`, fixes it in `copy` at the same site.
 fn fix_too(fixed: &Fixed, copy: &mut Fixed, block: BlockId) -> Result<(), AllocError>
     requires { fixed_at copy.old block.0 ≡ None }
     ensures { OnOk result ((b : ℕ) →
@@ -81,8 +81,8 @@ fn point_with<W: Words>(
     }
 }
 
-/// A snapshot of a run that is not over, in the memory of `room`, a snapshot of a run with the same design, array and fixed blocks. Needs no
-/// memory.
+/// A snapshot of a run that is not over, in the memory of `room`. `room` is a snapshot of a run with the same design, array and fixed
+/// blocks. Allocates nothing.
 pub(crate) fn point_in<W: Words>(given: &Given<'_, W>, state: &State, room: Point) -> Point
     requires sound { IsSound (run_for W.moves given.now) state.now }
     requires going { state.now.ended ≡ false }

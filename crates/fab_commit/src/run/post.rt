@@ -1,4 +1,4 @@
-//! What the owner posts for those who follow it.
+//! What the owner posts for the states that follow it.
 
 use crate::run::swaps::Accepted;
 use fab_sched::Stage;

@@ -17,19 +17,18 @@ use std::sync::Wait;
 use std::thread::Threads;
 
 impl<'a, W: Words + Send + Sync + Drop, K: Keeping> Anneal<'a, W, K> {
-    /// Makes the next moves of the running stage, at most `batch` of them, from 1 to 4,096. Returns `Finished` if no move is left after
-    /// them.
+    /// Makes the next moves of the running stage, at most `batch` of them (1 to 4,096). Returns `Finished` if no move is left after them.
     ///
-    /// While these moves are committed in order of number, `workers` workers, from 1 to 64, judge the next batch of the stage on the
-    /// placement at the turn's start, which does not change meanwhile. Verdicts beyond this batch are discarded, and moves of this batch
-    /// that have no verdict are judged before the next batch. A move is judged again if a move accepted since has touched what its verdict
-    /// rests on. The gate is called before and after each judgement that is made ahead, and before each commit. The calling thread judges
-    /// what no worker has taken when it is wanted.
+    /// While these moves are committed in order of number, `workers` workers (1 to 64) judge the next batch of the stage on the placement
+    /// at the turn's start, which does not change meanwhile. Verdicts beyond this batch are discarded. Moves of this batch that have no
+    /// verdict are judged before the next batch. A move is redone if a move accepted since its judgement's base has touched its footprint.
+    /// The gate is called before and after each judgement that is made ahead, and before each commit. If no worker has taken a move when
+    /// its judgement is needed, the calling thread judges it.
     ///
-    /// The workers are founded for this call, each with a copy of the placement and its boxes. Who makes many turns takes
-    /// [`Anneal::make_beside`], which founds them once.
+    /// The workers are started for this call, each with a copy of the placement and its boxes. To make many turns, use
+    /// [`Anneal::make_beside`], which starts them once.
     ///
-    /// An error means that memory ran out. Then the moves that were committed stay, as `done` tells, all workers have ended, nothing is
+    /// An error means that memory ran out. Then the moves that were committed stay, as `done` reports. All workers have ended, nothing is
     /// judged ahead, and another turn can go on. If there was no memory for the workers, no move was made.
     pub fn turn<G: Gate, R: Threads + Wait + Sync>(
         &mut self,
@@ -47,8 +46,8 @@ impl<'a, W: Words + Send + Sync + Drop, K: Keeping> Anneal<'a, W, K> {
     }
 
     /// Makes a turn as `turn` does, and then shows on the dial how far the run has come: how many moves were made, how many of them were
-    /// accepted, and the cost in ten-thousandths. By contract the shower is one of this dial. Nothing is shown if memory ran out, even
-    /// if the turn made moves, or if no move was left.
+    /// accepted, and the cost in ten-thousandths. By contract the shower is one of this dial. Nothing is shown if no move was left, or if
+    /// memory ran out (even if the turn made moves).
     pub fn turn_shown<G: Gate, R: Threads + Wait + Sync>(
         &mut self,
         rt: &R,

@@ -43,14 +43,14 @@ pub(crate) struct MovesPlan<'g, R: Wait, G: Gate> {
 struct Course {
     /// The moves that count as judged ahead.
     ahead: Ahead,
-    /// Whether a turn was made. The crew begins with the first.
+    /// Whether a turn was made. The crew begins with the first turn.
     begun: bool,
     /// Room for the words of some moves.
     words: [[u32; 4]; AT_ONCE],
 }
 
-/// Makes a turn of at most a batch of moves, beside the crew if there is one. Returns the moves after it that count as judged ahead. An
-/// error means that memory ran out; then no move was made.
+/// Makes a turn of at most a batch of moves, beside the crew if there is one. Returns which moves after it count as judged ahead. An error
+/// means that memory ran out; then no move was made.
 fn turn_of<W: Words, G: Gate, S: Pursue, J: Naming + Boarding + Origin<S>, R: Wait>(
     given: &Given<'_, W>,
     owner: &mut Owner,
@@ -142,8 +142,8 @@ fn one_turn<W: Words, G: Gate, S: Pursue, J: Naming + Boarding + Origin<S>, R: W
     Ok(())
 }
 
-/// Whether another whole turn follows: `rest` of `count` moves are still to be made, in a stage that had `left` moves. It does if a batch
-/// is left, or if any move is left and `count` reaches the end of the stage, whose last turn may be shorter.
+/// Whether to make another turn of a whole batch: if a batch is left, or if the stage ends within it. `rest` of `count` moves are still to
+/// be made, in a stage that had `left` moves.
 fn goes_on(rest: u64, batch: u64, count: u64, left: u64) -> bool
     requires { 1 ≤ batch }
     ensures yes { result ≡ true → (0 < rest) × (rest < batch → count ≡ left) }
@@ -152,8 +152,8 @@ fn goes_on(rest: u64, batch: u64, count: u64, left: u64) -> bool
     rest >= batch || (rest > 0 && count == left)
 }
 
-/// Makes moves of the running stage by turns of whole batches. Returns how many of the plan's moves are left, fewer than a batch; none if
-/// the stage ends with them. If memory runs out, the turns that were made stay.
+/// Makes moves of the running stage in turns of whole batches. Returns how many of the plan's moves are left: fewer than a batch, and 0 if
+/// the stage ends with the plan's moves. If memory runs out, the turns that were made stay.
 fn whole_turns<W: Words, G: Gate, S: Pursue, J: Naming + Boarding + Origin<S>, R: Wait>(
     given: &Given<'_, W>,
     state: &mut Pipeline,
@@ -214,7 +214,7 @@ fn whole_turns<W: Words, G: Gate, S: Pursue, J: Naming + Boarding + Origin<S>, R
     Ok(rest)
 }
 
-/// Makes the plan's moves of the running stage by turns of one batch, of which the last may be shorter. Then nothing counts as judged
+/// Makes the plan's moves of the running stage in turns of one batch; the last turn may be shorter. Afterwards nothing counts as judged
 /// ahead. If memory runs out, the turns that were made stay.
 fn make_count<W: Words, G: Gate, S: Pursue, J: Naming + Boarding + Origin<S>, R: Wait>(
     given: &Given<'_, W>,
@@ -255,8 +255,8 @@ fn make_count<W: Words, G: Gate, S: Pursue, J: Naming + Boarding + Origin<S>, R:
     Ok(())
 }
 
-/// Makes the plan's moves of the running stage by turns, beside a crew that stands where the owner does, if there is one. If memory runs
-/// out, the turns that were made stay. In either case nothing is judged ahead then.
+/// Makes the plan's moves of the running stage in turns, beside a crew if there is one; the crew stands where the owner does. If memory
+/// runs out, the turns that were made stay. In either case nothing is judged ahead afterwards.
 pub(crate) fn finish<W: Words, G: Gate, S: Pursue, J: Naming + Boarding + Origin<S>, R: Wait>(
     given: &Given<'_, W>,
     state: &mut Pipeline,
@@ -294,7 +294,7 @@ pub(crate) fn finish<W: Words, G: Gate, S: Pursue, J: Naming + Boarding + Origin
     made
 }
 
-/// Ends a call for which memory ran out before its first move. Nothing is judged ahead then.
+/// Ends a call for which memory ran out before its first move. Nothing is judged ahead afterwards.
 pub(crate) fn refuse<W: Words, G: Gate, R: Wait>(
     given: &Given<'_, W>,
     state: &mut Pipeline,
@@ -318,8 +318,8 @@ pub(crate) fn refuse<W: Words, G: Gate, R: Wait>(
     Err(AllocError)
 }
 
-/// Makes the plan's moves of the running stage, each judged by the owner, by turns. `S` and `J` are the types of a crew; none is made. If
-/// memory runs out, the turns that were made stay. In either case nothing is judged ahead then.
+/// Makes the plan's moves of the running stage in turns. The owner judges each. `S` and `J` are the types of a crew, but no crew is made.
+/// If memory runs out, the turns that were made stay. In either case nothing is judged ahead afterwards.
 pub(crate) fn finish_alone<W: Words, G: Gate, S: Pursue, J: Naming + Boarding + Origin<S>, R: Wait>(
     given: &Given<'_, W>,
     state: &mut Pipeline,

@@ -29,8 +29,8 @@ pub(crate) struct Stamps {
     blocks: Vec<u64>,
     places: Vec<u64>,
     nets: Vec<u64>,
-    /// By block: the greater of this and the floor is at least each stamp of the block and of its nets of up to 16 terminals. So if neither
-    /// is above a base, none of these was touched since.
+    /// For each block: the greater of this number and `floor` is never below the stamps of the block and of its nets of up to 16 terminals.
+    /// So if neither is above a base, the block and these nets were not touched since.
     near: Vec<u64>,
     floor: u64,
 }
@@ -49,7 +49,7 @@ impl Drop for Stamps {
 }
 
 impl Stamps {
-    /// The stamps while nothing is touched yet.
+    /// The stamps before anything is touched.
     #[tactic(auto, using(crate::proofs::RunLemmas::Near::near_at_first))]
     pub(crate) fn new(alloc: Global, design: &Design, grid: &Grid) -> Result<Stamps, AllocError>
         ensures table { IfOk result (λ s. IsTable design.now grid.now s) }
@@ -64,8 +64,8 @@ impl Stamps {
         })
     }
 
-    /// Stamps what an accepted swap touches. `near` is the wire cost if a crew works: then the `near` numbers of the blocks round the swap
-    /// are raised. Without a crew the floor is.
+    /// Stamps what an accepted swap touches. Beside a crew, `near` is the wire cost, and the `near` numbers of the blocks around the swap
+    /// are raised. Without a crew, `near` is `None`, and the floor is raised.
     pub(crate) fn touch(
         &mut self,
         design: &Design,
@@ -163,8 +163,8 @@ impl Stamps {
         marks.iter().any(|mark| base < self.of(grid, *mark))
     }
 
-    /// Whether what a proposal rests on was touched by move `base` or a later one. The nets of a proposed swap that have many terminals may
-    /// be kept beside it.
+    /// Whether the footprint of `proposal` was touched by move `base` or a later one. `nets` may hold the proposed swap's nets with many
+    /// terminals.
     #[inline(always)]
     pub(crate) fn is_touched(
         &self,
@@ -197,7 +197,7 @@ impl Stamps {
         }
     }
 
-    /// Whether what a proposed swap rests on was touched by move `base` or a later one.
+    /// Whether the footprint of a proposed swap was touched by move `base` or a later one.
     #[inline(always)]
     fn is_swap_touched(&self, design: &Design, grid: &Grid, base: u64, swap: Swap) -> bool
         requires block { swap.block.0 < length design.now.kinds }
@@ -210,11 +210,12 @@ impl Stamps {
                 || self.is_other_touched(design, base, swap.other))
     }
 
-    /// Whether it is plain that the target of a proposed swap, its blocks, and their nets with few terminals were not touched by move
-    /// `base` or a later one.
+    /// Whether the floor, the target's stamp and the blocks' `near` numbers show that the target of a proposed swap, its blocks, and their
+    /// nets with few terminals were not touched by move `base` or a later one.
     #[inline(always)]
     fn is_quiet(&self, grid: &Grid, base: u64, swap: Swap) -> bool
-        ensures { result ≡ true → IsQuiet grid.now self.now base swap }
+        ensures quiet { result ≡ true → IsQuiet grid.now self.now base swap }
+        ensures all { IsQuiet grid.now self.now base swap → result ≡ true }
     {
         self.floor <= base
             && self.of_site(grid, swap.to) <= base
@@ -222,8 +223,8 @@ impl Stamps {
             && near_other(&self.near, swap.other) <= base
     }
 
-    /// Whether what a proposed swap rests on was touched by move `base` or a later one, where nets of many terminals do not count: its
-    /// target, its blocks, and their nets with few terminals.
+    /// Whether the target of a proposed swap, its blocks, or their nets with few terminals were touched by move `base` or a later one. Nets
+    /// with many terminals do not count.
     pub(crate) fn is_swap_touched_in_few(
         &self,
         design: &Design,
@@ -319,7 +320,7 @@ impl Stamps {
     }
 }
 
-/// So many numbers, all 0. An error means that memory ran out.
+/// A list of `count` zeros. An error means that memory ran out.
 fn zeros(alloc: Global, count: usize) -> Result<Vec<u64>, AllocError>
     ensures long { IfOk result (λ v. length v.items ≡ count) }
     ensures each { IfOk result (λ v. (k : ℕ) → slice_index v.items k ≡ 0) }
@@ -374,7 +375,7 @@ fn stamp_nets(stamps: &mut Vec<u64>, nets: &[NetId], stamp: u64)
     }
 }
 
-/// The number of a block; 0 beyond the end.
+/// The `near` number of a block; 0 beyond the end.
 fn near_at(near: &[u64], block: BlockId) -> u64
     ensures { result ≡ slice_index near.now block.0 }
 {

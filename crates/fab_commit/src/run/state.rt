@@ -51,7 +51,7 @@ pub(crate) struct State {
     pub(crate) ended: bool,
     pub(crate) done: u64,
     pub(crate) total: u64,
-    /// The numbers of the moves that were accepted; `None` where no number is kept.
+    /// The numbers of the moves that were accepted; `None` if no numbers are kept.
     pub(crate) accepted: Option<Vec<u64>>,
 }
 
@@ -276,7 +276,7 @@ pub(crate) fn decide_on<W: Words>(given: &Given<'_, W>, state: &State, number: u
     decide(&view_of(given, state), number)
 }
 
-/// The same, by the move's words.
+/// Decides a move as [`decide_on`] does, from its words.
 #[inline(always)]
 pub(crate) fn decide_by<W: Words>(
     given: &Given<'_, W>,

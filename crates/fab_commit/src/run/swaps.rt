@@ -14,7 +14,7 @@ pub(crate) struct Accepted {
     pub(crate) swap: Swap,
 }
 
-/// Enters the swap of the next move, if it is accepted.
+/// Adds the swap of the next move to `accepted`, if the move is accepted.
 #[inline(always)]
 pub(crate) fn enter(accepted: &mut Vec<Accepted>, number: u64, decision: &Decision)
     requires room { vec_len accepted.old < vec_capacity accepted.old }

@@ -1,4 +1,4 @@
-//! Moves that the owner makes alone when moves judged again are not counted: no stamp is read or written.
+//! Moves that the owner makes alone when redone moves are not counted. No stamp is read or written.
 
 ghost use Rattle.std.specs.Prelude.{◌≡◌, ℕ, ◌+◌, ◌<◌, ◌≤◌, ◌++◌, [], ◌∷◌, length, OnOk, OnErr};
 ghost use Rattle.fab_sched.specs.Annealing.{IsLawful};
@@ -22,8 +22,8 @@ use fab_site::Words;
 use std::alloc::AllocError;
 use std::sync::Wait;
 
-/// Makes the moves that have these words. The caller has called `before_judge` for the first. There are others only if the gate does
-/// nothing, and they get no call. Allocates nothing.
+/// Makes the next moves, whose words are `words`. The caller has called `before_judge` for the first one. There are more only if the gate
+/// does nothing, and they get no such call. Allocates nothing.
 fn commit_uncounted<W: Words, G: Gate>(
     given: &Given<'_, W>,
     state: &mut State,
@@ -86,7 +86,7 @@ fn make_uncounted<W: Words, G: Gate>(
     ready.read = read;
 }
 
-/// Makes a turn of so many moves, and shows how far the run has come. An error means that memory ran out; then no move was made.
+/// Makes a turn of `moves` moves, and shows how far the run has come. An error means that memory ran out; then no move was made.
 fn turn_uncounted<W: Words, G: Gate, R: Wait>(
     given: &Given<'_, W>,
     state: &mut State,
@@ -114,8 +114,7 @@ fn turn_uncounted<W: Words, G: Gate, R: Wait>(
     Ok(())
 }
 
-/// Makes the plan's moves of the running stage by turns, of which the last may be shorter. If memory runs out, the turns that were made
-/// stay.
+/// Makes the plan's moves of the running stage in turns; the last turn may be shorter. If memory runs out, the turns that were made stay.
 fn turns_uncounted<W: Words, G: Gate, R: Wait>(
     given: &Given<'_, W>,
     state: &mut State,
@@ -143,8 +142,8 @@ fn turns_uncounted<W: Words, G: Gate, R: Wait>(
     Ok(())
 }
 
-/// Makes the plan's moves of the running stage, each judged by the owner, by turns, of which the last may be shorter. If memory runs out,
-/// the turns that were made stay. In either case nothing is judged ahead then, and the count of moves judged again stays the same.
+/// Makes the plan's moves of the running stage in turns; the last turn may be shorter. The owner judges each move. If memory runs out, the
+/// turns that were made stay. In either case nothing is judged ahead afterwards, and the count of redone moves stays the same.
 pub(crate) fn finish_uncounted<W: Words, G: Gate, R: Wait>(
     given: &Given<'_, W>,
     state: &mut Pipeline,

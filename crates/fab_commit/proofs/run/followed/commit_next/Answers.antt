@@ -1,7 +1,6 @@
 use Rattle.std.proofs.Common.{◌+◌, length, sym, ap, subst, ◌∙◌, arith}
 use Rattle.std.specs.List.{count_by, range_with_len}
 use Rattle.fab_commit.specs.Run.Commits.{run_for}
-use Rattle.fab_commit.specs.Run.Foreseen.{AreForeseen}
 use Rattle.fab_commit.specs.Run.Followed.{IsTied}
 use Rattle.fab_commit.specs.Model.History.{is_redone}
 use Rattle.fab_commit.proofs.RunLemmas.Alone.{open_later}

@@ -1,5 +1,4 @@
-use Rattle.std.proofs.Common.{◌≡◌, ◌+ℤ◌, Some, to_z, of_z, w64, FitsSigned, rules, refl, sym, ap, subst, ◌∙◌}
-use Rattle.fab_site.specs.declared.placement_types.Swap.{Swap}
+use Rattle.std.proofs.Common.{◌≡◌, ◌+ℤ◌, to_z, of_z, w64, FitsSigned, rules, refl, sym, ap, subst, ◌∙◌}
 use Rattle.fab_site.specs.Placement.{IsSwapOf}
 use Rattle.fab_cost.specs.Swapping.{change}
 use Rattle.fab_cost.proofs.Few.{change_fits}

@@ -1,4 +1,4 @@
-use Rattle.std.proofs.Common.{◌≡◌, ◌<◌, length, ◌+ℤ◌, to_z, of_z, w64, FitsSigned, rules, sym, ap, subst, ◌∙◌, refl}
+use Rattle.std.proofs.Common.{◌≡◌, ◌<◌, ◌≤◌, true, length, ◌+ℤ◌, to_z, of_z, w64, FitsSigned, rules, sym, ap, subst, ◌∙◌, refl}
 use Rattle.std.specs.Prelude.{slice_index}
 use Rattle.fab_arch.specs.Grid.{kind_at}
 use Rattle.fab_net.specs.Netlist.{Netlist}
@@ -12,7 +12,7 @@ use Rattle.fab_move.specs.Propose.{proposal}
 use Rattle.fab_commit.specs.Serial.{or_zero}
 use Rattle.fab_commit.specs.Model.Worlds.{IsBlock}
 use Rattle.fab_commit.specs.Run.Commits.{heat_of, run_for, standing_of}
-use Rattle.fab_commit.specs.Run.Foreseen.{AreKept, IsForeseen, swap_in}
+use Rattle.fab_commit.specs.Run.Foreseen.{AreKept, large_nets, swap_in}
 use Rattle.fab_commit.specs.Run.StampTables.{IsWithin}
 use Rattle.fab_commit.proofs.RunLemmas.Foreseeing.{foreseen_by, foreseen_none, move_is}
 use Rattle.fab_commit.proofs.RunLemmas.Owning.{within_of}
@@ -103,5 +103,6 @@ returns-in-Move g c =
       few = λ z e. few ∙ ap (change (few_of d) grid sites) (move_is s z e);
       within = λ z e. subst (λ (u : Swap). IsWithin d grid u) (move_is s z e) within;
       kind = λ z e. subst (λ (u : Swap). kind_at grid u.to ≡ kind_at grid u.from) (move_is s z e) lawful.kind;
-      nets = λ z e. subst (λ (u : Swap). AreKept d u c.of.result) (move_is s z e) (subst (λ k. AreKept k s c.of.result) v.design c.of.ensures);
+      nets = λ z e. subst (λ (u : Swap). AreKept d u c.of.result) (move_is s z e) (subst (λ k. AreKept k s c.of.result) v.design c.of.ensures.list);
+      kept = λ z e. subst (λ (u : Swap). length (large_nets d u) ≤ 5 → c.of.result.is_kept ≡ true) (move_is s z e) (subst (λ k. length (large_nets k s) ≤ 5 → c.of.result.is_kept ≡ true) v.design c.of.ensures.kept);
     })

@@ -1,5 +1,4 @@
-use Rattle.std.proofs.Common.{get_or, subst, sym}
-use Rattle.fab_commit.proofs.RunLemmas.LargeNets.{added_at, none_added}
+use Rattle.fab_commit.proofs.RunLemmas.LargeNets.{added_at}
 use Rattle.fab_commit.proofs.run.kept_nets.append_at.Goals as goal
 
 pub loop-place-preserved : goal.loop-place-preserved

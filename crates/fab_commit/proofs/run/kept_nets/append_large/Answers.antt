@@ -1,4 +1,4 @@
-use Rattle.std.proofs.Common.{◌≡◌, length, Some, sym, ap, subst, ◌∙◌, arith}
+use Rattle.std.proofs.Common.{◌≡◌, length, Some, ap, subst, ◌∙◌, arith}
 use Rattle.fab_net.specs.Netlist.{nets_of}
 use Rattle.fab_commit.specs.Run.Foreseen.{AreAppended, nets_at, nets_on}
 use Rattle.fab_commit.proofs.RunLemmas.LargeNets.{at_large, nets_long}

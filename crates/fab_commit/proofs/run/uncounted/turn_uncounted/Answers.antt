@@ -1,4 +1,3 @@
-use Rattle.std.proofs.Common.{sym, subst, ap, ◌∙◌}
 use Rattle.std.proofs.lemmas.Result.{err_from_is_err_and}
 use Rattle.fab_commit.specs.Run.Commits.{run_for}
 use Rattle.fab_commit.proofs.RunLemmas.Further.{further_kept, further_none, sound_kept}

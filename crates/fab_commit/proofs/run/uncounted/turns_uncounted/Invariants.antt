@@ -1,4 +1,4 @@
-use Rattle.std.proofs.Common.{◌≡◌, ℕ, ◌-◌, ◌<◌, ◌≤◌}
+use Rattle.std.proofs.Common.{◌≡◌, ◌-◌, ◌<◌, ◌≤◌}
 use Rattle.fab_commit.specs.Serial.{moves_left}
 use Rattle.fab_commit.specs.Run.Alone.{EndsAt, LeadsTo}
 use Rattle.fab_commit.specs.Run.Commits.{run_for, standing_of}

@@ -12,7 +12,7 @@ use Rattle.fab_commit.proofs.run.stamps.Stamps.is_swap_touched_in_few.Goals as g
 
 pub returns-then-is_quiet : goal.returns-then-is_quiet
 returns-then-is_quiet c =
-    quiet_swap_in_few c.args.design.now c.args.grid.now c.args.self.now c.args.base c.args.swap c.requires.table c.requires.block c.requires.other (c.is_quiet.ensures c.if-is_quiet.true)
+    quiet_swap_in_few c.args.design.now c.args.grid.now c.args.self.now c.args.base c.args.swap c.requires.table c.requires.block c.requires.other (c.is_quiet.ensures.quiet c.if-is_quiet.true)
 
 pub returns-then-is_block_touched_in_few : goal.returns-then-is_block_touched_in_few
 returns-then-is_block_touched_in_few c =

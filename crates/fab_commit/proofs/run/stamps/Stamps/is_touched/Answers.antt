@@ -1,4 +1,4 @@
-use Rattle.std.proofs.Common.{◌≡◌, false, sym, ap, ◌∙◌}
+use Rattle.std.proofs.Common.{sym, ap, ◌∙◌}
 use Rattle.std.specs.Prelude.{nat_lt, slice_index}
 use Rattle.std.specs.List.{list_any}
 use Rattle.fab_net.specs.declared.netlist_types.NetId.{NetId}
@@ -19,5 +19,5 @@ returns-then-is_quiet c =
     let base = c.args.base in
     c.is_net_touched.ensures
     ∙ (λ i. list_any (λ (n : NetId). nat_lt base (slice_index (c.deref-then-is_quiet.ensures.value i) n.0)) ((c.list.ensures ∙ (c.requires.nets s c.in-Move.is).nets c.if-nets.true) i))
-    ∙ quiet_swap d g kept base s c.requires.table (c.requires.block s c.in-Move.is) (λ b e. c.requires.other s b c.in-Move.is e) (c.is_quiet.ensures c.if-is_quiet.true)
+    ∙ quiet_swap d g kept base s c.requires.table (c.requires.block s c.in-Move.is) (λ b e. c.requires.other s b c.in-Move.is e) (c.is_quiet.ensures.quiet c.if-is_quiet.true)
     ∙ ap (λ p. list_any (λ m. nat_lt base (kept_stamp g kept m)) (footprint d p)) (sym c.in-Move.is)

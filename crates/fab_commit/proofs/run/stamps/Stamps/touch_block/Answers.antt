@@ -1,4 +1,4 @@
-use Rattle.std.proofs.Common.{ap, subst, cond, refl, ◌∷◌, [], ◌∙◌, arith}
+use Rattle.std.proofs.Common.{ap, subst, cond, ◌∙◌, arith}
 use Rattle.std.specs.Prelude.{IfSome, ℕ, Bool, List, ◌==◌, slice_index}
 use Rattle.std.specs.List.{list_any}
 use Rattle.std.proofs.lemmas.List.{length-set}

@@ -1,5 +1,5 @@
 use Rattle.std.proofs.Common.{Some}
-use Rattle.fab_commit.proofs.follow_tests.late_run.Given as goal
+use Rattle.fab_commit.proofs.follow_tests.crew_run.Given as goal
 
 abbrev pub ghosts-posted_by-J-Naming : goal.ghosts-posted_by-J-Naming
 ghosts-posted_by-J-Naming g a = record { book = a.opened }
