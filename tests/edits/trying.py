@@ -254,6 +254,6 @@ def try_edits(record, plan, jobs, end=None):
                 rest.setdefault(crate, []).append(edit)
     kept = len(entries)
     if rest:
-        with tempfile.TemporaryDirectory(prefix="vplace-edits-") as room:
+        with tempfile.TemporaryDirectory(prefix="vplace-edits-", ignore_cleanup_errors=True) as room:
             entries += Trial(record, rest, room, jobs, end).run()
     return entries, kept
