@@ -22,8 +22,8 @@ if len(sys.argv) != 2:
     sys.exit(__doc__)
 with open(sys.argv[1], encoding="utf-8") as it:
     guide = it.read()
-PLACE = "Type all commands in the folder `examples`."
+PLACE = "Type the commands in the folder `examples`, if the text names no other."
 if PLACE not in guide:
     sys.exit("guide_page.py: the guide does not say where its commands are typed")
-guide = guide.replace(PLACE, "Type all commands in a copy of this folder. The larger designs are not installed.")
+guide = guide.replace(PLACE, "Type the commands in a copy of this folder. The larger designs are not installed.")
 print(re.sub(r"(!?)\[([^]]*)\]\(([^)\s]*)\)", link, guide), end="")
