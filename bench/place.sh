@@ -1,7 +1,8 @@
 #!/bin/sh
 # How many moves per second `vplace place` makes with one worker and batches of 1,024 moves, on designs of 200, 770, 1,585, 9,583 and
 # 60,000 blocks, and the ratios of these. Timed from outside: a run of many moves minus a run of few, so that reading and writing cancel;
-# the best of each.
+# the best of each. Before the rates stands a line for each run: `time`, whose it is, the design, the moves of a stage, the microseconds, the
+# moves of all stages, and the blocks.
 # usage: [PROGRAM=PROGRAM] [BASELINE=PROGRAM] [MOVES=N] [RUNS=N] bench/place.sh [DESIGN..]
 # A design is one of examples, or /PATH/NAME; by default there is also a grown one of 60,000 blocks (grown.awk). PROGRAM is by default the
 # one that `make test` built. BASELINE is another placer that takes the same words (none is in the repository): it makes the same moves in
@@ -51,6 +52,7 @@ for design in "$@"; do
             || echo "differ $(basename "$design")"
     fi
 done > "$work/times"
+sed -n '/^differ /!s/^/time /p' "$work/times"
 awk -v many="$moves" '
     $1 == "differ" { differ[$2] = 1; next }
     {

@@ -5,7 +5,8 @@ report come. Stops if two of them print different reports.
   bench/stages.py DESIGN [WORD ..] -- NAME=PROGRAM:WORKERS ..
 
 DESIGN is the path of a .net and an .arch file without the ending; the words go to `vplace place`. RUNS runs are made of each, 3 by default.
-Prints the range and the accepted share of each stage, and the nanoseconds of a move.
+Prints `run` and its words; for each run `time`, its name, and the seconds until each line of the report; for each stage `line`, the number of
+its line, its moves, and the accepted share. After these, the range and the accepted share of each stage, and the nanoseconds of a move.
 """
 import os
 import subprocess
@@ -34,6 +35,7 @@ def after(words, word):
 def main(design, *rest):
     words, asked = rest[: rest.index("--")], [it.partition("=") for it in rest[rest.index("--") + 1 :]]
     report, least = None, {}
+    print("run", os.path.basename(design), *words)
     with tempfile.TemporaryDirectory() as room:
         for _ in range(int(os.environ.get("RUNS", "3"))):
             for name, _, run in asked:
@@ -42,14 +44,16 @@ def main(design, *rest):
                 if report not in (None, lines):
                     sys.exit(f"{name} prints another report")
                 report = lines
+                print("time", name, *(f"{it:.6f}" for it in seconds), flush=True)
                 least[name] = [min(both) for both in zip(least.get(name, seconds), seconds)]
+    stages = [(i, line, int(after(line, "moves"))) for i, line in enumerate(report) if line[0] in ("stage", "frozen")]
+    for i, line, moves in stages:
+        print(f"line {i} {moves} {int(after(line, 'accepted')) / moves:.4f}")
     print(f"{os.path.basename(design)}: nanoseconds of a move, {', '.join(least)}")
-    for i, line in enumerate(report):
-        if line[0] in ("stage", "frozen"):
-            moves = int(after(line, "moves"))
-            share = int(after(line, "accepted")) / moves
-            title = "frozen" if line[0] == "frozen" else " ".join(line[:2])
-            print(f"{title} range {after(line, 'range')} accepted {share:.3f}:", *(f"{it[i] * 1e9 / moves:.0f}" for it in least.values()))
+    for i, line, moves in stages:
+        share = int(after(line, "accepted")) / moves
+        title = "frozen" if line[0] == "frozen" else " ".join(line[:2])
+        print(f"{title} range {after(line, 'range')} accepted {share:.3f}:", *(f"{it[i] * 1e9 / moves:.0f}" for it in least.values()))
     print("seconds in all:", *(f"{sum(it):.2f}" for it in least.values()))
 
 
