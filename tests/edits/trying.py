@@ -108,14 +108,14 @@ class Trial:
             for place, group in enumerate(it for it in groups if it):
                 heapq.heappush(self.groups, (turn + place, next(self.numbers), crate, group))
 
-    def check(self, copy, crate):
+    def check(self, copy, crate, words):
         """Runs a check. Returns what it printed; None if it was ended."""
-        words = ["rt", "check"] + (["--jobs", "1"] if self.jobs > 1 else [])
         with self.turn:
             if self.stopped:
                 return None
             place = f"{copy}/crates/{crate}"
-            run = subprocess.Popen(words, cwd=place, stdout=subprocess.PIPE, stderr=subprocess.STDOUT, start_new_session=True)
+            # A group of its own, to be ended whole, but no session: Linux shares the processors out by sessions first, and `nice` says nothing there.
+            run = subprocess.Popen(words, cwd=place, stdout=subprocess.PIPE, stderr=subprocess.STDOUT, process_group=0)
             self.checks[copy] = run
         lines = run.communicate()[0].decode("utf-8", "replace").splitlines()
         return None if self.stopped else Outcome(run.returncode, lines)
@@ -130,7 +130,8 @@ class Trial:
 
     def look_at(self, copy, crate):
         """Proves a crate as it is, for the names of its functions, and groups its edits."""
-        outcome = self.check(copy, crate)
+        # The crates above wait for it, so it has all processors first.
+        outcome = self.check(copy, crate, ["rt", "check", "--jobs", str(self.jobs)])
         if outcome is None:
             return
         places = []
@@ -155,7 +156,7 @@ class Trial:
             return
         for file, text in texts.items():
             write(f"{copy}/crates/{crate}/{file}", text)
-        outcome = self.check(copy, crate)
+        outcome = self.check(copy, crate, ["nice", "-n", "5", "rt", "check", "--jobs", "1"])
         for file in texts:
             write(f"{copy}/crates/{crate}/{file}", read(f"{ROOT}/crates/{crate}/{file}"))
         if outcome is not None:
