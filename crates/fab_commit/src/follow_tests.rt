@@ -1,5 +1,6 @@
 // A crew of fab_board whose workers have states of this test's own: an owner that gets far ahead of late workers, one that keeps its end of
-// a crew that has ended, one to which is left what no worker judges, and one that posts before its workers have begun.
+// a crew that has ended, one to which is left what no worker judges, one that posts before its workers have begun, and one behind more than a
+// million units.
 ghost use Rattle.std.specs.Prelude.{All, ◌≡◌, ◌<◌, ◌≤◌, Some, IfOk, length};
 ghost use Rattle.std.specs.Thread.{IsSync};
 
@@ -31,6 +32,14 @@ const CREWS: u64 = 16;
 
 const WITH_A_WORKER: u64 = 12;
 
+// With so many units in a turn, the unit of this number is unit 2^20. From it on, workers judge so many numbers one by one: more than there
+// are turns whose units are kept.
+const UNITS: u64 = 4096;
+
+const FAR: u64 = 256;
+
+const FAR_NUMBERS: u64 = 16;
+
 // What is posted: a number to judge.
 #[derive(Clone, Copy)]
 struct Step {
@@ -46,6 +55,8 @@ enum Pace {
     Slow,
     // They wait for nothing.
     Prompt,
+    // They wait for nothing, and a turn has `UNITS` units.
+    Far,
 }
 
 // How many workers have begun, how many numbers they have judged, and whether one of these was waited for in vain.
@@ -59,6 +70,8 @@ struct Watch<'a> {
     // Beside slow workers: how many numbers were left to the owner, and how many answers were right.
     left: AtomicU64,
     right: AtomicU64,
+    // How many numbers from `FAR` on the workers have judged.
+    far: AtomicU64,
 }
 
 impl<'a> Watch<'a> {
@@ -71,6 +84,7 @@ impl<'a> Watch<'a> {
             pace,
             left: AtomicU64::new(0),
             right: AtomicU64::new(0),
+            far: AtomicU64::new(0),
         }
     }
 }
@@ -139,7 +153,7 @@ impl<'a> Follow<Step, u64> for Counted<'a> {
                     }
                 }
                 Pace::Slow => hold(watch.rt, &watch.left, LEFT, &watch.failed),
-                Pace::Prompt => {}
+                Pace::Prompt | Pace::Far => {}
             }
         }
         self.posts = self.posts.saturating_add(1);
@@ -156,6 +170,9 @@ impl<'a> Follow<Step, u64> for Counted<'a> {
                 thread::sleep(self.watch.rt, Duration::from_millis(1));
             }
             self.watch.judged.fetch_add(1, Ordering::SeqCst);
+            if self.posts > FAR {
+                self.watch.far.fetch_add(1, Ordering::SeqCst);
+            }
         }
         count == 1
     }
@@ -178,13 +195,14 @@ fn found<'a>(
     for _worker in 0..workers {
         others.push(Counted::new(watch, true))?;
     }
+    let numbers = if watch.pace == Pace::Far { UNITS } else { 1 };
     let (board, claims) = Board::new(alloc, 1 << 62, workers)?;
     Ok(CrewParts {
         board,
         claims,
         first: Counted::new(watch, false),
         others,
-        units: Plan::single(1),
+        units: Plan::single(numbers),
     })
 }
 
@@ -257,6 +275,25 @@ fn leave<S: Follow<Step, u64>, J: Naming + Boarding + Origin<S>, R: Wait>(
     }
 }
 
+// When each worker has begun with the first post, posts so many numbers that later ones are of units behind the first 2^20. Then posts a
+// number more whenever a worker has judged the last.
+fn go_far<S: Follow<Step, u64>, J: Naming + Boarding + Origin<S>, R: Wait>(
+    rt: &R,
+    owner_end: &mut OwnerEnd<S, J>,
+    watch: &Watch<'_>,
+    workers: u64,
+)
+    requires may { (s : S) (e : Step) → S.may s e }
+{
+    post_each(rt, owner_end, 0, 1);
+    hold(watch.rt, &watch.begun, workers, &watch.failed);
+    post_each(rt, owner_end, 1, FAR);
+    for more in 0..FAR_NUMBERS {
+        post_each(rt, owner_end, FAR + more, FAR + more + 1);
+        hold(watch.rt, &watch.far, more + 1, &watch.failed);
+    }
+}
+
 // Posts as often again, and asks for each number when it is due. Returns how many answers are right: as many posts as there were up to the
 // number's own.
 fn go_on<S: Follow<Step, u64>, J: Naming + Boarding + Origin<S>, R: Wait>(
@@ -292,6 +329,7 @@ fn begin<S: Follow<Step, u64>, J: Naming + Boarding + Origin<S>, R: Wait>(
         Pace::Late => run_ahead(rt, owner_end, watch, workers),
         Pace::Slow => leave(rt, owner_end, watch, workers),
         Pace::Prompt => post_each(rt, owner_end, 0, POSTS),
+        Pace::Far => go_far(rt, owner_end, watch, workers),
     }
 }
 
@@ -331,7 +369,7 @@ fn posted_by<
     let right = match watch.pace {
         Pace::Late => go_on(rt, &mut owner_end),
         Pace::Slow => watch.right.load(Ordering::SeqCst),
-        Pace::Prompt => 0,
+        Pace::Prompt | Pace::Far => 0,
     };
     drop(owner_end);
     let Some(retired) = retire(crew) else {
@@ -440,6 +478,21 @@ fn workers_that_have_not_begun_yet_are_waited_for(rt: HostRuntime) -> Result<(),
                 }
             }
             assert!(rt; with_a_worker >= WITH_A_WORKER, "{with_a_worker} crews");
+            Ok(())
+        },
+    )
+}
+
+// Units have no greatest number: workers take those behind the first million too.
+#[test]
+fn workers_take_units_behind_a_million(rt: HostRuntime) -> Result<(), Fail> {
+    in_time(
+        &rt,
+        &mut || -> Result<(), Fail> {
+            for workers in 1..3u64 {
+                let told = crew_run(&rt, rt.alloc(), &rt, workers, Pace::Far)?;
+                assert_eq!(rt; told.failed, 0, "{workers} workers");
+            }
             Ok(())
         },
     )
