@@ -114,7 +114,7 @@ class Trial:
             if self.stopped:
                 return None
             place = f"{copy}/crates/{crate}"
-            # A group of its own, to be ended whole, but no session: Linux shares the processors out by sessions first, and `nice` says nothing there.
+            # A group of its own, to be ended whole, but no session: Linux shares processors out by sessions, and `nice` counts only within one.
             run = subprocess.Popen(words, cwd=place, stdout=subprocess.PIPE, stderr=subprocess.STDOUT, process_group=0)
             self.checks[copy] = run
         lines = run.communicate()[0].decode("utf-8", "replace").splitlines()

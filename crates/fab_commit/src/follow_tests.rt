@@ -32,8 +32,8 @@ const CREWS: u64 = 16;
 
 const WITH_A_WORKER: u64 = 12;
 
-// With so many units in a turn, the unit of this number is unit 2^20. From it on, workers judge so many numbers one by one: more than there
-// are turns whose units are kept.
+// If a turn has `UNITS` units, the unit of the number `FAR` is unit 2^20. From it on, workers judge `FAR_NUMBERS` numbers one by one. These are
+// more than the turns whose units have a place at a time.
 const UNITS: u64 = 4096;
 
 const FAR: u64 = 256;
@@ -483,7 +483,7 @@ fn workers_that_have_not_begun_yet_are_waited_for(rt: HostRuntime) -> Result<(),
     )
 }
 
-// Units have no greatest number: workers take those behind the first million too.
+// Workers take units behind the first million too.
 #[test]
 fn workers_take_units_behind_a_million(rt: HostRuntime) -> Result<(), Fail> {
     in_time(
