@@ -130,7 +130,7 @@ located_all d g all (l ∷ left) p fixed begun law r none =
 location_meant : (d : Netlist) (g : GridShape) (ls : List TextLine) → IsLawful d → pins_fault d g ls ≡ None → (fixed : List (Option Site)) × ((begun : List (Option Site)) × IsLocated d g ls fixed begun)
 location_meant d g ls law none =
     let parts = both_none (header_fault g ls) (fault_of_all (pin_fault d g) no_text_fault (block_lines ls)) none in
-    located_all d g ls (block_lines ls) (no_lines d g) [] [] law (begin d g ls (block_lines ls) (no_lines d g) [] [] refl refl refl refl parts.0) none
+    located_all d g ls (block_lines ls) (no_lines d g) [] [] law (begin d g ls (block_lines ls) (no_lines d g) [] [] refl (λ b. refl) (λ b. refl) refl parts.0) none
 
 pub location_texts : (d : Netlist) (g : GridShape) (ls : List TextLine) → IsLawful d → LocationMeansOrFaults d g ls
 location_texts d g ls law = (λ fixed begun s. no_pins_fault_in d g ls fixed begun s, λ none. location_meant d g ls law none)

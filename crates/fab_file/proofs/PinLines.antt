@@ -41,7 +41,12 @@ none_yet zero b = refl
 none_yet (suc n) zero = refl
 none_yet (suc n) (suc b) = none_yet n b
 
-pub begin : (d : Netlist) (g : GridShape) (all left : List TextLine) (p : LinesOf) (fixed begun : List (Option Site)) → p ≡ no_lines d g → fixed ≡ [] → begun ≡ [] → left ≡ block_lines all → header_fault g all ≡ None → Pinning d g all left p fixed begun
+-- a list of as many blocks that have no site gives none
+pub none_given : (n : ℕ) (sites : List (Option Site)) → sites ≡ replicate n None → (b : ℕ) → fixed_at sites b ≡ None
+none_given n sites e b = ap (λ x. fixed_at x b) e ∙ sym (none_yet n b)
+
+pub begin : (d : Netlist) (g : GridShape) (all left : List TextLine) (p : LinesOf) (fixed begun : List (Option Site)) → p ≡ no_lines d g → ((b : ℕ) → fixed_at fixed b ≡ None) → ((b : ℕ) → fixed_at begun b ≡ None) → left ≡ block_lines all → header_fault g all ≡ None
+    → Pinning d g all left p fixed begun
 begin d g all left p fixed begun new no_fixed no_begun rest header =
     record {
       sites = replicate (length d.kinds) None;
@@ -51,10 +56,28 @@ begin d g all left p fixed begun new no_fixed no_begun rest header =
       header = header;
       seats = no_seats d g;
       clean = behind_lawful_header d g all header ∙ ap (fault_behind (pin_fault d g) no_text_fault []) (sym rest);
-      fixed_sites = λ b. ap (λ x. fixed_at x b) no_fixed;
-      begun_sites = λ b. ap (λ x. fixed_at x b) no_begun;
-      both = λ b. ap (λ x. given_at x begun b) no_fixed ∙ ap (λ x. given_at [] x b) no_begun ∙ none_yet (length d.kinds) b;
-      once = λ b h. ap (λ x. fixed_at x b) no_begun;
+      fixed_sites = no_fixed;
+      begun_sites = no_begun;
+      both = λ b. ap (λ o. either_site o (fixed_at begun b)) (no_fixed b) ∙ no_begun b ∙ none_yet (length d.kinds) b;
+      once = λ b h. no_begun b;
+    }
+
+-- the same, of other lists of the same sites
+pub relisted : (d : Netlist) (g : GridShape) (all left : List TextLine) (p : LinesOf) (fixed begun new_fixed new_begun : List (Option Site)) → Pinning d g all left p fixed begun → ((b : ℕ) → fixed_at new_fixed b ≡ fixed_at fixed b) → ((b : ℕ) → fixed_at new_begun b ≡ fixed_at begun b)
+    → Pinning d g all left p new_fixed new_begun
+relisted d g all left p fixed begun new_fixed new_begun r same_fixed same_begun =
+    record {
+      sites = r.sites;
+      is = r.is;
+      before = r.before;
+      text = r.text;
+      header = r.header;
+      seats = r.seats;
+      clean = r.clean;
+      fixed_sites = λ b. same_fixed b ∙ r.fixed_sites b;
+      begun_sites = λ b. same_begun b ∙ r.begun_sites b;
+      both = λ b. ap (λ o. either_site o (fixed_at new_begun b)) (same_fixed b) ∙ ap (either_site (fixed_at fixed b)) (same_begun b) ∙ r.both b;
+      once = λ b h. same_begun b ∙ r.once b (sym (ap is_some (same_fixed b)) ∙ h);
     }
 
 -- one more line

@@ -1,6 +1,6 @@
 //! Reads location texts: an optional header, and one line for each block that has a site before the first move.
 
-ghost use Rattle.std.specs.Prelude.{◌≡◌, ℕ, List, Option, Some, None, if◌then◌else◌, IfOk, IfErr, OnOk, MatchResult};
+ghost use Rattle.std.specs.Prelude.{◌≡◌, ℕ, ◌<◌, ◌^◌, List, Option, Some, None, length, IfOk, IfErr, OnOk, MatchResult};
 ghost use Rattle.fab_arch.specs.declared.array.Site.{Site};
 ghost use Rattle.fab_text.specs.Lines.{TextLine, lines};
 ghost use Rattle.fab_arch.specs.Grid.{GridShape};
@@ -81,20 +81,37 @@ fn without_free(line: Line) -> Line
     }
 }
 
-/// Gives a block the site in its line `name x y sub`. The block must have no site in `sites` yet.
-fn keep(sites: &mut Fixed, design: &Design, line: &Line) -> Result<(), AllocError>
-    requires { (b : ℕ) (s : Site) → site_for design.now b (shown line.now) ≡ Some s →
-        fixed_at sites.old b ≡ None }
-    ensures { OnOk result ((b : ℕ) →
-        fixed_at sites.new b ≡
-        either_site (fixed_at sites.old b) (site_for design.now b (shown line.now))) }
+/// Gives a block the site in its line `name x y sub`. The block must have no site in `sites` yet. `sites` has a place for each block.
+fn keep(sites: &mut Vec<Option<Site>>, design: &Design, line: &Line)
+    requires lawful { IsLawful design.now }
+    requires long { length sites.old.items ≡ length design.now.kinds }
+    requires new { (b : ℕ) (s : Site) → site_for design.now b (shown line.now) ≡ Some s →
+        fixed_at sites.old.items b ≡ None }
+    ensures long { length sites.new.items ≡ length sites.old.items }
+    ensures kept { (b : ℕ) →
+        fixed_at sites.new.items b ≡
+        either_site (fixed_at sites.old.items b) (site_for design.now b (shown line.now)) }
 {
     if let Some(block) = design.block_named(word_at(line, 0))
         && let Some(site) = site_in(line)
     {
-        sites.fix(block, site)?;
+        sites[block.0 as usize] = Some(site);
     }
-    Ok(())
+}
+
+/// Fixes each block that has a site in `sites` there. Takes time in proportion to the number of blocks.
+fn fixed_there(alloc: Global, sites: &[Option<Site>]) -> Result<Fixed, AllocError>
+    requires few { length sites.now < 2 ^ 32 }
+    ensures { IfOk result (λ f. (b : ℕ) → fixed_at f b ≡ fixed_at sites.now b) }
+{
+    let mut fixed = Fixed::none(alloc);
+    // In ascending order, so that no block is inserted before another.
+    'each: for block in 0..sites.len() as u32 {
+        if let Some(site) = sites[block as usize] {
+            fixed.fix(BlockId(block), site)?;
+        }
+    }
+    Ok(fixed)
 }
 
 /// Reads the fixed and the begun blocks that a location text gives, for the design `design` on the array `grid`. Otherwise returns the
@@ -121,20 +138,23 @@ pub fn read_pins(
     ensures lawful { IfOk result (λ p. ArePins design.now grid.now p.fixed p.begun) }
 {
     let mut placed = PlaceLines::new(alloc, design, grid)?;
-    let mut fixed = Fixed::none(alloc);
-    let mut begun = Fixed::none(alloc);
+    let mut fixed = vec![in alloc; None; design.blocks()]?;
+    let mut begun = vec![in alloc; None; design.blocks()]?;
     let mut left = block_lines(alloc, bytes, grid)?;
     while let Some(line) = left.next()? {
         let free = is_free(&line);
         let line = without_free(line);
         placed.take(&line)?;
         if free {
-            keep(&mut begun, design, &line)?;
+            keep(&mut begun, design, &line);
         } else {
-            keep(&mut fixed, design, &line)?;
+            keep(&mut fixed, design, &line);
         }
     }
-    Ok(Pins { fixed, begun })
+    Ok(Pins {
+        fixed: fixed_there(alloc, &fixed)?,
+        begun: fixed_there(alloc, &begun)?,
+    })
 }
 
 /// The law that the lines of a location text either stand for sites of blocks or have a first fault, and never both.
