@@ -1,7 +1,9 @@
 //! How the numbers of a turn are cut into units, which the workers of a crew claim.
 
-ghost use Rattle.std.specs.Prelude.{◌≡◌, ◌*◌, ◌^◌, ◌%◌, ◌≤◌, max, min};
-ghost use Rattle.fab_board.specs.Plans.{numbers_of, units_of};
+ghost use Rattle.std.specs.Prelude.{◌≡◌, ◌<◌, ◌≤◌};
+ghost use Rattle.fab_board.specs.Plans.{Cut, IsCutInto, IsSharedOut, numbers_of, share_of, units_of};
+
+use std::marker::Model;
 
 /// How the numbers of a turn are cut into units. A unit is some numbers in a row. Every turn has the same number of units; its last ones
 /// may be empty.
@@ -13,65 +15,51 @@ pub struct Plan {
     units: u32,
 }
 
+impl Model for Plan {
+    ghost use Rattle.std.specs.Prelude.{◌<◌};
+    ghost use Rattle.fab_board.specs.Plans.{Cut};
+
+    ghost Value = { Cut };
+
+    ghost view = { λ p. record { size = p.size; units = p.units } };
+
+    ghost inverse = { λ c. record { size = c.size; units = c.units } };
+
+    ghost invariant = { λ p. (p.size < 16) × (p.units < 16) };
+}
+
 /// The most numbers that a unit has: in batches of up to 128 numbers, and in longer batches.
 const LONGEST: [u64; 2] = [16, 32];
 
-/// 2^`exponent`, for exponents below 16.
-fn power(exponent: u32) -> u64
-    ensures { result ≡ 2 ^ (exponent % 16) }
-{
-    1 << (exponent % 16)
-}
-
-/// The exponent of the greatest power of 2 that is at most `most`; 0 if `most` is 0. Returns at most 5.
-fn power_within(most: u64) -> u32
-    ensures within { 2 ^ result ≤ max 1 most }
-    ensures bound { result ≤ 5 }
-{
-    most.clamp(1, 32).ilog2()
-}
-
-/// The exponent of the least power of 2 that is at least `least`. Returns at most 12.
-fn power_for(least: u64) -> u32
-    ensures enough { least ≤ 4096 → least ≤ 2 ^ result }
-    ensures bound { result ≤ 12 }
-{
-    let below = least.clamp(1, 4096) - 1;
-    if below == 0 {
-        return 0;
-    }
-    below.ilog2() + 1
-}
-
 impl Plan {
-    /// The plan for turns of at most `batch` numbers, with `workers` workers. `batch` is at most 4,096. If a batch has enough numbers,
-    /// a turn has at least one unit for each worker.
+    /// The plan for turns of at most `batch` numbers, with `workers` workers. `batch` is at most 4,096. A unit has at most the numbers of
+    /// one worker's share, so if a batch has enough numbers, a turn has at least one unit for each worker.
     pub fn of(batch: u64, workers: u64) -> Plan
-        ensures each { batch ≤ 4096 → min workers batch ≤ units_of result }
-        ensures room { batch ≤ 4096 → batch ≤ units_of result * numbers_of result }
+        ensures cut { batch ≤ 4096 → IsCutInto result batch (share_of batch workers) }
+        ensures shared { batch ≤ 4096 → IsSharedOut result batch workers }
     {
         let longest = if batch > 128 { LONGEST[1] } else { LONGEST[0] };
         let share = (batch / workers.max(1)).min(longest);
-        Plan::by(batch, power_within(share))
+        Plan::by(batch, share)
     }
 
     /// The plan for turns of at most `batch` numbers whose units are single numbers. `batch` is at most 4,096.
     pub fn single(batch: u64) -> Plan
+        ensures cut { batch ≤ 4096 → IsCutInto result batch 1 }
         ensures each { batch ≤ 4096 → batch ≤ units_of result }
-        ensures room { batch ≤ 4096 → batch ≤ units_of result * numbers_of result }
     {
-        Plan::by(batch, 0)
+        Plan::by(batch, 1)
     }
 
-    /// The plan for turns of at most `batch` numbers whose units have 2^`size` numbers.
-    fn by(batch: u64, size: u32) -> Plan
-        ensures all { batch ≤ 4096 → size ≤ 5 → batch ≤ units_of result * 2 ^ size }
-        ensures size { result.size ≡ size }
+    /// The plan for turns of at most `batch` numbers whose units have at most `numbers` numbers.
+    fn by(batch: u64, numbers: u64) -> Plan
+        ensures { batch ≤ 4096 → numbers ≤ 32 → IsCutInto result batch numbers }
     {
-        let units = batch.min(4096).div_ceil(power(size).max(1));
+        let size = numbers.clamp(1, 32).ilog2();
+        let units = batch.min(4096).div_ceil(1 << size);
         Plan {
             size,
-            units: power_for(units),
+            units: units.next_power_of_two().ilog2(),
         }
     }
 
@@ -80,14 +68,14 @@ impl Plan {
         ensures range { (1 ≤ result) × (result ≤ 32768) }
         ensures units { result ≡ units_of self.now }
     {
-        1 << (self.units % 16)
+        1 << self.units
     }
 
     /// How many numbers a unit has.
     pub(crate) fn size(&self) -> u64
         ensures { result ≡ numbers_of self.now }
     {
-        1 << (self.size % 16)
+        1 << self.size
     }
 
     /// The turn of a claimed unit.

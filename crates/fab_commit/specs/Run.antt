@@ -2,6 +2,7 @@
 pub mod Behind
 pub mod Commits
 pub mod Followed
+pub mod Further
 pub mod Foreseen
 pub mod Noted
 pub mod Owners
@@ -9,8 +10,6 @@ pub mod Pipelines
 pub mod Points
 pub mod Readings
 pub mod Since
-pub mod StampTables
 pub mod Turned
 pub mod ByTurns
-pub mod Alone
-pub mod Uncounted
+pub mod Stages

@@ -212,7 +212,7 @@ const BATCH: u64 = 10;
 
 // Holds the first commit of each batch until a judgement of the batch after it has begun, if that is of the same stage.
 #[derive(Drop)]
-struct Ahead<'a> {
+struct OnBase<'a> {
     rt: &'a HostRuntime,
     batch: u64,
     stage: u64,
@@ -221,7 +221,7 @@ struct Ahead<'a> {
     failed: AtomicU64,
 }
 
-impl<'a> Ahead<'a> {
+impl<'a> OnBase<'a> {
     // Nothing has begun yet in a run of so many moves.
     fn of(
         alloc: Global,
@@ -229,12 +229,12 @@ impl<'a> Ahead<'a> {
         batch: u64,
         stage: u64,
         moves: u64,
-    ) -> Result<Ahead<'a>, AllocError> {
+    ) -> Result<OnBase<'a>, AllocError> {
         let mut begun = Vec::new(alloc);
         for _batch in 0..moves / batch.max(1) {
             begun.push(AtomicU64::new(0))?;
         }
-        Ok(Ahead {
+        Ok(OnBase {
             rt,
             batch,
             stage,
@@ -249,7 +249,7 @@ impl<'a> Ahead<'a> {
     }
 }
 
-impl Gate for Ahead<'_> {
+impl Gate for OnBase<'_> {
     fn before_judge(&self, k: u64) {
         if let Some(begun) = self.begun(k) {
             begun.fetch_add(1, Ordering::SeqCst);
@@ -281,7 +281,7 @@ fn workers_judge_a_batch_while_the_one_before_is_committed(rt: HostRuntime) -> R
                         batch: BATCH,
                         workers,
                     };
-                    let gate = Ahead::of(rt.alloc(), &rt, BATCH, STAGE, MOVES)?;
+                    let gate = OnBase::of(rt.alloc(), &rt, BATCH, STAGE, MOVES)?;
                     let alone = random_end(&rt, rt.alloc(), 5, Maker::Alone, pace, &NoGate)?;
                     let beside = random_end(&rt, rt.alloc(), 5, maker, pace, &gate)?;
                     assert_eq!(rt;
@@ -631,7 +631,7 @@ fn all_accepted<R: Threads + Wait + Sync>(
     alloc: Global,
     maker: Maker,
     workers: u64,
-    gate: &Ahead<'_>,
+    gate: &OnBase<'_>,
 ) -> Result<(u64, u64, u64), Fail> {
     let of = read_setting(alloc, PAIR_ARCH, PAIR)?;
     let schedule = Schedule::new(1, 2, 500, 12_288)?;
@@ -651,7 +651,7 @@ fn turns_end_whose_moves_are_all_accepted(rt: HostRuntime) -> Result<(), Fail> {
         &mut || -> Result<(), Fail> {
             for maker in [Maker::Stages, Maker::Turns] {
                 for workers in [1, 3] {
-                    let gate = Ahead::of(rt.alloc(), &rt, 4096, 12_288, 12_288)?;
+                    let gate = OnBase::of(rt.alloc(), &rt, 4096, 12_288, 12_288)?;
                     let made = all_accepted(&rt, rt.alloc(), maker, workers, &gate)?;
                     assert_eq!(rt; made, (12_288, 12_288, 12_287), "{maker:?}, {workers}");
                     assert_eq!(rt;

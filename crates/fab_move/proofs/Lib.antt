@@ -7,3 +7,7 @@ pub mod Tested
 pub mod Chances
 pub mod Parts
 pub mod Streams
+pub mod Marked
+pub mod Stamping
+pub mod Near
+pub mod KeptLists

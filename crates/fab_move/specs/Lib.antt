@@ -5,3 +5,5 @@ pub mod Propose
 pub mod Sides
 pub mod Chosen
 pub mod Judge
+pub mod StampTables
+pub mod KeptNets

@@ -27,5 +27,5 @@ pub mod PointWhole
 pub mod Chaining
 pub mod Showing
 pub mod Watching
-pub mod Alone
+pub mod LeadsOn
 pub mod Lawful

@@ -11,7 +11,7 @@ use Rattle.fab_commit.specs.Serial.{Run, Standing, accepted_among, from, moves_l
 use Rattle.fab_commit.specs.Run.Turned.{IsTurned}
 use Rattle.fab_commit.proofs.RunLemmas.ByTurns.{redone_by_a_shorter, redone_by_turns}
 use Rattle.fab_commit.proofs.RunLemmas.Folding.{from_add, left_from}
-use Rattle.fab_commit.proofs.RunLemmas.Owning.{accepted_add}
+use Rattle.fab_commit.proofs.RunLemmas.Going.{accepted_add}
 
 -- how many moves the next turn makes
 pub turn_makes : (r q : Run) (x y : Standing) (made left batch : ℕ) → q ≡ r → left ≡ moves_left r x → y ≡ from r x made → made < left → min batch (moves_left q y) ≡ min batch (left - made)

@@ -5,9 +5,7 @@ ghost use Rattle.fab_sched.specs.Annealing.{IsLawful};
 use crate::piece::unwatched;
 use crate::run_tests::{ARCH, INPUTS, OPTIONS, SEVEN, SHORT, writer_with};
 use crate::setting::read_setting;
-use crate::stages::{
-    Environment, Pace, anneal_all, crew_size, is_judged_ahead, make_part, make_rest,
-};
+use crate::stages::{Environment, Pace, anneal_all, crew_size, is_judged_ahead, make_moves};
 use crate::watched_tests::Quiet;
 use crate::{Inputs, Moves, Options, RunFault};
 use fab_board::{Gate, NoGate};
@@ -449,12 +447,12 @@ fn stage_alone<V: Words + Send + Sync + Drop, G: Gate, R: Threads + Wait + Sync>
     };
     if let Some(stage) = anneal.stage() {
         if part < moves - stage.done {
-            make_part(rt, anneal, part, false, &plan, shower)?;
+            make_moves(rt, anneal, part, false, &plan, shower)?;
         }
     }
     if let Some(stage) = anneal.stage() {
         let left = moves - stage.done;
-        make_rest(rt, anneal, left, false, &plan, shower)?;
+        make_moves(rt, anneal, left, false, &plan, shower)?;
     }
     Ok(())
 }

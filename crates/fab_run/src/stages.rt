@@ -2,15 +2,13 @@
 
 ghost use Rattle.std.specs.Prelude.{◌≡◌, ℕ, ◌+◌, ◌-◌, ◌<◌, ◌≤◌, ◌++◌, min, true, Some, OnOk, OnErr, IfOk, IfErr, MatchOption};
 ghost use Rattle.fab_sched.specs.Annealing.{IsLawful};
-ghost use Rattle.fab_commit.specs.Serial.{accepted_among, from, moves_left, stage_of};
-ghost use Rattle.fab_commit.specs.Run.Alone.{IsMade, IsMadeByTurns};
-ghost use Rattle.fab_commit.specs.Run.ByTurns.{LeadsByTurns};
+ghost use Rattle.fab_commit.specs.Serial.{moves_left, stage_of};
 ghost use Rattle.fab_commit.specs.Run.Commits.{IsSameRun, run_of};
 ghost use Rattle.fab_commit.specs.Run.Readings.{readings};
 ghost use Rattle.fab_run.specs.Piece.{stage_costs, stage_lines};
 ghost use Rattle.fab_run.specs.Placed.{IsReportFault};
-ghost use Rattle.fab_run.specs.Shown.{AreShownBegun, EndsShown, LeadsShown, LeadsShownWithin};
-ghost use Rattle.fab_run.specs.Stages.{AreCountedOn, AreCut, AreMade};
+ghost use Rattle.fab_run.specs.Shown.{AreShownBegun};
+ghost use Rattle.fab_run.specs.Stages.{AreCut, AreMade, LeadsOn};
 
 use crate::fault::RunFault;
 use crate::report::stage_line;
@@ -146,7 +144,12 @@ pub(crate) fn crew_size(pace: &Pace, does_nothing: bool) -> u64
 /// Makes the next `count` moves of the running stage, in turns of one batch, and a shorter turn for the rest. The stage must have at least
 /// one move left, and at least `count`. If `ahead`, a crew that lives for these moves judges them ahead. Otherwise the owner judges each
 /// when its turn comes. The moves, their costs and, if counted, the number of redone moves are the same.
-fn make_moves<V: Words + Send + Sync + Drop, K: Keeping, G: Gate, R: Threads + Wait + Sync>(
+pub(crate) fn make_moves<
+    V: Words + Send + Sync + Drop,
+    K: Keeping,
+    G: Gate,
+    R: Threads + Wait + Sync,
+>(
     rt: &R,
     anneal: &mut Anneal<'_, V, K>,
     count: u64,
@@ -159,96 +162,14 @@ fn make_moves<V: Words + Send + Sync + Drop, K: Keeping, G: Gate, R: Threads + W
     requires own { shower.old.dial ≡ plan.now.dial.now }
     requires limits { (1 ≤ plan.now.batch) × (plan.now.batch ≤ 4096) × (1 ≤ plan.now.workers) ×
         (plan.now.workers ≤ 64) }
-    ensures made { IsMade V.moves plan.now.batch count anneal.old anneal.new result shower.old.shown
-        shower.new.shown }
-    ensures counted { K.again ≡ true →
-        IsMadeByTurns V.moves plan.now.batch count anneal.old anneal.new result shower.old.shown
-        shower.new.shown }
+    ensures made { LeadsOn V.moves K.again plan.now.batch count anneal.old anneal.new result
+        shower.old.shown shower.new.shown }
     ensures dial { shower.new.dial ≡ shower.old.dial }
 {
     if ahead && count > 0 {
         return anneal.make_beside(rt, count, plan, shower);
     }
     anneal.make_alone(rt, count, plan, shower)
-}
-
-/// Makes the next `count` moves of the running stage as [`make_moves`] does. The stage has more than `count` moves left.
-pub(crate) fn make_part<
-    V: Words + Send + Sync + Drop,
-    K: Keeping,
-    G: Gate,
-    R: Threads + Wait + Sync,
->(
-    rt: &R,
-    anneal: &mut Anneal<'_, V, K>,
-    count: u64,
-    ahead: bool,
-    plan: &StagePlan<'_, G>,
-    shower: &mut Shower,
-) -> Result<(), AllocError>
-    requires part { count < moves_left (run_of V.moves anneal.old) anneal.old.standing }
-    requires own { shower.old.dial ≡ plan.now.dial.now }
-    requires limits { (1 ≤ plan.now.batch) × (plan.now.batch ≤ 4096) × (1 ≤ plan.now.workers) ×
-        (plan.now.workers ≤ 64) }
-    ensures same { IsSameRun anneal.old anneal.new }
-    ensures done { OnOk result (anneal.new.standing.done ≡ anneal.old.standing.done + count) }
-    ensures stands { OnOk result
-        (anneal.new.standing ≡ from (run_of V.moves anneal.old) anneal.old.standing count) }
-    ensures accepted { OnOk result
-        (anneal.new.accepted ≡
-        anneal.old.accepted ++
-        accepted_among (run_of V.moves anneal.old) anneal.old.standing count) }
-    ensures counted { OnOk result (K.again ≡ true →
-        AreCountedOn (run_of V.moves anneal.old) plan.now.batch anneal.old anneal.new) }
-    ensures dial { shower.new.dial ≡ shower.old.dial }
-    ensures shown { OnOk result
-        (EndsShown (run_of V.moves anneal.old) plan.now.batch anneal.old.standing
-        anneal.new.standing shower.old.shown shower.new.shown) }
-    ensures shown_cut { OnErr result
-        (LeadsShownWithin (run_of V.moves anneal.old) plan.now.batch anneal.old.standing count
-        shower.old.shown shower.new.shown) }
-{
-    make_moves(rt, anneal, count, ahead, plan, shower)
-}
-
-/// Makes the `left` moves that are left in the running stage, at least one, as [`make_moves`] does.
-pub(crate) fn make_rest<
-    V: Words + Send + Sync + Drop,
-    K: Keeping,
-    G: Gate,
-    R: Threads + Wait + Sync,
->(
-    rt: &R,
-    anneal: &mut Anneal<'_, V, K>,
-    left: u64,
-    ahead: bool,
-    plan: &StagePlan<'_, G>,
-    shower: &mut Shower,
-) -> Result<(), AllocError>
-    requires left { (left ≡ moves_left (run_of V.moves anneal.old) anneal.old.standing) ×
-        (0 < left) }
-    requires own { shower.old.dial ≡ plan.now.dial.now }
-    requires limits { (1 ≤ plan.now.batch) × (plan.now.batch ≤ 4096) × (1 ≤ plan.now.workers) ×
-        (plan.now.workers ≤ 64) }
-    ensures same { IsSameRun anneal.old anneal.new }
-    ensures turns { OnOk result (K.again ≡ true →
-        LeadsByTurns (run_of V.moves anneal.old) plan.now.batch anneal.old anneal.new) }
-    ensures stands { OnOk result
-        (anneal.new.standing ≡ from (run_of V.moves anneal.old) anneal.old.standing left) }
-    ensures done { OnOk result (anneal.new.standing.done ≡ anneal.old.standing.done + left) }
-    ensures accepted { OnOk result
-        (anneal.new.accepted ≡
-        anneal.old.accepted ++
-        accepted_among (run_of V.moves anneal.old) anneal.old.standing left) }
-    ensures dial { shower.new.dial ≡ shower.old.dial }
-    ensures shown { OnOk result
-        (LeadsShown (run_of V.moves anneal.old) plan.now.batch anneal.old.standing
-        anneal.new.standing shower.old.shown shower.new.shown) }
-    ensures shown_cut { OnErr result
-        (LeadsShownWithin (run_of V.moves anneal.old) plan.now.batch anneal.old.standing left
-        shower.old.shown shower.new.shown) }
-{
-    make_moves(rt, anneal, left, ahead, plan, shower)
 }
 
 /// The running stage, how many moves a stage has, and whether a crew judges them ahead.
@@ -276,21 +197,9 @@ fn end_stage<V: Words + Send + Sync + Drop, K: Keeping, G: Gate, R: Threads + Wa
     requires own { shower.old.dial ≡ plan.now.dial.now }
     requires limits { (1 ≤ plan.now.batch) × (plan.now.batch ≤ 4096) × (1 ≤ plan.now.workers) ×
         (plan.now.workers ≤ 64) }
-    ensures same { IsSameRun anneal.old anneal.new }
-    ensures turns { OnOk result (K.again ≡ true →
-        LeadsByTurns (run_of V.moves anneal.old) plan.now.batch anneal.old anneal.new) }
-    ensures stands { OnOk result
-        (anneal.new.standing ≡
-        from (run_of V.moves anneal.old) anneal.old.standing
-        (moves_left (run_of V.moves anneal.old) anneal.old.standing)) }
-    ensures done { OnOk result
-        (anneal.new.standing.done ≡
-        anneal.old.standing.done + moves_left (run_of V.moves anneal.old) anneal.old.standing) }
-    ensures accepted { OnOk result
-        (anneal.new.accepted ≡
-        anneal.old.accepted ++
-        accepted_among (run_of V.moves anneal.old) anneal.old.standing
-        (moves_left (run_of V.moves anneal.old) anneal.old.standing)) }
+    ensures made { LeadsOn V.moves K.again plan.now.batch
+        (moves_left (run_of V.moves anneal.old) anneal.old.standing) anneal.old anneal.new result
+        shower.old.shown shower.new.shown }
     ensures costs { OnOk result
         (costs.new.items ≡
         costs.old.items ++
@@ -300,13 +209,6 @@ fn end_stage<V: Words + Send + Sync + Drop, K: Keeping, G: Gate, R: Threads + Wa
         v.items ≡ stage_lines (run_of V.moves anneal.old) anneal.old.standing
         (moves_left (run_of V.moves anneal.old) anneal.old.standing)) }
     ensures dial { shower.new.dial ≡ shower.old.dial }
-    ensures shown { OnOk result
-        (LeadsShown (run_of V.moves anneal.old) plan.now.batch anneal.old.standing
-        anneal.new.standing shower.old.shown shower.new.shown) }
-    ensures shown_cut { OnErr result
-        (LeadsShownWithin (run_of V.moves anneal.old) plan.now.batch anneal.old.standing
-        (moves_left (run_of V.moves anneal.old) anneal.old.standing) shower.old.shown
-        shower.new.shown) }
 {
     let before = anneal.total();
     let _begun = anneal.done();
@@ -316,7 +218,7 @@ fn end_stage<V: Words + Send + Sync + Drop, K: Keeping, G: Gate, R: Threads + Wa
         ahead,
     } = running;
     let left = *moves - stage.done;
-    make_rest(rt, anneal, left, *ahead, plan, shower)?;
+    make_moves(rt, anneal, left, *ahead, plan, shower)?;
     let _made = anneal.done();
     let cost = anneal.cost();
     let accepted = stage.accepted + (anneal.total() - before);
@@ -375,7 +277,7 @@ pub(crate) fn anneal_all<
     while let Some(stage) = anneal.stage() {
         let ahead = is_judged_ahead(&stage, blocks, pace, does_nothing);
         if let Some(rest) = moves_before(pace.stop, anneal.done(), pace.moves - stage.done) {
-            make_part(rt, anneal, rest, ahead, &plan, shower)?;
+            make_moves(rt, anneal, rest, ahead, &plan, shower)?;
             return Ok(());
         }
         let running = Running {

@@ -15,6 +15,10 @@ use std::alloc::{AllocError, Global};
 
 const ABOUT: &str = "Go on with a run from a checkpoint, and write its placement";
 
+// The parser's own usage has 85 columns.
+const USAGE: &str = "vplace resume [OPTIONS] --arch <FILE> --net <FILE> --point <FILE>
+                     --out <FILE>";
+
 const AFTER: &str = "A checkpoint is what `vplace place` or `vplace resume` wrote at its --save name
 when it stopped. It holds the seed, the array, the schedule, the site of each
 block, and which blocks are fixed; give the same architecture and netlist with
@@ -51,7 +55,10 @@ const OPTIONS: [OptionRow; 8] = [
 pub fn resume_command<'a>(alloc: Global) -> Result<Command<'a>, AllocError>
     ensures shape { IfOk result (λ made. shape_of made ≡ command (codes "resume") resume_options) }
 {
-    let command = Command::new(alloc, "resume").about(ABOUT).after_help(AFTER);
+    let command = Command::new(alloc, "resume")
+        .override_usage(USAGE)
+        .about(ABOUT)
+        .after_help(AFTER);
     with_options(alloc, command, OPTIONS.as_slice())
 }
 

@@ -299,7 +299,7 @@ fn help_goes_to_the_output(rt: HostRuntime) -> Result<(), Fail> {
         ),
         (
             &[b"resume", b"--help"],
-            b"\nUsage: vplace resume [OPTIONS] --arch <FILE> --net <FILE> --point <FILE> --out <FILE>\n",
+            b"\nUsage: vplace resume [OPTIONS] --arch <FILE> --net <FILE> --point <FILE>\n                     --out <FILE>\n",
         ),
         (
             &[b"resume", b"--help"],

@@ -22,7 +22,7 @@ use Rattle.fab_commit.specs.Serial.{Run, Standing, from, judged_here, moves_left
 use Rattle.fab_commit.specs.Model.History.{accepted_at, accepted_from}
 use Rattle.fab_commit.specs.Model.World.{accepted_as, accepted_now, clash}
 use Rattle.fab_commit.proofs.ModelLemmas.Backwards.{clash-append, judged_can, length_step}
-use Rattle.fab_commit.proofs.ModelLemmas.Listing.{has_mark-append}
+use Rattle.fab_move.proofs.Marked.{has_mark-append}
 use Rattle.fab_commit.proofs.ModelLemmas.Noninterference.{judged_kept}
 use Rattle.fab_commit.proofs.ModelLemmas.Sitings.{OtherAt}
 use Rattle.fab_commit.proofs.ModelLemmas.TurnLaws.{step_bounds}

@@ -31,7 +31,8 @@ use Rattle.fab_commit.specs.Serial.{Run, Standing, at_start, side, or_zero, judg
 use Rattle.fab_commit.specs.Run.Commits.{IsSound, StageStands, standing_of}
 use Rattle.fab_commit.specs.Laws.EverySchedule.{TakesTheMove}
 use Rattle.fab_commit.specs.Model.World.{World, world, accepted_as, accepted_now, clash, end, happens, run_through, stage_end_at, usable, verdict_for, verdict_here, ways, ways_now, without_number}
-use Rattle.fab_commit.specs.Model.Worlds.{HasBlocks, IsBlock, IsReached, IsSerial, IsWhole, KeepsKind, world_of}
+use Rattle.fab_move.specs.StampTables.{IsBlock}
+use Rattle.fab_commit.specs.Model.Worlds.{HasBlocks, IsReached, IsSerial, IsWhole, KeepsKind, world_of}
 use Rattle.fab_commit.proofs.RunLemmas.Committing.{numbers_fit}
 use Rattle.fab_commit.proofs.RunLemmas.Folding.{not_ended}
 use Rattle.fab_commit.proofs.ModelLemmas.Schedules.{Inv, start_inv, happens_inv, stage_open, takes_the_move, serial}

@@ -12,7 +12,7 @@ use Rattle.fab_commit.specs.Serial.{Run, Standing, accepted_among, from, left_at
 use Rattle.fab_commit.specs.Run.Commits.{heat_of, standing_of}
 use Rattle.fab_commit.specs.Run.Noted.{noted, noted_more}
 use Rattle.fab_commit.specs.Run.Owners.{verdict_of}
-use Rattle.fab_commit.specs.Run.Pipelines.{HasTurned, IsBehind, world_in}
+use Rattle.fab_commit.specs.Run.Pipelines.{HasTurned, IsAfter, world_in}
 use Rattle.fab_commit.specs.Model.History.{accepted_from}
 use Rattle.fab_commit.specs.Model.TurnEvents.{LastTurn, events_from, forget, next_turn, stands, turn, turn_events, turn_making, verdict_on, world_behind}
 use Rattle.fab_commit.specs.Model.World.{World, is_redone_way, run_through, ways}
@@ -20,74 +20,74 @@ use Rattle.fab_commit.proofs.ModelLemmas.RunLaws.{ways_of_a_beginning}
 use Rattle.fab_commit.proofs.RunLemmas.Folding.{left_from}
 use Rattle.fab_commit.proofs.ModelLemmas.TurnLaws.{length_on, turn_leads, turns_lead_on}
 
-pub some_moves : (r : Run) (t : LastTurn) (s : Pipeline) → IsBehind r t s → 0 < r.plan.moves
-some_moves r t s b = (let m = b.plan.moves in omega (arith, m))
+pub some_moves : (r : Run) (t : LastTurn) (s : Pipeline) → IsAfter r t s → 0 < r.plan.moves
+some_moves r t s b = (let m = b.at_turn.plan.moves in omega (arith, m))
 
-pub done_at : (r : Run) (t : LastTurn) (s : Pipeline) → IsBehind r t s → s.owner.state.done ≡ (stands r t).done
-done_at r t s b = ap (λ (v : Standing). v.done) b.here
+pub done_at : (r : Run) (t : LastTurn) (s : Pipeline) → IsAfter r t s → s.owner.state.done ≡ (stands r t).done
+done_at r t s b = ap (λ (v : Standing). v.done) b.at_turn.led.here
 
 -- what is kept after a turn is the world after it
-pub world_is : (r : Run) (t : LastTurn) (s : Pipeline) → IsBehind r t s → world_in s ≡ world_behind r t
+pub world_is : (r : Run) (t : LastTurn) (s : Pipeline) → IsAfter r t s → world_in s ≡ world_behind r t
 world_is r t s b =
-    let base = b.base_is in
+    let base = b.at_turn.led.base_is in
     let verdicts : map (verdict_of s.base) s.ahead.items ≡ map (verdict_on r t.start) (range_with_len (stands r t).done t.ahead) =
     ap (λ k. map (verdict_of k) s.ahead.items) base
-    ∙ b.answers_are.are
-    ∙ (λ i. map (verdict_on r t.start) (range_with_len (done_at r t s b i) (b.many i))) in
-    (λ i. record { live = b.here i; older = b.here i; claims = []; verdicts = verdicts i; accepted = b.swaps i })
+    ∙ b.judged.answers_are
+    ∙ (λ i. map (verdict_on r t.start) (range_with_len (done_at r t s b i) (b.at_turn.many i))) in
+    (λ i. record { live = b.at_turn.led.here i; older = b.at_turn.led.here i; claims = []; verdicts = verdicts i; accepted = b.at_turn.swaps i })
 
 -- how many moves it made
-pub moves_made : (r : Run) (t : LastTurn) (s now : Pipeline) (n ahead : ℕ) → IsBehind r t s → HasTurned r t s n ahead now → now.owner.state.done ≡ s.owner.state.done + n
+pub moves_made : (r : Run) (t : LastTurn) (s now : Pipeline) (n ahead : ℕ) → IsAfter r t s → HasTurned r t s n ahead now → now.owner.state.done ≡ s.owner.state.done + n
 moves_made r t s now n ahead b h =
-    let e = h.behind.done_is in
+    let e = h.behind.at_turn.led.done_is in
     let there = done_at r t s b in
     omega (arith, e, there)
 
-pub stands_on : (r : Run) (t : LastTurn) (s now : Pipeline) (n ahead : ℕ) → IsBehind r t s → HasTurned r t s n ahead now → standing_of now.owner.state ≡ from r (standing_of s.owner.state) (now.owner.state.done - s.owner.state.done)
+pub stands_on : (r : Run) (t : LastTurn) (s now : Pipeline) (n ahead : ℕ) → IsAfter r t s → HasTurned r t s n ahead now → standing_of now.owner.state ≡ from r (standing_of s.owner.state) (now.owner.state.done - s.owner.state.done)
 stands_on r t s now n ahead b h =
     let made = moves_made r t s now n ahead b h in
     let e : n ≡ now.owner.state.done - s.owner.state.done = omega (arith, made) in
-    h.behind.here ∙ (λ i. from r (sym b.here i) (e i))
+    h.behind.at_turn.led.here ∙ (λ i. from r (sym b.at_turn.led.here i) (e i))
 
-pub noted_on : (r : Run) (t : LastTurn) (s now : Pipeline) (n ahead : ℕ) → IsBehind r t s → HasTurned r t s n ahead now
+pub noted_on : (r : Run) (t : LastTurn) (s now : Pipeline) (n ahead : ℕ) → IsAfter r t s → HasTurned r t s n ahead now
     → noted now.owner.state.accepted ≡ noted_more (noted s.owner.state.accepted) (accepted_among r (standing_of s.owner.state) (now.owner.state.done - s.owner.state.done))
 noted_on r t s now n ahead b h =
     let made = moves_made r t s now n ahead b h in
     let e : n ≡ now.owner.state.done - s.owner.state.done = omega (arith, made) in
-    h.accepted ∙ (λ i. noted_more (noted s.owner.state.accepted) (accepted_among r (sym b.here i) (e i)))
+    h.further.accepted ∙ ap (λ k. noted_more (noted s.owner.state.accepted) (accepted_among r (standing_of s.owner.state) k)) e
 
-pub redone_on : (r : Run) (t : LastTurn) (s now : Pipeline) (batch n ahead : ℕ) → IsBehind r t s → HasTurned r t s n ahead now → n ≤ (next_turn r batch t).made
+pub redone_on : (r : Run) (t : LastTurn) (s now : Pipeline) (batch n ahead : ℕ) → IsAfter r t s → HasTurned r t s n ahead now → n ≤ (next_turn r batch t).made
     → now.owner.redone ≡ s.owner.redone + count_by is_redone_way (take (now.owner.state.done - s.owner.state.done) (ways r (world_in s) (turn_events r batch (world_in s))))
 redone_on r t s now batch n ahead b h low =
     let made = moves_made r t s now n ahead b h in
     let e : n ≡ now.owner.state.done - s.owner.state.done = omega (arith, made) in
     let w = world_is r t s b in
-    let told = ways_of_a_beginning r t batch n (some_moves r t s b) b.stage low in
+    let told = ways_of_a_beginning r t batch n (some_moves r t s b) b.at_turn.led.stage low in
     h.redone
     ∙ ap (λ m. s.owner.redone + m)
     (sym told ∙ (λ i. count_by is_redone_way (take (e i) (ways r (sym w i) (turn_events r batch (sym w i))))))
 
-pub world_on : (r : Run) (t : LastTurn) (s now : Pipeline) (batch : ℕ) → IsBehind r t s → HasTurned r t s (next_turn r batch t).made (next_turn r batch t).ahead now → world_in now ≡ turn r batch (world_in s)
+pub world_on : (r : Run) (t : LastTurn) (s now : Pipeline) (batch : ℕ) → IsAfter r t s → HasTurned r t s (next_turn r batch t).made (next_turn r batch t).ahead now → world_in now ≡ turn r batch (world_in s)
 world_on r t s now batch b h =
     world_is r (next_turn r batch t) now h.behind
-    ∙ sym (turns_lead_on r t batch (some_moves r t s b) b.stage).0
+    ∙ sym (turns_lead_on r t batch (some_moves r t s b) b.at_turn.led.stage).0
     ∙ ap (turn r batch) (sym (world_is r t s b))
 
 -- what it judged ahead: `ahead` moves after its own, on the placement where it began
-pub ahead_on : (r : Run) (t : LastTurn) (s now : Pipeline) (n ahead : ℕ) → IsBehind r t s → HasTurned r t s n ahead now → map (verdict_of now.base) now.ahead.items ≡ map (verdict_on r (standing_of s.owner.state)) (range_with_len now.owner.state.done ahead)
+pub ahead_on : (r : Run) (t : LastTurn) (s now : Pipeline) (n ahead : ℕ) → IsAfter r t s → HasTurned r t s n ahead now → map (verdict_of now.base) now.ahead.items ≡ map (verdict_on r (standing_of s.owner.state)) (range_with_len now.owner.state.done ahead)
 ahead_on r t s now n ahead b h =
     let u : LastTurn = record { start = stands r t; made = n; ahead = ahead } in
     ap (λ (w : World). w.verdicts) (world_is r u now h.behind)
-    ∙ (λ i. map (verdict_on r (sym b.here i)) (range_with_len (sym (done_at r u now h.behind) i) ahead))
+    ∙ (λ i. map (verdict_on r (sym b.at_turn.led.here i)) (range_with_len (sym (done_at r u now h.behind) i) ahead))
 
-pub world_cut : (r : Run) (t : LastTurn) (s now : Pipeline) (n : ℕ) → IsBehind r t s → HasTurned r t s n 0 now → world_in now ≡ turn_making r (now.owner.state.done - s.owner.state.done) 0 (world_in s)
+pub world_cut : (r : Run) (t : LastTurn) (s now : Pipeline) (n : ℕ) → IsAfter r t s → HasTurned r t s n 0 now → world_in now ≡ turn_making r (now.owner.state.done - s.owner.state.done) 0 (world_in s)
 world_cut r t s now n b h =
     let made = moves_made r t s now n 0 b h in
     let e : n ≡ now.owner.state.done - s.owner.state.done = omega (arith, made) in
-    let stage = h.behind.stage in
+    let stage = h.behind.at_turn.led.stage in
     let long : t.ahead ≡ length (world_behind r t).verdicts = sym (length_on r t.start (stands r t).done t.ahead) in
     world_is r (record { start = stands r t; made = n; ahead = 0 }) now h.behind
-    ∙ sym (turn_leads r t n 0 (some_moves r t s b) b.stage stage)
+    ∙ sym (turn_leads r t n 0 (some_moves r t s b) b.at_turn.led.stage stage)
     ∙ ap (λ k. forget (stands r t).done (run_through r (world_behind r t) (events_from (stands r t).done k n 0))) long
     ∙ (λ i. turn_making r (e i) 0 (sym (world_is r t s b) i))
 
@@ -137,11 +137,11 @@ has_ended s now same over = by_end now.owner.state.ended now.owner.state.stage.t
     by_end false t e = absurd (none-some t (sym e))
 
 -- a run that is over has nothing judged ahead
-pub none_ahead : (r : Run) (t : LastTurn) (s : Pipeline) → IsBehind r t s → (standing_of s.owner.state).heat ≡ None → s.ahead.items ≡ []
+pub none_ahead : (r : Run) (t : LastTurn) (s : Pipeline) → IsAfter r t s → (standing_of s.owner.state).heat ≡ None → s.ahead.items ≡ []
 none_ahead r t s b over =
-    let none : moves_left r (stands r t) ≡ 0 = none_left r (stands r t) (ap (λ (x : Standing). x.heat) (sym b.here) ∙ over) in
-    let stage = b.stage in
-    let many = b.many in
+    let none : moves_left r (stands r t) ≡ 0 = none_left r (stands r t) (ap (λ (x : Standing). x.heat) (sym b.at_turn.led.here) ∙ over) in
+    let stage = b.at_turn.led.stage in
+    let many = b.at_turn.many in
     elim (cases_lt t.made (moves_left r t.start)) [
       | inl l ↦ (let left = left_from r t.start t.made l in absurd (omega (arith, left, none, l)))
       | inr l ↦ no_items s.ahead.items (omega (arith, l, stage, many))
@@ -153,7 +153,7 @@ none_ahead r t s b over =
 
 -- a turn of no move accepts no swap
 pub no_swaps : (r : Run) (t : LastTurn) (s now : Pipeline) (n ahead : ℕ) → HasTurned r t s n ahead now → n ≡ 0 → now.owner.swaps.items ≡ []
-no_swaps r t s now n ahead h none = h.behind.swaps ∙ ap (accepted_from r (stands r t)) none
+no_swaps r t s now n ahead h none = h.behind.at_turn.swaps ∙ ap (accepted_from r (stands r t)) none
 
 -- a run that is not over has moves left in its stage
 pub some_left : (r : Run) (x : Standing) → 0 < r.plan.moves → is_some x.heat ≡ true → 0 < moves_left r x

@@ -1,5 +1,6 @@
 -- Verdicts of a crew that follows the owner.
-use Rattle.std.proofs.Common.{◌≡◌, ℕ, ◌+◌, ◌-◌, ◌*◌, ◌<◌, false, List, [], ◌∷◌, ◌++◌, Option, Some, None, sym, ap, subst, ◌∙◌, arith}
+use Rattle.std.proofs.Common.{◌≡◌, ℕ, ◌+◌, ◌-◌, ◌*◌, ◌<◌, Bool, true, false, cond, List, [], ◌∷◌, ◌++◌, Option, Some, None, refl, sym, ap, subst, ◌∙◌, arith}
+use Rattle.std.proofs.lemmas.Bool.{false≢true}
 use Rattle.std.specs.Prelude.{IfSome, nat_lt}
 use Rattle.std.specs.List.{list_any}
 use Rattle.fab_arch.specs.declared.array.Site.{Site}
@@ -17,15 +18,16 @@ use Rattle.fab_commit.specs.declared.run.post.Post.{Post}
 use Rattle.fab_commit.specs.declared.run.state.State.{State}
 use Rattle.fab_commit.specs.declared.run.swaps.Accepted.{Accepted}
 use Rattle.fab_commit.specs.Serial.{Run, Standing, from, judged_here, moves_left, side}
-use Rattle.fab_commit.specs.Run.Alone.{AreOpen, is_touched_here}
+use Rattle.fab_commit.specs.Run.Stages.{is_touched_here}
 use Rattle.fab_commit.specs.Run.Behind.{MayBeFollowed, after_post, all_swapped}
 use Rattle.fab_commit.specs.Run.Commits.{IsSound, StageStands, heat_of, standing_of}
-use Rattle.fab_commit.specs.Run.Followed.{IsTied}
-use Rattle.fab_commit.specs.Run.Owners.{IsOwned, Leads}
-use Rattle.fab_commit.specs.Run.StampTables.{kept_stamp}
+use Rattle.fab_commit.specs.Run.Followed.{IsBeside, IsTied, IsYetToFollow}
+use Rattle.fab_commit.specs.Run.Owners.{AreOpen, IsOwned, Leads}
+use Rattle.fab_move.specs.StampTables.{kept_stamp}
 use Rattle.fab_commit.specs.Model.History.{accepted_from, is_redone}
+use Rattle.fab_commit.specs.Model.TurnEvents.{LastTurn}
 use Rattle.fab_commit.specs.Model.World.{clash}
-use Rattle.fab_commit.proofs.RunLemmas.Alone.{open_at}
+use Rattle.fab_commit.proofs.RunLemmas.InTurns.{open_at}
 use Rattle.fab_commit.proofs.RunLemmas.Owning.{none_made, touched_is, unspoiled}
 
 -- what was foreseen of the next move, and what the stamps say of it
@@ -40,13 +42,13 @@ told r o base pos owned due =
     let k = o.state.done in
     let n = due.made in
     let j = judged_here r x k in
-    let stage = due.stage in
+    let stage = due.led.stage in
     let left : n < moves_left r x = omega (arith, stage) in
-    let k_is : k ≡ x.done + n = due.done_is in
-    let base_is = due.base_is in
-    let here = due.here in
+    let k_is : k ≡ x.done + n = due.led.done_is in
+    let base_is = due.led.base_is in
+    let here = due.led.here in
     let clash_is : list_any (λ m. nat_lt base (kept_stamp r.problem.grid o.stamps m)) j.footprint ≡ clash d (accepted_from r x n) base j.footprint =
-    touched_is d (kept_stamp r.problem.grid o.stamps) due.log base j.footprint due.stamps ∙ (λ i. clash d (due.recent i) base j.footprint) in
+    touched_is d (kept_stamp r.problem.grid o.stamps) due.led.log base j.footprint due.led.stamps ∙ (λ i. clash d (due.led.recent i) base j.footprint) in
     let since_start : k - x.done ≡ n = omega (arith, k_is) in
     let none_between : base - x.done ≡ 0 = omega (arith, base_is) in
     let zero : o.state.done + 0 ≡ k = omega arith in
@@ -123,3 +125,58 @@ pub after_is : (r : Run) (x : Standing) (s : State) (swaps : List Accepted) (p :
 after_is r x s swaps p leads is =
     let there : all_swapped x.sites p.swaps.items ≡ s.placement.sites = ap (all_swapped x.sites) is.swaps_are ∙ leads_all r.problem.grid x.sites swaps s.placement.sites leads in
     (λ i. record { done = is.rest.1 i; sites = there i; accepted = (is.stage i).accepted; range = (is.stage i).range; heat = heat_of (is.rest.0 i) (is.stage i).t; total = is.rest.2 i })
+
+-- where the crew stands before a turn, and from where it is yet to follow these swaps
+pub yet_to_follow : {S : Type 0} (run : S → Run) (standing : S → Standing) (after : S → Post → S) (start : Option S) (r : Run) (t : LastTurn) (s o : Owner) (swaps : List Accepted) (begun : Bool) (crew : Option (List Post × List Post))
+    → IsBeside run standing after start r t s begun crew → standing_of o.state ≡ standing_of s.state → (begun ≡ true → IfSome crew (λ _. swaps ≡ s.swaps.items)) → (begun ≡ false → swaps ≡ [])
+    → IsYetToFollow run standing after start r (cond begun t.start (standing_of s.state)) o.state swaps begun crew
+yet_to_follow run standing after start r t s o swaps begun None beside same taken none = tt
+yet_to_follow run standing after start r t s o swaps true (Some p) beside same taken none =
+    let there : s.state.placement.sites ≡ o.state.placement.sites = ap (λ (x : Standing). x.sites) (sym same) in
+    (beside.1 refl, subst (Leads r.problem.grid t.start.sites swaps) there (subst (λ l. Leads r.problem.grid t.start.sites l s.state.placement.sites) (sym (taken refl)) (beside.2 refl)), (λ e. absurd (false≢true (sym e))))
+yet_to_follow run standing after start r t s o swaps false (Some p) beside same taken none =
+    let there : s.state.placement.sites ≡ o.state.placement.sites = ap (λ (x : Standing). x.sites) (sym same) in
+    (beside.0 refl, subst (λ l. Leads r.problem.grid s.state.placement.sites l o.state.placement.sites) (sym (none refl)) there, (λ e. sym same))
+
+if_both : {A : Type 0} (P Q : A → Type 0) (o : Option A) → IfSome o P → IfSome o Q → IfSome o (λ a. P a × Q a)
+if_both P Q None h k = tt
+if_both P Q (Some a) h k = (h, k)
+
+-- what a post does to a crew that stands at x, if there is one
+pub record IsPosted {S : Type 0} (run : S → Run) (standing : S → Standing) (after : S → Post → S) (start : Option S) (r : Run) (x : Standing) (p : Post) (old new : Option (List Post × List Post)) : Type 0 where
+  pub base : IfSome old (λ f. IsTied run standing after start f.0 r x) → IfSome new (λ f. IsTied run standing after start f.1 r x)
+  pub tied : IfSome old (λ f. IsTied run standing after start f.0 r x) → IfSome new (λ f. IsTied run standing after start f.0 r (after_post x p))
+  pub nobody : old ≡ None → new ≡ None
+
+-- the crew stands where the state does, once its swaps are posted
+pub posted : {S : Type 0} (run : S → Run) (standing : S → Standing) (after : S → Post → S) (start : Option S) (r : Run) (x : Standing) (s : State) (swaps : List Accepted) (p : Post) (old new : Option (List Post × List Post))
+    → IsPostOf s swaps p → IfSome old (λ f. IsTied run standing after start f.0 r x × Leads r.problem.grid x.sites swaps s.placement.sites) → IsPosted run standing after start r x p old new
+    → IfSome new (λ f. IsTied run standing after start f.1 r x × IsTied run standing after start f.0 r (standing_of s))
+posted run standing after start r x s swaps p None new is yet post =
+    subst (λ w. IfSome w (λ f. IsTied run standing after start f.1 r x × IsTied run standing after start f.0 r (standing_of s))) (sym (post.nobody refl)) tt
+posted run standing after start r x s swaps p (Some q) new is yet post =
+    if_both (λ f. IsTied run standing after start f.1 r x) (λ f. IsTied run standing after start f.0 r (standing_of s)) new (post.base yet.0)
+    (subst (λ y. IfSome new (λ f. IsTied run standing after start f.0 r y)) (after_is r x s swaps p yet.1 is) (post.tied yet.0))
+
+-- after the first post to a crew that has not begun
+pub posted_first : {S : Type 0} (run : S → Run) (standing : S → Standing) (after : S → Post → S) (start : Option S) (r : Run) (x : Standing) (s : State) (swaps : List Accepted) (p : Post) (begun : Bool) (old mid : Option (List Post × List Post))
+    → IsPostOf s [] p → begun ≡ false → IsYetToFollow run standing after start r x s swaps begun old → IsPosted run standing after start r x p old mid
+    → IfSome mid (λ f. IsTied run standing after start f.0 r (standing_of s) × Leads r.problem.grid (standing_of s).sites swaps s.placement.sites)
+posted_first run standing after start r x s swaps p begun None mid is none yet post =
+    subst (λ w. IfSome w (λ f. IsTied run standing after start f.0 r (standing_of s) × Leads r.problem.grid (standing_of s).sites swaps s.placement.sites)) (sym (post.nobody refl)) tt
+posted_first run standing after start r x s swaps p begun (Some q) mid is none yet post =
+    let here = yet.2 none in
+    let leads = subst (λ (y : Standing). Leads r.problem.grid y.sites swaps s.placement.sites) here yet.1 in
+    let there : Leads r.problem.grid x.sites [] s.placement.sites = ap (λ (y : Standing). y.sites) here in
+    if_some (λ f. IsTied run standing after start f.1 r x × IsTied run standing after start f.0 r (standing_of s)) _ mid (posted run standing after start r x s [] p (Some q) mid is (yet.0, there) post) (λ f h. (h.1, leads))
+
+-- after the second one
+pub posted_second : {S : Type 0} (run : S → Run) (standing : S → Standing) (after : S → Post → S) (start : Option S) (r : Run) (x : Standing) (s : State) (swaps : List Accepted) (p : Post) (begun : Bool) (old mid new : Option (List Post × List Post))
+    → IsPostOf s swaps p → begun ≡ false → IsYetToFollow run standing after start r x s swaps begun old → (old ≡ None → mid ≡ None)
+    → IfSome mid (λ f. IsTied run standing after start f.0 r (standing_of s) × Leads r.problem.grid (standing_of s).sites swaps s.placement.sites) → IsPosted run standing after start r (standing_of s) p mid new
+    → IfSome new (λ f. IsTied run standing after start f.1 r x × IsTied run standing after start f.0 r (standing_of s))
+posted_second run standing after start r x s swaps p begun None mid new is none yet gone first post =
+    subst (λ w. IfSome w (λ f. IsTied run standing after start f.1 r x × IsTied run standing after start f.0 r (standing_of s))) (sym (post.nobody (gone refl))) tt
+posted_second run standing after start r x s swaps p begun (Some q) mid new is none yet gone first post =
+    subst (λ y. IfSome new (λ f. IsTied run standing after start f.1 r y × IsTied run standing after start f.0 r (standing_of s))) (sym (yet.2 none))
+    (posted run standing after start r (standing_of s) s swaps p mid new is first post)

@@ -19,9 +19,10 @@ use Rattle.fab_move.specs.Propose.{proposal}
 use Rattle.fab_move.proofs.Judgements.{judged_on}
 use Rattle.fab_commit.specs.declared.run.foreseen.Foreseen.{Foreseen}
 use Rattle.fab_commit.specs.Serial.{Run, Standing, judged_here, or_zero}
-use Rattle.fab_commit.specs.Model.Worlds.{IsBlock}
-use Rattle.fab_commit.specs.Run.Foreseen.{AreKept, IsForeseen, decision_in, large_nets, swap_in}
-use Rattle.fab_commit.specs.Run.StampTables.{IsWithin}
+use Rattle.fab_move.specs.StampTables.{IsBlock}
+use Rattle.fab_move.specs.KeptNets.{AreKept, large_nets}
+use Rattle.fab_commit.specs.Run.Foreseen.{IsForeseen, decision_in, swap_in}
+use Rattle.fab_move.specs.StampTables.{IsWithin}
 use Rattle.fab_commit.proofs.ModelLemmas.Noninterference.{judged_as-footprint}
 
 pub swap_of : (p : Problem) (sites : List Site) (t w : ℕ) (q : Proposal) → (judged_as p sites t w q).swap ≡ swap_in q

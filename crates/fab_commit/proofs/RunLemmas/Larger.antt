@@ -16,11 +16,10 @@ use Rattle.fab_commit.specs.declared.run.foreseen.Foreseen.{Foreseen}
 use Rattle.fab_commit.specs.declared.run.owner.Owner.{Owner}
 use Rattle.fab_commit.specs.declared.run.state.State.{State}
 use Rattle.fab_commit.specs.Serial.{Run, Standing, judged_here, or_zero}
-use Rattle.fab_commit.specs.Run.Alone.{AreOpen}
 use Rattle.fab_commit.specs.Run.Commits.{IsSound, standing_of}
 use Rattle.fab_commit.specs.Run.Foreseen.{IsForeseen, IsStill, swap_in}
-use Rattle.fab_commit.specs.Run.Owners.{IsOwned}
-use Rattle.fab_commit.specs.Run.StampTables.{kept_stamp}
+use Rattle.fab_commit.specs.Run.Owners.{AreOpen, IsOwned}
+use Rattle.fab_move.specs.StampTables.{kept_stamp}
 use Rattle.fab_commit.specs.Model.History.{accepted_from}
 use Rattle.fab_commit.specs.Model.World.{clash}
 use Rattle.fab_commit.proofs.ModelLemmas.Backwards.{length_from}
@@ -40,16 +39,16 @@ still r o base f s owned due is moves free =
     let y = standing_of o.state in
     let k = o.state.done in
     let w = slice_index (p.words k) 3 in
-    let stage = due.stage in
-    let base_is = due.base_is in
-    let there = due.here in
+    let stage = due.led.stage in
+    let base_is = due.led.base_is in
+    let there = due.led.here in
     let all : length x.sites ≡ length p.design.kinds = sym (length_from r x due.made) ∙ ap (λ (z : Standing). length z.sites) (sym there) ∙ owned.sound.legal.all in
     let was : judged_as q x.sites (or_zero x.heat) w f.proposal ≡ judged_few r x k = ap (judged_as q x.sites (or_zero x.heat) w) is.proposes ∙ judged_few_is r x k in
     let marks : footprint q.design f.proposal ≡ (judged_few r x k).footprint =
     sym (judged_as-footprint q x.sites (or_zero x.heat) w f.proposal) ∙ ap (λ (j : Judged). j.footprint) was in
     let clear : clash p.design (accepted_from r x due.made) base (judged_few r x k).footprint ≡ false =
-    (λ i. clash p.design (sym due.recent i) base (sym marks i))
-    ∙ sym (touched_is p.design (kept_stamp p.grid o.stamps) due.log base (footprint q.design f.proposal) due.stamps)
+    (λ i. clash p.design (sym due.led.recent i) base (sym marks i))
+    ∙ sym (touched_is p.design (kept_stamp p.grid o.stamps) due.led.log base (footprint q.design f.proposal) due.led.stamps)
     ∙ ap (λ v. list_any (λ m. nat_lt base (kept_stamp p.grid o.stamps m)) (footprint q.design v)) moves
     ∙ free in
     let kept : judged_few r y k ≡ judged_few r x k =

@@ -1,5 +1,5 @@
 -- The numbers of accepted moves, where they are kept: more of them, and room for them.
-use Rattle.std.proofs.Common.{◌≡◌, ℕ, ◌≤◌, List, [], ◌++◌, Option, Some, None, refl, ap, arith, append-nil, append_assoc}
+use Rattle.std.proofs.Common.{◌≡◌, ℕ, ◌≤◌, List, [], ◌++◌, Bool, Option, Some, None, refl, ap, arith, append-nil, append_assoc}
 use Rattle.std.specs.Global.{Vec}
 use Rattle.fab_commit.specs.declared.run.owner.Owner.{Owner}
 use Rattle.fab_commit.specs.Run.Noted.{HasRoomFor, noted_more}
@@ -19,5 +19,5 @@ room_less None n m l h = refl
 room_less (Some v) n m l h = omega (arith, l, h)
 
 -- an owner with room for some accepted moves has room for fewer
-pub has_less : (o : Owner) (n m : ℕ) → m ≤ n → HasRoom o n → HasRoom o m
-has_less o n m l h = (room_less o.state.accepted n m l h.0, let swaps = h.1 in omega (arith, l, swaps))
+pub has_less : (b : Bool) (o : Owner) (n m : ℕ) → m ≤ n → HasRoom b o n → HasRoom b o m
+has_less b o n m l h = (room_less o.state.accepted n m l h.0, λ e. (let swaps = h.1 e in omega (arith, l, swaps)))

@@ -3,7 +3,6 @@ use Rattle.std.proofs.Common.{◌≡◌, ℕ, zero, suc, ◌+◌, ◌-◌, ◌<�
 use Rattle.std.specs.Prelude.{nat_lt}
 use Rattle.std.specs.List.{count_by, filter, list_any, range_with_len}
 use Rattle.std.proofs.lemmas.Bool.{lt-leb}
-use Rattle.std.proofs.lemmas.List.{get_or-map}
 use Rattle.std.proofs.lemmas.List.Elements.{filter-append}
 use Rattle.std.proofs.lemmas.List.Sums.{sum_by-append, sum_by-cons}
 use Rattle.fab_arch.specs.declared.array.Site.{Site}
@@ -18,18 +17,18 @@ use Rattle.fab_move.specs.declared.verdicts.Verdict.{Verdict as Answer}
 use Rattle.fab_move.specs.Judge.{Judged, has_mark, moved, says, touched}
 use Rattle.fab_commit.specs.declared.run.owner.Owner.{Owner}
 use Rattle.fab_commit.specs.declared.run.swaps.Accepted.{Accepted}
-use Rattle.fab_commit.specs.declared.model.judged.JudgedMove.{JudgedMove}
-use Rattle.fab_commit.specs.Serial.{Run, Standing, accepted_among, accepted_here, after_move, from, judged_here, moves_left, numbers_if, one_if, step}
+use Rattle.fab_commit.specs.Serial.{Run, Standing, after_move, from, judged_here, moves_left, numbers_if, one_if, step}
 use Rattle.fab_commit.specs.Run.Commits.{standing_of}
-use Rattle.fab_commit.specs.Model.History.{accepted_at, accepted_from, is_redone}
+use Rattle.fab_commit.specs.Model.History.{accepted_at, accepted_from}
 use Rattle.fab_commit.specs.Run.Noted.{noted, noted_more}
-use Rattle.fab_commit.specs.Run.Owners.{AreAnswers, AreDue, HasMade, IsOwned, Leads, is_touched, since, verdict_of}
-use Rattle.fab_commit.specs.Run.StampTables.{AreStamps, IsWithin, kept_stamp}
+use Rattle.fab_commit.specs.Run.Owners.{AreOpen, HasMade, IsLed, IsOwned, Leads, since}
+use Rattle.fab_commit.specs.Model.Stamps.{AreStamps}
+use Rattle.fab_move.specs.StampTables.{IsWithin}
 use Rattle.fab_commit.specs.Model.Stamps.{AreBefore, stamp}
 use Rattle.fab_commit.specs.Model.TurnEvents.{LastTurn, IsOfAStage, stands, verdict_on, world_behind}
 use Rattle.fab_commit.specs.Model.World.{accepted_as, accepted_now, clash, usable, verdict_here}
-use Rattle.fab_commit.proofs.RunLemmas.Noting.{noted_more-more, noted_more-nil}
-use Rattle.fab_commit.proofs.RunLemmas.Folding.{from_add, goes_on, hot_at, not_ended, step_is}
+use Rattle.fab_commit.proofs.RunLemmas.Folding.{from_add, hot_at}
+use Rattle.fab_commit.proofs.RunLemmas.Going.{further_more, further_none, further_one}
 use Rattle.fab_commit.proofs.ModelLemmas.Happening.{blocks_of_swap}
 use Rattle.fab_commit.proofs.ModelLemmas.History.{accepted_from-add}
 use Rattle.fab_commit.proofs.ModelLemmas.Schedules.{takes_the_move}
@@ -100,20 +99,10 @@ recent_after r y log n h =
 
 -- moves after one another
 
-pub accepted_add : (r : Run) (x : Standing) (n m : ℕ) → accepted_among r x n ++ accepted_among r (from r x n) m ≡ accepted_among r x (n + m)
-accepted_add r x zero m = (let e : m ≡ 0 + m = omega arith in ap (accepted_among r x) e)
-accepted_add r x (suc n) m =
-    let e : suc (n + m) ≡ suc n + m = omega arith in
-    append_assoc (accepted_here r x) (accepted_among r (step r x) n) (accepted_among r (from r (step r x) n) m)
-    ∙ ap (λ l. accepted_here r x ++ l) (accepted_add r (step r x) n m)
-    ∙ ap (accepted_among r x) e
-
 pub none_made : (r : Run) (o : Owner) → IsOwned r o → HasMade r o 0 o
 none_made r o owned = record {
   owned = owned;
-  done = omega arith;
-  stands = refl;
-  accepted = sym (noted_more-nil (noted o.state.accepted));
+  further = further_none r o.state owned.sound;
   swaps = sym (append-nil o.swaps.items);
   stamps = λ log before are. subst (AreStamps r.problem.design r.problem.grid o.stamps) (sym (append-nil log)) are;
   leads = λ sites h. h;
@@ -122,18 +111,11 @@ none_made r o owned = record {
 pub made_more : (r : Run) (o a b : Owner) (n m : ℕ) → HasMade r o n a → HasMade r a m b → HasMade r o (n + m) b
 made_more r o a b n m first second =
     let x = standing_of o.state in
-    let there = first.stands in
-    let done_a = first.done in
-    let done_b = second.done in
+    let there = first.further.stands in
+    let done_a = first.further.done in
     record {
       owned = second.owned;
-      done = omega (arith, done_a, done_b);
-      stands = second.stands ∙ ap (λ y. from r y m) there ∙ sym (from_add r x n m);
-      accepted =
-          second.accepted
-          ∙ (λ i. noted_more (first.accepted i) (accepted_among r (there i) m))
-          ∙ noted_more-more (noted o.state.accepted) (accepted_among r x n) (accepted_among r (from r x n) m)
-          ∙ ap (noted_more (noted o.state.accepted)) (accepted_add r x n m);
+      further = further_more r o.state a.state b.state n m first.further second.further;
       swaps =
           second.swaps
           ∙ (λ i. first.swaps i ++ accepted_from r (there i) m)
@@ -149,6 +131,74 @@ made_more r o a b n m first second =
           (second.stamps mid later (first.stamps log before are));
       leads = λ sites h. second.leads sites (first.leads sites h);
     }
+
+-- where moves lead an owner
+
+-- more moves of those that are open
+pub led_on : (r : Run) (start : Standing) (made : ℕ) (o now : Owner) (base n i m : ℕ) → IsLed r start made o base n → HasMade r o i now → i + m ≤ n → IsLed r start (made + i) now base m
+led_on r start made o now base n i m led more fits =
+    let y = standing_of o.state in
+    let done_o = led.done_is in
+    let done_now = more.further.done in
+    let stage = led.stage in
+    let base_is = led.base_is in
+    let low : base ≤ y.done = omega (arith, base_is, done_o) in
+    record {
+      log = led.log ++ accepted_from r y i;
+      here = more.further.stands ∙ ap (λ s. from r s i) led.here ∙ sym (from_add r start made i);
+      base_is = base_is;
+      done_is = omega (arith, done_o, done_now);
+      stage = omega (arith, stage, fits);
+      stamps = more.stamps led.log led.before led.stamps;
+      before = subst (λ k. AreBefore k (led.log ++ accepted_from r y i)) (sym done_now) (before_on r y led.log i led.before);
+      recent =
+          filter-append (since base) led.log (accepted_from r y i)
+          ∙ (λ j. led.recent j ++ (kept_since r y i base low ∙ ap (λ s. accepted_from r s i) led.here) j)
+          ∙ accepted_from-add r start made i;
+    }
+
+-- moves from where the owner stood
+pub led_here : (r : Run) (start : Standing) (made : ℕ) (o now : Owner) (base n i m : ℕ) → IsLed r start made o base n → HasMade r o i now → i + m ≤ moves_left r (standing_of o.state)
+    → IsLed r (standing_of o.state) i now o.state.done m
+led_here r start made o now base n i m led more left =
+    let y = standing_of o.state in
+    let done = more.further.done in
+    record {
+      log = led.log ++ accepted_from r y i;
+      here = more.further.stands;
+      base_is = refl;
+      done_is = done;
+      stage = left;
+      stamps = more.stamps led.log led.before led.stamps;
+      before = subst (λ k. AreBefore k (led.log ++ accepted_from r y i)) (sym done) (before_on r y led.log i led.before);
+      recent = recent_after r y led.log i led.before;
+    }
+
+-- an owner that stands at the same place, with the same stamps
+pub led_same : (r : Run) (start : Standing) (made : ℕ) (s o : Owner) (base n m : ℕ) → IsLed r start made s base n → standing_of o.state ≡ standing_of s.state → o.stamps ≡ s.stamps → m ≤ n → IsLed r start made o base m
+led_same r start made s o base n m led same stamps fits =
+    let done : o.state.done ≡ s.state.done = ap (λ (x : Standing). x.done) same in
+    let was = led.done_is in
+    let stage = led.stage in
+    record {
+      log = led.log;
+      here = same ∙ led.here;
+      base_is = led.base_is;
+      done_is = omega (arith, done, was);
+      stage = omega (arith, stage, fits);
+      stamps = subst (λ v. AreStamps r.problem.design r.problem.grid v led.log) (sym stamps) led.stamps;
+      before = subst (λ k. AreBefore k led.log) (sym done) led.before;
+      recent = led.recent;
+    }
+
+-- the same place and base, by other names
+pub led_as : (r : Run) (x y : Standing) (made : ℕ) (o : Owner) (base b n : ℕ) → IsLed r x made o base n → x ≡ y → base ≡ b → IsLed r y made o b n
+led_as r x y made o base b n led same is = subst (λ v. IsLed r v made o b n) same (subst (λ v. IsLed r x made o v n) is led)
+
+-- the moves after these are open too, from a placement that is known
+pub record IsOpenNext (r : Run) (now : Owner) (base m : ℕ) (start : Standing) : Type 0 where
+  pub due : AreOpen r now base m
+  pub is : due.start ≡ start
 
 -- swaps that lead from one placement to another
 
@@ -194,14 +244,13 @@ one_made r o now j owned going says lawful next =
     let j_here = judged_here r x x.done in
     let swap_is : accepted_now o.state.done j ++ [] ≡ accepted_from r x 1 =
     ap (λ q. accepted_now x.done q ++ []) says ∙ ap (λ b. cond b (accepted_now x.done j_here) [] ++ []) (sym hot) in
-    let number_is : numbers_if o.state.done j.accepted ++ [] ≡ accepted_among r x 1 =
-    ap (λ (q : Judged). numbers_if x.done q.accepted ++ []) says ∙ ap (λ b. cond b (numbers_if x.done j_here.accepted) [] ++ []) (sym hot) in
-    let stands : standing_of now.state ≡ step r x = next.stands ∙ ap (after_move r x) says ∙ sym (step_is r x hot) in
     record {
       owned = next.owned;
-      done = ap (λ (y : Standing). y.done) next.stands;
-      stands = stands;
-      accepted = next.accepted ∙ ap (noted_more (noted o.state.accepted)) (sym (append-nil (numbers_if o.state.done j.accepted)) ∙ number_is);
+      further = further_one r o.state now.state going (record {
+        sound = next.owned.sound;
+        stands = next.stands ∙ ap (after_move r x) says;
+        accepted = next.accepted ∙ ap (λ (q : Judged). noted_more (noted o.state.accepted) (numbers_if o.state.done q.accepted)) says;
+      });
       swaps = next.swaps ∙ ap (λ l. o.swaps.items ++ l) (sym (append-nil (accepted_now o.state.done j)) ∙ swap_is);
       stamps = λ log before are. subst (AreStamps r.problem.design r.problem.grid now.stamps) (ap (λ l. log ++ l) (sym (append-nil (accepted_now o.state.done j)) ∙ swap_is)) (next.stamps log before are);
       leads = λ sites h.
@@ -245,94 +294,8 @@ pub length_range : (k n : ℕ) → length (range_with_len k n) ≡ n
 length_range k zero = refl
 length_range k (suc n) = ap (λ m. suc m) (length_range (k + 1) n)
 
--- an answer among others, as the verdict of its number
-pub answer_at : (r : Run) (x : Standing) (k : ℕ) (answers : List Answer) (i : ℕ) (z : Answer) → AreAnswers r x k answers → i < length answers → verdict_of x.done (get_or answers i z) ≡ verdict_on r x (k + i)
-answer_at r x k answers i z are l =
-    let long = length_range k (length answers) in
-    sym (get_or-map (verdict_of x.done) answers i z (verdict_on r x 0) l)
-    ∙ ap (λ vs. get_or vs i (verdict_on r x 0)) are.are
-    ∙ get_or-map (verdict_on r x) (range_with_len k (length answers)) i 0 (verdict_on r x 0) (omega (arith, l, long))
-    ∙ ap (verdict_on r x) (get_range k (length answers) i l)
-
--- after i commits, answer i as it stands then
-pub record IsAt (r : Run) (start : Standing) (base k : ℕ) (now : Owner) (a : Answer) : Type 0 where
-  pub number : now.state.done ≡ k
-  pub touch : is_touched r now base a ≡ is_redone r start base k
-  pub fresh : is_touched r now base a ≡ false → says a ≡ judged_here r (standing_of now.state) now.state.done
-  pub going : now.state.ended ≡ false
-
-pub at_answer : (r : Run) (o now : Owner) (base : ℕ) (answers : List Answer) (i : ℕ) (z : Answer) → 0 < r.plan.moves → (due : AreDue r o base answers) → HasMade r o i now → i < length answers → IsAt r due.start base (o.state.done + i) now (get_or answers i z)
-at_answer r o now base answers i z pos due made l =
-    let d = r.problem.design in
-    let x = due.start in
-    let y = standing_of o.state in
-    let a = get_or answers i z in
-    let k = o.state.done + i in
-    let n = due.made + i in
-    let done_o = due.done_is in
-    let done_now = made.done in
-    let stage = due.stage in
-    let left : n < moves_left r x = omega (arith, stage, l) in
-    let k_is : k ≡ x.done + n = omega (arith, done_o) in
-    let base_is = due.base_is in
-    let is = answer_at r x o.state.done answers i z due.answers_are l in
-    let said : says a ≡ judged_here r x k = ap (λ (v : JudgedMove). v.judged) is in
-    let here : standing_of now.state ≡ from r x n = made.stands ∙ ap (λ s. from r s i) due.here ∙ sym (from_add r x due.made i) in
-    let log = due.log ++ accepted_from r y i in
-    let are = made.stamps due.log due.before due.stamps in
-    let low : base ≤ y.done = omega (arith, base_is, done_o) in
-    let recent : filter (since base) log ≡ accepted_from r x n =
-    filter-append (since base) due.log (accepted_from r y i)
-    ∙ (λ j. due.recent j ++ (kept_since r y i base low ∙ ap (λ s. accepted_from r s i) due.here) j)
-    ∙ accepted_from-add r x due.made i in
-    let clash_is : is_touched r now base a ≡ clash d (accepted_from r x n) base (judged_here r x k).footprint =
-    touched_is d (kept_stamp r.problem.grid now.stamps) log base a.footprint.items are
-    ∙ (λ j. clash d (recent j) base (said j).footprint) in
-    let since_start : k - x.done ≡ n = omega (arith, k_is) in
-    let none_between : base - x.done ≡ 0 = omega (arith, base_is) in
-    record {
-      number = done_now;
-      touch =
-          clash_is
-          ∙ ap (λ m. clash d (accepted_from r x m) base (judged_here r x k).footprint) (sym since_start)
-          ∙ ap (λ m. clash d (accepted_from r x (k - x.done)) base (judged_here r (from r x m) k).footprint) (sym none_between);
-      fresh = λ free.
-          let clear : clash d (accepted_from r x n) x.done (judged_here r x (x.done + n)).footprint ≡ false =
-          (λ j. clash d (accepted_from r x n) (sym base_is j) (judged_here r x (sym k_is j)).footprint) ∙ sym clash_is ∙ free in
-          said ∙ ap (judged_here r x) k_is ∙ unspoiled r x n pos left clear ∙ (λ j. judged_here r (sym here j) ((sym k_is ∙ sym done_now) j));
-      going = not_ended now.state.ended now.state.stage.t (ap (λ (s : Standing). is_some s.heat) here ∙ goes_on r x n left);
-    }
-
 pub count_more : (p : ℕ → Bool) (k n : ℕ) → count_by p (range_with_len k (n + 1)) ≡ count_by p (range_with_len k n) + one_if (p (k + n))
 count_more p k n =
     let f = λ (j : ℕ). cond (p j) 1 0 in
     let last : count_by p ((k + n) ∷ []) ≡ one_if (p (k + n)) = (let e = sum_by-cons f (k + n) [] in omega (arith, e)) in
     ap (count_by p) (sym (range-append k n 1)) ∙ sum_by-append f (range_with_len k n) ((k + n) ∷ []) ∙ ap (λ m. count_by p (range_with_len k n) + m) last
-
--- one more of the moves that are judged again is counted
-pub counted_on : (r : Run) (start : Standing) (base k i old before after : ℕ) (now : Owner) (a : Answer) → IsAt r start base (k + i) now a
-    → before ≡ old + count_by (is_redone r start base) (range_with_len k i) → after ≡ before + one_if (is_touched r now base a) → after ≡ old + count_by (is_redone r start base) (range_with_len k (i + 1))
-counted_on r start base k i old before after now a is was more =
-    let next = count_more (is_redone r start base) k i in
-    let same : one_if (is_touched r now base a) ≡ one_if (is_redone r start base (k + i)) = ap one_if is.touch in
-    omega (arith, was, more, next, same)
-
--- a move that was judged again is counted
-pub one_again : (r : Run) (o made now : Owner) → IsOwned r o → HasMade r o 1 made → made.redone ≡ o.redone → now ≡ record made { redone = made.redone + 1 } → HasMade r o 1 now
-one_again r o made now owned h same is =
-    let counted = owned.counted in
-    let done = h.done in
-    subst (HasMade r o 1) (sym is) (record {
-      owned = record { sound = h.owned.sound; table = h.owned.table; counted = omega (arith, counted, done, same) };
-      done = h.done;
-      stands = h.stands;
-      accepted = h.accepted;
-      swaps = h.swaps;
-      stamps = h.stamps;
-      leads = h.leads;
-    })
-
--- item i of the answers, as the loop has it
-pub at_item : (r : Run) (o now : Owner) (base : ℕ) (answers : List Answer) (i : ℕ) (a : Answer) → 0 < r.plan.moves → (due : AreDue r o base answers) → HasMade r o i now → i < length answers → a ≡ get_or answers i a → IsAt r due.start base (o.state.done + i) now a
-at_item r o now base answers i a pos due made l is =
-    subst (IsAt r due.start base (o.state.done + i) now) (sym is) (at_answer r o now base answers i a pos due made l)

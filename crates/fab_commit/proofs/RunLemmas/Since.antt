@@ -2,21 +2,18 @@
 use Rattle.std.proofs.Common.{◌≡◌, ℕ, zero, suc, ◌+◌, ◌-◌, ◌≤◌, Bool, true, false, cond, List, [], length, ◌++◌, Some, None, is_some, Result, Ok, Err, refl, sym, ap, subst, ◌∙◌, arith}
 use Rattle.std.specs.declared.alloc.AllocError.{AllocError}
 use Rattle.std.proofs.lemmas.List.{length-append}
-use Rattle.fab_dial.specs.declared.readings.Reading.{Reading}
-use Rattle.fab_commit.specs.declared.run.alone.Ahead.{Ahead}
-use Rattle.fab_commit.specs.declared.run.owner.Owner.{Owner}
 use Rattle.fab_commit.specs.declared.run.pipeline.Pipeline.{Pipeline}
 use Rattle.fab_commit.specs.declared.run.state.State.{State}
 use Rattle.fab_commit.specs.Serial.{Run, Standing, accepted_among, accepted_here, after_move, from, judged_here, numbers_if, one_if, step}
-use Rattle.fab_commit.specs.Run.Alone.{AreMadeAlone, IsAlone}
 use Rattle.fab_commit.specs.Run.Commits.{standing_of}
 use Rattle.fab_commit.specs.Run.Noted.{noted, noted_more}
-use Rattle.fab_commit.specs.Run.Pipelines.{HasTurned, IsBehind, TurnsOn}
+use Rattle.fab_commit.specs.Run.Pipelines.{HasTurned, IsAfter, TurnsOn}
 use Rattle.fab_commit.specs.Run.Since.{IsSince, accepted_since}
 use Rattle.fab_commit.specs.Model.TurnEvents.{LastTurn}
 use Rattle.fab_commit.proofs.RunLemmas.Annealing.{moves_made, noted_on, stands_on}
 use Rattle.fab_commit.proofs.RunLemmas.Folding.{from_add}
-use Rattle.fab_commit.proofs.RunLemmas.Owning.{accepted_add}
+use Rattle.fab_commit.proofs.RunLemmas.Going.{accepted_add}
+use Rattle.fab_commit.proofs.RunLemmas.Owning.{led_same}
 
 -- what was accepted up to a later move: what was accepted up to here, and what the moves from here on accept
 pub accepted_later : (r : Run) (x y : Standing) (now : ℕ) → x.done ≤ y.done → y.done ≤ now → y ≡ from r x (y.done - x.done)
@@ -59,13 +56,13 @@ since_on r keeps before x s now h later there numbers =
     kept false a c l e = refl
 
 -- a turn is made
-pub since_turned : (r : Run) (keeps : Bool) (before : ℕ) (x : Standing) (t : LastTurn) (s now : Pipeline) (n ahead : ℕ) → IsBehind r t s → HasTurned r t s n ahead now
+pub since_turned : (r : Run) (keeps : Bool) (before : ℕ) (x : Standing) (t : LastTurn) (s now : Pipeline) (n ahead : ℕ) → IsAfter r t s → HasTurned r t s n ahead now
     → IsSince r keeps before x s.owner.state → IsSince r keeps before x now.owner.state
 since_turned r keeps before x t s now n ahead b h since =
     let made = moves_made r t s now n ahead b h in
     since_on r keeps before x s.owner.state now.owner.state since (omega (arith, made)) (stands_on r t s now n ahead b h) (noted_on r t s now n ahead b h)
 
-pub since_turn : {A : Type 0} (r : Run) (keeps : Bool) (before : ℕ) (x : Standing) (batch : ℕ) (t : LastTurn) (s now : Pipeline) (answer : Result A AllocError) → IsBehind r t s → TurnsOn r batch s now answer
+pub since_turn : {A : Type 0} (r : Run) (keeps : Bool) (before : ℕ) (x : Standing) (batch : ℕ) (t : LastTurn) (s now : Pipeline) (answer : Result A AllocError) → IsAfter r t s → TurnsOn r batch s now answer
     → IsSince r keeps before x s.owner.state → IsSince r keeps before x now.owner.state
 since_turn r keeps before x batch t s now (Ok a) b on = since_turned r keeps before x t s now _ _ b (on.ok t b)
 since_turn r keeps before x batch t s now (Err e) b on = since_turned r keeps before x t s now _ _ b (on.err t b)
@@ -76,11 +73,6 @@ pub since_made : (r : Run) (keeps : Bool) (before : ℕ) (x : Standing) (s now :
 since_made r keeps before x s now made done there numbers since =
     let some : made ≡ now.done - s.done = omega (arith, done) in
     since_on r keeps before x s now since (omega (arith, done)) (there ∙ ap (from r (standing_of s)) some) (numbers ∙ ap (λ k. noted_more (noted s.accepted) (accepted_among r (standing_of s) k)) some)
-
-pub since_alone : {A : Type 0} (r : Run) (keeps : Bool) (before : ℕ) (x : Standing) (batch count : ℕ) (t : LastTurn) (o : Owner) (ahead : Ahead) (now : Owner) (due : Ahead) (answer : Result A AllocError) (old new : List Reading) → IsAlone r t o ahead
-    → AreMadeAlone r batch count o ahead now due answer old new → IsSince r keeps before x o.state → IsSince r keeps before x now.state
-since_alone r keeps before x batch count t o ahead now due (Ok v) old new alone made = (let h = made.ended t alone in since_made r keeps before x o.state now.state count h.done h.there h.accepted)
-since_alone r keeps before x batch count t o ahead now due (Err e) old new alone made = (let h = made.stopped t alone in since_made r keeps before x o.state now.state h.1 h.3.done h.3.there h.3.accepted)
 
 -- how many moves were accepted in all grows by those accepted
 total_step : (r : Run) (x : Standing) → (step r x).total ≡ x.total + length (accepted_here r x)
@@ -112,25 +104,20 @@ count_since r keeps before x s h =
     omega (arith, here, total, first)
 
 -- numbers that are forgotten
-pub forgets : (r : Run) (t : LastTurn) (s now : Pipeline) → now ≡ record s { owner = record s.owner { state = record s.owner.state { accepted = None } } } → IsBehind r t s → IsBehind r t now
-forgets r t s now is b = subst (IsBehind r t) (sym is) (record {
-  plan = b.plan;
-  stage = b.stage;
-  owned = record {
-    sound = (let sound = b.owned.sound in record { legal = sound.legal; array = sound.array; cost = sound.cost; place = sound.place; counted = sound.counted; stage = sound.stage });
-    table = b.owned.table;
-    counted = b.owned.counted;
+pub forgets : (r : Run) (t : LastTurn) (s now : Pipeline) → now ≡ record s { owner = record s.owner { state = record s.owner.state { accepted = None } } } → IsAfter r t s → IsAfter r t now
+forgets r t s now is b = subst (IsAfter r t) (sym is) (record {
+  at_turn = record {
+    plan = b.at_turn.plan;
+    owned = record {
+      sound = (let sound = b.at_turn.owned.sound in record { legal = sound.legal; array = sound.array; cost = sound.cost; place = sound.place; counted = sound.counted; stage = sound.stage });
+      table = b.at_turn.owned.table;
+      counted = b.at_turn.owned.counted;
+    };
+    many = b.at_turn.many;
+    swaps = b.at_turn.swaps;
+    led = led_same r t.start t.made s.owner (record s.owner { state = record s.owner.state { accepted = None } }) s.base t.ahead t.ahead b.at_turn.led refl refl (omega arith);
   };
-  here = b.here;
-  done_is = b.done_is;
-  base_is = b.base_is;
-  many = b.many;
-  answers_are = b.answers_are;
-  swaps = b.swaps;
-  log = b.log;
-  stamps = b.stamps;
-  before = b.before;
-  recent = b.recent;
+  judged = b.judged;
 })
 
 pub since_forgotten : (r : Run) (keeps : Bool) (before : ℕ) (x : Standing) (s : State) (now : Pipeline) (was : Pipeline) → now ≡ record was { owner = record was.owner { state = record was.owner.state { accepted = None } } } → was.owner.state ≡ s

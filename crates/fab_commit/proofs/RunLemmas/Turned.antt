@@ -8,7 +8,7 @@ use Rattle.fab_commit.specs.declared.run.state.Given.{Given}
 use Rattle.fab_commit.specs.declared.run.turn.Turn.{Turn}
 use Rattle.fab_commit.specs.Run.Commits.{AnnealOf, heat_of, run_for, standing_of, turn_of}
 use Rattle.fab_commit.specs.Run.Owners.{verdict_of}
-use Rattle.fab_commit.specs.Run.Pipelines.{HasTurn, HasTurned, IsBehind, TurnsOn, world_in}
+use Rattle.fab_commit.specs.Run.Pipelines.{HasTurn, HasTurned, IsAfter, TurnsOn, world_in}
 use Rattle.fab_commit.specs.Run.Since.{accepted_since}
 use Rattle.fab_commit.specs.Run.Turned.{IsTurned}
 use Rattle.fab_commit.specs.Model.TurnEvents.{LastTurn, next_turn, turn_events, verdict_on}
@@ -34,13 +34,13 @@ seen moves given x p =
     }
 
 -- some turn led to what is kept after a turn, done or cut short
-pub turn_left : {A : Type 0} (r : Run) (batch : ℕ) (s now : Pipeline) (t : LastTurn) (answer : Result A AllocError) → IsBehind r t s
+pub turn_left : {A : Type 0} (r : Run) (batch : ℕ) (s now : Pipeline) (t : LastTurn) (answer : Result A AllocError) → IsAfter r t s
     → TurnsOn r batch s now answer → HasTurn r now
 turn_left r batch s now t (Ok a) b on = (_, (on.ok t b).behind)
 turn_left r batch s now t (Err e) b on = (_, (on.err t b).behind)
 
 -- a turn that made its moves
-pub turn_done : {W : Type 0} (moves : W → ℕ → List ℕ) (given : Given W) (x : Standing) (batch : ℕ) (s now : Pipeline) (t : LastTurn) (answer : Turn) → IsBehind (run_for moves given) t s
+pub turn_done : {W : Type 0} (moves : W → ℕ → List ℕ) (given : Given W) (x : Standing) (batch : ℕ) (s now : Pipeline) (t : LastTurn) (answer : Turn) → IsAfter (run_for moves given) t s
     → x.done ≤ s.owner.state.done → standing_of s.owner.state ≡ from (run_for moves given) x (s.owner.state.done - x.done)
     → HasTurned (run_for moves given) t s (next_turn (run_for moves given) batch t).made (next_turn (run_for moves given) batch t).ahead now
     → answer ≡ turn_of (heat_of now.owner.state.ended now.owner.state.stage.t) → IsTurned moves batch (seen moves given x s) (seen moves given x now) (Ok answer)
@@ -49,13 +49,13 @@ turn_done moves given x batch s now t answer b after here h told =
     let y = standing_of s.owner.state in
     let next = next_turn r batch t in
     let made = moves_made r t s now next.made next.ahead b h in
-    let same : min batch (moves_left r y) ≡ next.made = ap (λ z. min batch (moves_left r z)) b.here in
+    let same : min batch (moves_left r y) ≡ next.made = ap (λ z. min batch (moves_left r z)) b.at_turn.led.here in
     let stands = stands_on r t s now next.made next.ahead b h in
     let redone = redone_on r t s now batch next.made next.ahead b h (omega arith) in
     let world = world_on r t s now batch b h in
     let done : now.owner.state.done ≡ s.owner.state.done + min batch (moves_left r y) = omega (arith, made, same) in
     let ahead : map (verdict_of now.base) now.ahead.items ≡ map (verdict_on r y) (range_with_len now.owner.state.done (min batch (moves_left r y - min batch (moves_left r y)))) =
-    ahead_on r t s now next.made next.ahead b h ∙ (λ i. map (verdict_on r y) (range_with_len now.owner.state.done (min batch (moves_left r (sym b.here i) - min batch (moves_left r (sym b.here i)))))) in
+    ahead_on r t s now next.made next.ahead b h ∙ (λ i. map (verdict_on r y) (range_with_len now.owner.state.done (min batch (moves_left r (sym b.at_turn.led.here i) - min batch (moves_left r (sym b.at_turn.led.here i)))))) in
     record {
       same = record { design = refl; grid = refl; fixed = refl; plan = refl; words = refl };
       stands = stands;
@@ -95,7 +95,7 @@ turn_done moves given x batch s now t answer b after here h told =
     }
 
 -- a turn that was cut short, because memory ran out
-pub turn_cut : {W : Type 0} (moves : W → ℕ → List ℕ) (given : Given W) (x : Standing) (batch : ℕ) (s now : Pipeline) (t : LastTurn) (e : AllocError) → IsBehind (run_for moves given) t s
+pub turn_cut : {W : Type 0} (moves : W → ℕ → List ℕ) (given : Given W) (x : Standing) (batch : ℕ) (s now : Pipeline) (t : LastTurn) (e : AllocError) → IsAfter (run_for moves given) t s
     → x.done ≤ s.owner.state.done → standing_of s.owner.state ≡ from (run_for moves given) x (s.owner.state.done - x.done)
     → now.owner.state.done ≤ s.owner.state.done + min batch (moves_left (run_for moves given) (standing_of s.owner.state))
     → HasTurned (run_for moves given) t s (now.owner.state.done - s.owner.state.done) 0 now → 0 < moves_left (run_for moves given) (standing_of s.owner.state)
@@ -105,7 +105,7 @@ turn_cut moves given x batch s now t e b after here within h some =
     let y = standing_of s.owner.state in
     let n = now.owner.state.done - s.owner.state.done in
     let made = moves_made r t s now n 0 b h in
-    let same : min batch (moves_left r y) ≡ (next_turn r batch t).made = ap (λ z. min batch (moves_left r z)) b.here in
+    let same : min batch (moves_left r y) ≡ (next_turn r batch t).made = ap (λ z. min batch (moves_left r z)) b.at_turn.led.here in
     record {
       same = record { design = refl; grid = refl; fixed = refl; plan = refl; words = refl };
       stands = stands_on r t s now n 0 b h;

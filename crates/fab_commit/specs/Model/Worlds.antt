@@ -15,6 +15,7 @@ use Rattle.fab_commit.specs.declared.model.events.Event.{Event}
 use Rattle.fab_commit.specs.declared.model.world_state.WorldState.{WorldState}
 use Rattle.fab_commit.specs.Serial.{Run, Standing, at_start, from}
 use Rattle.fab_commit.specs.Run.Commits.{IsSound, run, standing_of}
+use Rattle.fab_move.specs.StampTables.{IsBlock}
 use Rattle.fab_commit.specs.Model.World.{World, world, is_last, run_through, ways}
 
 -- a world: what its run is given, its state, and the ways of the moves that were committed, in order
@@ -64,11 +65,6 @@ world_of s =
       verdicts = s.verdicts.items;
       accepted = s.accepted.items;
     }
-
--- the block, if any, is one of the design's
-abbrev pub IsBlock : Netlist → Option BlockId → Type 0
-IsBlock d None = Unit {0}
-IsBlock d (Some b) = b.0 < length d.kinds
 
 -- the blocks of an accepted swap are the design's
 abbrev pub HasBlocks : Netlist → Accepted → Type 0

@@ -3,6 +3,8 @@ use Rattle.std.specs.Prelude.{◌≡◌, List, Bool, true, false, Option, Some, 
 use Rattle.fab_board.specs.Follows.{followed}
 use Rattle.fab_commit.specs.declared.run.post.Post.{Post}
 use Rattle.fab_commit.specs.declared.run.owner.Owner.{Owner}
+use Rattle.fab_commit.specs.declared.run.state.State.{State}
+use Rattle.fab_commit.specs.declared.run.swaps.Accepted.{Accepted}
 use Rattle.fab_commit.specs.Serial.{Run, Standing}
 use Rattle.fab_commit.specs.Run.Commits.{standing_of}
 use Rattle.fab_commit.specs.Run.Owners.{Leads}
@@ -19,3 +21,8 @@ IsBeside run standing after start r t o begun crew =
     (begun ≡ false → IfSome crew (λ p. IsTied run standing after start p.0 r (standing_of o.state)))
     × (begun ≡ true → IfSome crew (λ p. IsTied run standing after start p.0 r t.start))
     × (begun ≡ true → Leads r.problem.grid t.start.sites o.swaps.items o.state.placement.sites)
+
+-- if there is a crew, it stands at x, from where these swaps lead to this state; before its first turn it stands where the state does
+abbrev pub IsYetToFollow : {S : Type 0} → (S → Run) → (S → Standing) → (S → Post → S) → Option S → Run → Standing → State → List Accepted → Bool → Option (List Post × List Post) → Type 0
+IsYetToFollow run standing after start r x s swaps begun crew =
+    IfSome crew (λ p. IsTied run standing after start p.0 r x × Leads r.problem.grid x.sites swaps s.placement.sites × (begun ≡ false → x ≡ standing_of s))

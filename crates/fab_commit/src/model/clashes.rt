@@ -5,7 +5,8 @@ ghost use Rattle.std.specs.List.{All, list_any};
 ghost use Rattle.fab_net.specs.Netlist.{Netlist};
 ghost use Rattle.fab_move.specs.Judge.{block_marks, has_mark, meet, other_marks, touched};
 ghost use Rattle.fab_commit.specs.Model.World.{clash};
-ghost use Rattle.fab_commit.specs.Model.Worlds.{HasBlocks, IsBlock};
+ghost use Rattle.fab_move.specs.StampTables.{IsBlock};
+ghost use Rattle.fab_commit.specs.Model.Worlds.{HasBlocks};
 
 use crate::run::swaps::Accepted;
 use fab_move::Mark;

@@ -1,42 +1,42 @@
-//! Moves that the owner decides itself, each on the live placement. It counts those that turns of the batch would redo.
+//! Moves that the owner decides itself, each on the live placement. If it counts redone moves, it counts those that turns of the batch would
+//! redo.
 
-ghost use Rattle.std.specs.Prelude.{◌≡◌, ℕ, ◌+◌, ◌<◌, ◌≤◌, ◌++◌, [], ◌∷◌, false, length, Some, IfSome, OnOk};
-ghost use Rattle.std.specs.List.{count_by, range_with_len};
-ghost use Rattle.fab_sched.specs.Annealing.{IsLawful};
+ghost use Rattle.std.specs.Prelude.{◌≡◌, ◌≤◌, ◌++◌, [], ◌∷◌, false, true, min, MatchResult, Some};
 ghost use Rattle.fab_site.specs.Placement.{IsSwapOf};
 ghost use Rattle.fab_move.specs.Judge.{IsDecision};
-ghost use Rattle.fab_commit.specs.Serial.{judged_here};
-ghost use Rattle.fab_commit.specs.Run.Alone.{AreOpen, AreWords, HasGone, IsAlone, TurnsOnce, is_touched_here};
+ghost use Rattle.fab_commit.specs.declared.run.alone.OnBase.{OnBase as IsOnBase};
+ghost use Rattle.fab_commit.specs.Serial.{judged_here, moves_left};
+ghost use Rattle.fab_commit.specs.Run.Stages.{HasForgotten, is_touched_here};
+ghost use Rattle.fab_commit.specs.Run.Pipelines.{IsAtTurn};
 ghost use Rattle.fab_commit.specs.Run.Commits.{IsSound, run_for, standing_of};
-ghost use Rattle.fab_commit.specs.Run.Owners.{HasMade, HasRoom, IsOwned, Leads};
+ghost use Rattle.fab_commit.specs.Run.Owners.{HasMadeFrom, IsOwned, MayMake};
 ghost use Rattle.fab_commit.specs.Run.Readings.{reading_at};
-ghost use Rattle.fab_commit.specs.Model.History.{is_redone};
 ghost use Rattle.fab_commit.specs.Model.TurnEvents.{LastTurn};
 
-use crate::run::kept_nets::LargeNets;
-use crate::run::owner::{Owner, stamp};
-use crate::run::pipeline::reserve;
-use crate::run::state::{Given, State, commit, moves_left, view_of};
-use crate::run::swaps::enter;
+use crate::run::early_reads::read_early;
+use crate::run::numbers::reserve_numbers;
+use crate::run::owner::{Owner, make_one};
+use crate::run::state::{Given, State, decide_by, moves_left, view_of};
 use fab_board::Gate;
-use fab_cost::{EdgeBoxes, WireCost};
+use fab_cost::WireCost;
 use fab_dial::{Dial, Reading, Shower};
-use fab_move::{Decision, weigh};
+use fab_move::{Decision, LargeNets, weigh};
 use fab_site::{Swap, Words};
 use std::alloc::AllocError;
 use std::sync::Wait;
 
 /// The next `moves` moves. Each counts as judged on the placement after `base` moves, whether a worker judged it or not.
 #[derive(Clone, Copy)]
-pub(crate) struct Ahead {
+pub(crate) struct OnBase {
     pub(crate) base: u64,
     pub(crate) moves: u64,
 }
 
 /// Decides the next move on the live placement, by its words. Returns the decision, and whether a judgement on the placement after `base`
-/// moves is stale: whether a move accepted since has touched the move's footprint. Allocates nothing.
+/// moves is stale: whether a move accepted since has touched the move's footprint. If redone moves are not counted, it is not asked for, and
+/// the answer is false. Allocates nothing.
 #[inline(always)]
-pub(crate) fn decided_alone<W: Words>(
+pub(crate) fn decided_alone<W: Words, const COUNTED: bool>(
     given: &Given<'_, W>,
     owner: &Owner,
     base: u64,
@@ -45,7 +45,8 @@ pub(crate) fn decided_alone<W: Words>(
     requires owned { IsOwned (run_for W.moves given.now) owner.now }
     requires going { owner.now.state.ended ≡ false }
     requires words { words ≡ W.moves given.now.words owner.now.state.done }
-    ensures again { result.1 ≡ is_touched_here (run_for W.moves given.now) owner.now base }
+    ensures again { COUNTED ≡ true →
+        result.1 ≡ is_touched_here (run_for W.moves given.now) owner.now base }
     ensures lawful { (s : Swap) → result.0.swap ≡ Some s →
         IsSwapOf given.now.grid.now owner.now.state.placement.sites s }
     ensures decides { IsDecision result.0
@@ -53,6 +54,9 @@ pub(crate) fn decided_alone<W: Words>(
         owner.now.state.done) }
 {
     let state = &owner.state;
+    if !COUNTED {
+        return (decide_by(given, state, state.done, words), false);
+    }
     let view = view_of(given, state);
     let proposal = view.propose(words);
     let nets = LargeNets::none();
@@ -75,49 +79,6 @@ fn asked_again<W: Words>(source: &W, k: u64, words: [u32; 4], again: bool) -> [u
     }
 }
 
-/// The cost, if it is wanted.
-fn cost_if(cost: &EdgeBoxes, wanted: bool) -> Option<&EdgeBoxes>
-    ensures { IfSome result (λ b. b.now ≡ cost.now) }
-{
-    if wanted { Some(cost) } else { None }
-}
-
-/// Makes the next moves, whose words are `words`. They count as judged on the placement after `base` moves. The caller has called
-/// `before_judge` for the first one; a gate that does nothing gets no more such calls. `near` says whether a crew works. Allocates nothing.
-fn commit_some<W: Words, G: Gate>(
-    given: &Given<'_, W>,
-    owner: &mut Owner,
-    words: &[[u32; 4]],
-    base: u64,
-    near: bool,
-    gate: &G,
-)
-    requires plan { IsLawful given.now.schedule }
-    requires owned { IsOwned (run_for W.moves given.now) owner.old }
-    requires room { HasRoom owner.old (length words.now) }
-    requires words { AreWords (W.moves given.now.words) owner.old.state.done words.now }
-    requires due { AreOpen (run_for W.moves given.now) owner.old base (length words.now) }
-    ensures made { HasMade (run_for W.moves given.now) owner.old (length words.now) owner.new }
-    ensures redone { (due : AreOpen (run_for W.moves given.now) owner.old base (length words.now)) →
-        owner.new.redone ≡
-        owner.old.redone +
-        count_by (is_redone (run_for W.moves given.now) due.start base)
-        (range_with_len owner.old.state.done (length words.now)) }
-    ensures room { (n : ℕ) → HasRoom owner.old (length words.now + n) → HasRoom owner.new n }
-{
-    'moves: for i in 0..words.len() {
-        let number = owner.state.done;
-        let (decision, again) = decided_alone(given, owner, base, words[i]);
-        gate.after_judge(number);
-        gate.before_commit(number);
-        enter(&mut owner.swaps, number, &decision);
-        let cost = cost_if(&owner.state.cost, near);
-        stamp(given, &mut owner.stamps, number, &decision, cost);
-        commit(given, &mut owner.state, &decision);
-        owner.redone += u64::from(again);
-    }
-}
-
 /// The most moves whose words are made at once.
 pub(crate) const AT_ONCE: usize = 32;
 
@@ -129,93 +90,80 @@ pub(crate) fn at_once<G: Gate>(gate: &G) -> usize
     if gate.does_nothing() { AT_ONCE } else { 1 }
 }
 
+/// Room for what the owner makes ready for the next moves that it decides itself.
+#[derive(Drop)]
+pub(crate) struct Ready {
+    pub(crate) words: [[u32; 4]; AT_ONCE],
+    /// What was read early. It has no meaning, and is kept so that the compiler keeps the reads.
+    pub(crate) read: u64,
+}
+
 /// Makes the next `due.moves` moves of the running stage. The owner decides each on the live placement, alone or beside a crew. They count
-/// as judged on the placement after `due.base` moves. `words` is room for the words of some moves, and `near` says whether a crew works.
-/// Allocates nothing.
-pub(crate) fn commit_alone<W: Words, G: Gate>(
+/// as judged on the placement after `due.base` moves. `near` says whether a crew works. The gate is called around each judgement and before
+/// each commit; a gate that does nothing gets one call of `before_judge` for moves whose words are made together. Allocates nothing.
+pub(crate) fn commit_alone<W: Words, G: Gate, const COUNTED: bool>(
     given: &Given<'_, W>,
     owner: &mut Owner,
-    due: Ahead,
+    due: OnBase,
     near: bool,
     gate: &G,
-    words: &mut [[u32; 4]; AT_ONCE],
+    ready: &mut Ready,
 )
-    requires plan { IsLawful given.now.schedule }
-    requires owned { IsOwned (run_for W.moves given.now) owner.old }
-    requires room { HasRoom owner.old due.moves }
-    requires due { AreOpen (run_for W.moves given.now) owner.old due.base due.moves }
-    ensures made { HasMade (run_for W.moves given.now) owner.old due.moves owner.new }
-    ensures redone { (still : AreOpen (run_for W.moves given.now) owner.old due.base due.moves) →
-        owner.new.redone ≡
-        owner.old.redone +
-        count_by (is_redone (run_for W.moves given.now) still.start due.base)
-        (range_with_len owner.old.state.done due.moves) }
-    ensures room { (n : ℕ) → HasRoom owner.old (due.moves + n) → HasRoom owner.new n }
+    requires may { MayMake COUNTED (run_for W.moves given.now) owner.old due.base due.moves }
+    ensures { HasMadeFrom COUNTED (run_for W.moves given.now) owner.old due.base due.moves
+        owner.new }
 {
     let most = at_once(gate) as u64;
+    let mut read = ready.read;
     let mut made = 0;
     while made < due.moves {
         let count = (due.moves - made).min(most);
-        let some = &mut words[..count as usize];
+        let some = &mut ready.words[..count as usize];
         gate.before_judge(owner.state.done);
         given.words.fill_words(owner.state.done, some);
-        commit_some(given, owner, &*some, due.base, near, gate);
+        read ^= read_early(given, &owner.state, &*some);
+        'moves: for i in 0..some.len() {
+            let number = owner.state.done;
+            let (decision, again) = decided_alone::<W, COUNTED>(given, owner, due.base, some[i]);
+            gate.after_judge(number);
+            gate.before_commit(number);
+            make_one::<W, COUNTED>(given, owner, &decision, again, near);
+        }
         made += count;
     }
+    ready.read = read;
 }
 
-/// Makes one turn of at most `batch` moves. The first `ahead.moves` count as judged on the base of `ahead`. Returns which moves the next
-/// turn counts so. An error means that memory ran out; then no move was made.
-pub(crate) fn turn_alone<W: Words, G: Gate>(
+/// Makes one turn of at most `batch` moves whose redone moves are not counted: no stamp is read or written, and no swap is kept. Afterwards
+/// no move counts as judged ahead. An error means that memory ran out; then no move was made.
+pub(crate) fn turn_uncounted<W: Words, G: Gate>(
     given: &Given<'_, W>,
     owner: &mut Owner,
-    ahead: Ahead,
     batch: u64,
     gate: &G,
-    words: &mut [[u32; 4]; AT_ONCE],
-) -> Result<Ahead, AllocError>
-    requires alone { (t : LastTurn) × IsAlone (run_for W.moves given.now) t owner.old ahead }
+    ready: &mut Ready,
+) -> Result<OnBase, AllocError>
+    requires at_turn { (t : LastTurn) × (ahead : IsOnBase) ×
+        IsAtTurn (run_for W.moves given.now) t owner.old ahead }
     requires batch { (1 ≤ batch) × (batch ≤ 4096) }
-    ensures ok { TurnsOnce (run_for W.moves given.now) batch owner.old ahead result
-        owner.new }
-    ensures leads { OnOk result
-        (Leads given.now.grid.now owner.old.state.placement.sites owner.new.swaps.items
-        owner.new.state.placement.sites) }
+    ensures made { MatchResult result
+        (HasForgotten (run_for W.moves given.now) owner.old
+        (min batch (moves_left (run_for W.moves given.now) (standing_of owner.old.state)))
+        owner.new)
+        (λ _. HasForgotten (run_for W.moves given.now) owner.old 0 owner.new
+        (record { base = owner.old.state.done; moves = 0 })) }
 {
     let start = owner.state.done;
-    let left = moves_left(&given.schedule, &owner.state);
-    let moves = batch.min(left);
+    let moves = batch.min(moves_left(&given.schedule, &owner.state));
     owner.swaps.clear();
-    reserve(owner, moves)?;
-    let kept = ahead.moves.min(moves);
-    let first = Ahead {
-        base: ahead.base,
-        moves: kept,
-    };
-    commit_alone(given, owner, first, false, gate, words);
-    let rest = Ahead {
-        base: start,
-        moves: moves - kept,
-    };
-    commit_alone(given, owner, rest, false, gate, words);
-    Ok(Ahead {
-        base: start,
-        moves: batch.min(left - moves),
-    })
-}
-
-/// Ends a turn for which memory ran out before its first move. Returns the moves after it that count as judged ahead: none.
-pub(crate) fn cut_alone<W: Words>(_given: &Given<'_, W>, owner: &mut Owner, _ahead: Ahead) -> Ahead
-    ensures gone { (t : LastTurn) → IsAlone (run_for W.moves _given.now) t owner.old _ahead →
-        HasGone (run_for W.moves _given.now) t owner.old 0 0 owner.new result }
-    ensures stands { standing_of owner.new.state ≡ standing_of owner.old.state }
-    ensures none { result.moves ≡ 0 }
-{
-    owner.swaps.clear();
-    Ahead {
-        base: owner.state.done,
+    reserve_numbers(&mut owner.state.accepted, moves as usize)?;
+    let all = OnBase { base: start, moves };
+    commit_alone::<W, G, false>(given, owner, all, false, gate, ready);
+    let done = owner.state.done;
+    Ok(OnBase {
+        base: done,
         moves: 0,
-    }
+    })
 }
 
 /// Shows on the dial how far the run has come.

@@ -8,7 +8,7 @@ ghost use Rattle.fab_site.specs.Placement.{IsLegal, fixed_at};
 ghost use Rattle.fab_move.specs.Judge.{says};
 ghost use Rattle.fab_commit.specs.declared.model.judged.JudgedMove.{JudgedMove};
 ghost use Rattle.fab_commit.specs.Serial.{IsStanding, at_start, from, moves_left, stage_of};
-ghost use Rattle.fab_commit.specs.Run.Alone.{IsMade, IsMadeByTurns};
+ghost use Rattle.fab_commit.specs.Run.Stages.{IsMade, IsMadeByTurns};
 ghost use Rattle.fab_commit.specs.Run.Commits.{IsSound, run, run_for, run_of, standing_of, turn_of};
 ghost use Rattle.fab_commit.specs.Run.Noted.{noted};
 ghost use Rattle.fab_commit.specs.Run.Points.{IsPoint, TellsPoint, going_on, standing_at};
@@ -22,7 +22,6 @@ use crate::run::point::{Point, point_in, point_of};
 use crate::run::stage::{MovesPlan, finish_alone};
 use crate::run::state::{Given, State, first_state, moves_left, running, state_at};
 use crate::run::turn::Turn;
-use crate::run::uncounted::finish_uncounted;
 use fab_arch::Grid;
 use fab_board::Gate;
 use fab_cost::WireCost;
@@ -428,15 +427,13 @@ impl<'a, W: Words + Drop, K: Keeping> Anneal<'a, W, K> {
             gate: plan.gate,
             dial: plan.dial,
         };
-        if !K::tells_redone() {
-            return finish_uncounted(given, &mut self.pipeline, &moves, shower);
+        let state = &mut self.pipeline;
+        if K::tells_redone() {
+            return finish_alone::<W, G, Behind<'_, '_, W, G>, Brand, R, true>(
+                given, state, &moves, shower,
+            );
         }
-        finish_alone::<W, G, Behind<'_, '_, W, G>, Brand, R>(
-            given,
-            &mut self.pipeline,
-            &moves,
-            shower,
-        )
+        finish_alone::<W, G, Behind<'_, '_, W, G>, Brand, R, false>(given, state, &moves, shower)
     }
 }
 

@@ -1,18 +1,15 @@
 //! Moves of a stage that are made beside a crew, which judges them ahead. The crew lives for these moves.
 
-ghost use Rattle.std.specs.Prelude.{All, ◌≡◌, ◌^◌, ◌<◌, ◌≤◌, length, Some, IfOk, IfSome};
+ghost use Rattle.std.specs.Prelude.{All, ◌≡◌, ◌^◌, ◌≤◌, true, length, Some, IfOk, IfSome};
 ghost use Rattle.std.specs.Arc.{arc_value};
 ghost use Rattle.std.specs.Thread.{IsSync};
-ghost use Rattle.fab_commit.specs.declared.run.alone.Ahead.{Ahead as IsAhead};
-ghost use Rattle.fab_commit.specs.Serial.{moves_left};
-ghost use Rattle.fab_commit.specs.Run.Alone.{AreMadeAlone, IsUnjudged};
+ghost use Rattle.fab_commit.specs.Run.Stages.{HasFinished, MayFinish};
 ghost use Rattle.fab_commit.specs.Run.Commits.{IsSound, run_for, standing_of};
 ghost use Rattle.fab_commit.specs.Run.Followed.{IsTied};
-ghost use Rattle.fab_commit.specs.Run.Pipelines.{HasTurn};
 ghost use Rattle.fab_board.specs.Plans.{IsSharedOut};
 
 use crate::run::behind::{Behind, Pursue};
-use crate::run::followed::Followers;
+use crate::run::followers::Followers;
 use crate::run::foreseen::Foreseen;
 use crate::run::pipeline::Pipeline;
 use crate::run::post::Post;
@@ -49,21 +46,14 @@ fn without_crew<W: Words, G: Gate, S: Pursue, J: Naming + Boarding + Origin<S>, 
     plan: &MovesPlan<'_, R, G>,
     shower: &mut Shower,
 ) -> Result<(), AllocError>
-    requires behind { HasTurn (run_for W.moves given.now) state.old }
-    requires some { (plan.now.count ≤
-        moves_left (run_for W.moves given.now) (standing_of state.old.owner.state)) ×
-        (0 < moves_left (run_for W.moves given.now) (standing_of state.old.owner.state)) }
-    requires batch { (1 ≤ plan.now.batch) × (plan.now.batch ≤ 4096) }
+    requires may { MayFinish (run_for W.moves given.now) plan.now.batch plan.now.count state.old }
     requires own { shower.old.dial ≡ plan.now.dial.now }
-    ensures left { HasTurn (run_for W.moves given.now) state.new }
-    ensures made { (due : IsAhead) × IsUnjudged state.new due ×
-        AreMadeAlone (run_for W.moves given.now) plan.now.batch plan.now.count state.old.owner
-        (record { base = state.old.base; moves = length state.old.ahead.items }) state.new.owner
-        due result shower.old.shown shower.new.shown }
+    ensures finished { HasFinished true (run_for W.moves given.now) plan.now.batch plan.now.count
+        state.old state.new result shower.old.shown shower.new.shown }
     ensures dial { shower.new.dial ≡ shower.old.dial }
 {
     if plan.gate.does_nothing() {
-        finish_alone::<W, G, S, J, R>(given, state, plan, shower)
+        finish_alone::<W, G, S, J, R, true>(given, state, plan, shower)
     } else {
         refuse(given, state, plan, shower)
     }
@@ -93,17 +83,10 @@ fn made_beside<
     requires units { IsSharedOut parts.units plan.now.batch (length parts.others.items) }
     requires run { S.run parts.first ≡ (run_for W.moves given.now) }
     requires stands { S.standing parts.first ≡ standing_of state.old.owner.state }
-    requires behind { HasTurn (run_for W.moves given.now) state.old }
-    requires some { (plan.now.count ≤
-        moves_left (run_for W.moves given.now) (standing_of state.old.owner.state)) ×
-        (0 < moves_left (run_for W.moves given.now) (standing_of state.old.owner.state)) }
-    requires batch { (1 ≤ plan.now.batch) × (plan.now.batch ≤ 4096) }
+    requires may { MayFinish (run_for W.moves given.now) plan.now.batch plan.now.count state.old }
     requires own { shower.old.dial ≡ plan.now.dial.now }
-    ensures left { HasTurn (run_for W.moves given.now) state.new }
-    ensures made { (due : IsAhead) × IsUnjudged state.new due ×
-        AreMadeAlone (run_for W.moves given.now) plan.now.batch plan.now.count state.old.owner
-        (record { base = state.old.base; moves = length state.old.ahead.items }) state.new.owner
-        due result shower.old.shown shower.new.shown }
+    ensures finished { HasFinished true (run_for W.moves given.now) plan.now.batch plan.now.count
+        state.old state.new result shower.old.shown shower.new.shown }
     ensures dial { shower.new.dial ≡ shower.old.dial }
 {
     let alloc = given.alloc;
@@ -123,27 +106,17 @@ fn made_beside<
         &crew,
         &mut followers,
         &mut |f: &mut Option<Followers<S, J>>| -> Result<(), AllocError>
-            requires { IsSync R.row × HasTurn (run_for W.moves given.now) state.now ×
+            requires { IsSync R.row ×
+                MayFinish (run_for W.moves given.now) plan.now.batch plan.now.count state.now ×
                 IfSome f.old (λ p.
                 IsTied S.run S.standing S.after J.start p.0 (run_for W.moves given.now)
                 (standing_of state.now.owner.state)) ×
-                ((plan.now.count ≤
-                moves_left (run_for W.moves given.now) (standing_of state.now.owner.state)) ×
-                (0 < moves_left (run_for W.moves given.now)
-                (standing_of state.now.owner.state))) ×
-                ((1 ≤ plan.now.batch) × (plan.now.batch ≤ 4096)) ×
                 (shower.now.dial ≡ plan.now.dial.now) }
-            ensures left { HasTurn (run_for W.moves given.entry.now) state.exit.now }
-            ensures made { (due : IsAhead) × IsUnjudged state.exit.now due ×
-                AreMadeAlone (run_for W.moves given.entry.now) plan.entry.now.batch
-                plan.entry.now.count state.entry.now.owner
-                (record {
-                  base = state.entry.now.base;
-                  moves = length state.entry.now.ahead.items;
-                }) state.exit.now.owner due
-                result shower.entry.now.shown shower.exit.now.shown }
+            ensures finished { HasFinished true (run_for W.moves given.entry.now)
+                plan.entry.now.batch plan.entry.now.count state.entry.now state.exit.now result
+                shower.entry.now.shown shower.exit.now.shown }
             ensures dial { shower.exit.now.dial ≡ shower.entry.now.dial }
-        { finish(given, state, f, plan, shower) },
+        { finish::<W, G, S, J, R, true>(given, state, f, plan, shower) },
     );
     drop(followers);
     close_board(crew);
@@ -232,19 +205,11 @@ pub(crate) fn finish_beside<
     count: u64,
     shower: &mut Shower,
 ) -> Result<(), AllocError>
-    requires behind { HasTurn (run_for W.moves (arc_value given.now)) state.old }
-    requires some { (count ≤
-        moves_left (run_for W.moves (arc_value given.now)) (standing_of state.old.owner.state)) ×
-        (0 < moves_left (run_for W.moves (arc_value given.now))
-        (standing_of state.old.owner.state)) }
-    requires batch { (1 ≤ plan.now.batch) × (plan.now.batch ≤ 4096) }
+    requires may { MayFinish (run_for W.moves (arc_value given.now)) plan.now.batch count state.old }
     requires workers { (1 ≤ plan.now.workers) × (plan.now.workers ≤ 64) }
     requires own { shower.old.dial ≡ plan.now.dial.now }
-    ensures left { HasTurn (run_for W.moves (arc_value given.now)) state.new }
-    ensures made { (due : IsAhead) × IsUnjudged state.new due ×
-        AreMadeAlone (run_for W.moves (arc_value given.now)) plan.now.batch count state.old.owner
-        (record { base = state.old.base; moves = length state.old.ahead.items }) state.new.owner
-        due result shower.old.shown shower.new.shown }
+    ensures finished { HasFinished true (run_for W.moves (arc_value given.now)) plan.now.batch count
+        state.old state.new result shower.old.shown shower.new.shown }
     ensures dial { shower.new.dial ≡ shower.old.dial }
 {
     let lent: &Given<'a, W> = given;

@@ -1,28 +1,26 @@
-//! One turn beside a crew that is started for it: the owner commits a batch on the live placement, while the crew judges the next one on
-//! the placement at the turn's start. For callers that make single turns; a run of the program makes none.
+//! One turn beside a crew that is started for it, whose judgements of the next batch are kept. For callers that make single turns; a run of
+//! the program makes none.
 
-ghost use Rattle.std.specs.Prelude.{All, ◌≡◌, ◌+◌, ◌-◌, ◌^◌, ◌<◌, ◌≤◌, [], true, false, length, min, Some, IfOk, IfSome, OnOk, OnErr};
+ghost use Rattle.std.specs.Prelude.{All, ◌≡◌, ◌^◌, ◌≤◌, true, false, length, Some, IfOk, IfSome};
 ghost use Rattle.std.specs.Arc.{arc_value};
 ghost use Rattle.std.specs.Thread.{IsSync};
-ghost use Rattle.fab_sched.specs.Annealing.{IsLawful};
-ghost use Rattle.fab_commit.specs.Serial.{Standing, moves_left};
-ghost use Rattle.fab_commit.specs.Run.Behind.{MayBeFollowed, after_post};
-ghost use Rattle.fab_commit.specs.Run.Commits.{IsSound, run_for, standing_of};
+ghost use Rattle.fab_commit.specs.Serial.{Standing};
+ghost use Rattle.fab_commit.specs.Run.Behind.{MayBeFollowed};
+ghost use Rattle.fab_commit.specs.Run.Commits.{run_for, standing_of};
 ghost use Rattle.fab_commit.specs.Run.Followed.{IsTied};
-ghost use Rattle.fab_commit.specs.Run.Owners.{AreAnswers, AreDue, HasCounted, HasMade, IsOwned};
-ghost use Rattle.fab_commit.specs.Run.Pipelines.{IsBehind, TurnsOn};
-ghost use Rattle.fab_commit.specs.Model.TurnEvents.{LastTurn};
+ghost use Rattle.fab_commit.specs.Run.Pipelines.{AreJudged, HasTurn, TurnsOn};
 
-use crate::run::alone::{AT_ONCE, Ahead};
+use crate::run::alone::OnBase;
 use crate::run::behind::{Behind, Pursue};
 use crate::run::beside::crew_parts;
-use crate::run::followed::{Followers, TurnPlan, commit_followed, post_of};
+use crate::run::followed::{Course, TurnPlan, turn_of};
+use crate::run::followers::Followers;
 use crate::run::foreseen::Foreseen;
-use crate::run::owner::commit_each;
-use crate::run::pipeline::{Pipeline, idle_turn, refused_turn, reserve};
+use crate::run::pipeline::{Pipeline, cut_turn};
 use crate::run::post::{MoveRange, Post};
-use crate::run::state::{Given, State, moves_left};
-use crate::run::verdicts::verdicts_by;
+use crate::run::posting::post_of;
+use crate::run::state::Given;
+use crate::run::verdicts::{sights_of, verdicts_of};
 use fab_board::follow_crew::{beside, close_board};
 use fab_board::follow_lead::{CrewParts, new_crew};
 use fab_board::{Boarding, Gate, Naming, Opened, Origin};
@@ -33,195 +31,109 @@ use std::marker::Brand;
 use std::sync::{Arc, Wait};
 use std::thread::Threads;
 
-/// Asks the crew for the moves of `range`, to be judged on the present state. Returns false if the post is refused, because there were too
-/// many posts.
-fn ask<W: Words, S: Pursue, J: Naming + Boarding + Origin<S>, R: Wait>(
-    rt: &R,
-    _given: &Given<'_, W>,
-    state: &State,
-    followers: &mut Followers<S, J>,
-    range: MoveRange,
-) -> bool
-    requires sound { IsSound (run_for W.moves _given.now) state.now }
-    requires tied { IsTied S.run S.standing S.after J.start followers.old.0
-        (run_for W.moves _given.now) (standing_of state.now) }
-    ensures base { result ≡ true →
-        IsTied S.run S.standing S.after J.start followers.new.1 (run_for W.moves _given.now)
-        (standing_of state.now) }
-    ensures tied { result ≡ true →
-        IsTied S.run S.standing S.after J.start followers.new.0 (run_for W.moves _given.now)
-        (standing_of state.now) }
-{
-    let none = followers.fresh();
-    followers.post(rt, post_of(state, none, range))
+/// What a crew judged ahead, as verdicts and as it was foreseen.
+#[derive(Drop)]
+struct Judged {
+    answers: Vec<Verdict>,
+    foreseen: Vec<Foreseen>,
 }
 
-/// Asks for the moves of `first`, then for those of `second`. Returns an empty request: once it is posted, the moves of `second` are due.
-/// `None` if a post is refused.
-fn ask_both<W: Words, S: Pursue, J: Naming + Boarding + Origin<S>, R: Wait>(
-    rt: &R,
-    given: &Given<'_, W>,
-    state: &State,
-    followers: &mut Followers<S, J>,
-    first: MoveRange,
-    second: MoveRange,
-) -> Option<Post>
-    requires sound { IsSound (run_for W.moves given.now) state.now }
-    requires tied { IsTied S.run S.standing S.after J.start followers.old.0
-        (run_for W.moves given.now) (standing_of state.now) }
-    ensures base { IfSome result (λ p.
-        IsTied S.run S.standing S.after J.start followers.new.1 (run_for W.moves given.now)
-        (standing_of state.now)) }
-    ensures tied { IfSome result (λ p.
-        IsTied S.run S.standing S.after J.start followers.new.0 (run_for W.moves given.now)
-        (standing_of state.now)) }
-    ensures may { IfSome result
-        (MayBeFollowed (run_for W.moves given.now) (standing_of state.now)) }
-{
-    if !ask(rt, given, state, followers, first) {
-        return None;
-    }
-    if !ask(rt, given, state, followers, second) {
-        return None;
-    }
-    let none = followers.fresh();
-    let nothing = MoveRange {
-        first: second.first,
-        moves: 0,
-    };
-    Some(post_of(state, none, nothing))
-}
-
-/// Posts `last`, which makes the moves of `range` due, and returns the crew's verdicts on them. An error means that memory ran out, or that
-/// there were too many posts.
+/// Posts `last`, an empty request, which makes the moves of `range` due. Returns what the crew judged of them. An error means that memory
+/// ran out, or that the crew was let go.
 fn judged_ahead<W: Words, S: Pursue, J: Naming + Boarding + Origin<S>, R: Wait>(
     rt: &R,
     given: &Given<'_, W>,
-    followers: &mut Followers<S, J>,
+    followers: &mut Option<Followers<S, J>>,
     last: Post,
     range: MoveRange,
-) -> Result<Vec<Verdict>, AllocError>
-    requires may { (x : Standing) ×
-        IsTied S.run S.standing S.after J.start followers.old.0 (run_for W.moves given.now) x ×
-        MayBeFollowed (run_for W.moves given.now) x last }
+) -> Result<Judged, AllocError>
+    requires may { (x : Standing) × MayBeFollowed (run_for W.moves given.now) x last ×
+        IfSome followers.old (λ f.
+        IsTied S.run S.standing S.after J.start f.0 (run_for W.moves given.now) x) }
     requires limits { (range.first ≤ 2 ^ 62) × (range.moves ≤ 4096) }
-    ensures many { IfOk result (λ v. length v.items ≡ range.moves) }
-    ensures answers { IfOk result (λ v.
-        (x : Standing) →
-        IsTied S.run S.standing S.after J.start followers.old.0 (run_for W.moves given.now) x →
-        AreAnswers (run_for W.moves given.now) x range.first v.items) }
+    ensures many { IfOk result (λ j. length j.answers.items ≡ range.moves) }
+    ensures judged { IfOk result (λ j.
+        (x : Standing) → IfSome followers.old (λ f.
+        IsTied S.run S.standing S.after J.start f.0 (run_for W.moves given.now) x) →
+        AreJudged (run_for W.moves given.now) x range.first j.answers.items j.foreseen.items) }
 {
-    if !followers.post(rt, last) {
-        return Err(AllocError);
-    }
-    verdicts_by(rt, given, followers, range)
-}
-
-/// How many moves a turn makes, and how many after them are judged ahead meanwhile.
-#[derive(Clone, Copy)]
-struct Size {
-    moves: u64,
-    next: u64,
-}
-
-/// Makes the next `size.moves` moves of the running stage beside a crew, which stands where the owner does. The crew judges those of them
-/// that were not judged ahead, and the `size.next` moves after them. Returns the verdicts on the moves after them.
-fn make_moves<W: Words, G: Gate, S: Pursue, J: Naming + Boarding + Origin<S>, R: Wait>(
-    given: &Given<'_, W>,
-    state: &mut Pipeline,
-    size: Size,
-    followers: &mut Followers<S, J>,
-    plan: &TurnPlan<'_, R, G>,
-) -> Result<Vec<Verdict>, AllocError>
-    requires plan { IsLawful given.now.schedule }
-    requires owned { IsOwned (run_for W.moves given.now) state.old.owner }
-    requires due { AreDue (run_for W.moves given.now) state.old.owner state.old.base
-        state.old.ahead.items }
-    requires fits { length state.old.ahead.items ≤ size.moves }
-    requires left { size.moves + size.next ≤
-        moves_left (run_for W.moves given.now) (standing_of state.old.owner.state) }
-    requires limits { (size.moves ≤ 4096) × (size.next ≤ 4096) }
-    requires tied { IsTied S.run S.standing S.after J.start followers.old.0
-        (run_for W.moves given.now) (standing_of state.old.owner.state) }
-    ensures made { HasMade (run_for W.moves given.now) state.old.owner
-        (state.new.owner.state.done - state.old.owner.state.done) state.new.owner }
-    ensures ok { OnOk result
-        (state.new.owner.state.done ≡ state.old.owner.state.done + size.moves) }
-    ensures within { (state.old.owner.state.done ≤ state.new.owner.state.done) ×
-        (state.new.owner.state.done ≤ state.old.owner.state.done + size.moves) }
-    ensures redone { HasCounted (run_for W.moves given.now) state.old.owner state.old.base
-        state.old.ahead.items state.new.owner }
-    ensures many { IfOk result (λ v. length v.items ≡ size.next) }
-    ensures answers { IfOk result (λ v.
-        AreAnswers (run_for W.moves given.now) (standing_of state.old.owner.state)
-        (state.old.owner.state.done + size.moves) v.items) }
-    ensures some { OnErr result (0 < size.moves + size.next) }
-{
-    // If no move is left, no memory is needed.
-    if size.moves == 0 && size.next == 0 {
-        return Ok(Vec::new(given.alloc));
-    }
-    reserve(&mut state.owner, size.moves)?;
-    let start = state.owner.state.done;
-    let kept = state.ahead.len() as u64;
-    let due = MoveRange {
-        first: start + kept,
-        moves: size.moves - kept,
-    };
-    let next = MoveRange {
-        first: start + size.moves,
-        moves: size.next,
-    };
-    let Some(last) = ask_both(plan.rt, given, &state.owner.state, followers, due, next) else {
+    let Some(crew) = followers else {
         return Err(AllocError);
     };
-    commit_each(given, &mut state.owner, &state.ahead, state.base, plan.gate);
-    let here = Ahead {
-        base: start,
-        moves: due.moves,
-    };
-    let mut words = [[0u32; 4]; AT_ONCE];
-    commit_followed(given, &mut state.owner, followers, here, plan, &mut words);
-    judged_ahead(plan.rt, given, followers, last, next)
+    if !crew.post(rt, last) {
+        return Err(AllocError);
+    }
+    let foreseen = sights_of(rt, given, crew, range)?;
+    let answers = verdicts_of(given, range.first, &foreseen)?;
+    Ok(Judged { answers, foreseen })
 }
 
-/// Makes a turn beside a crew, which stands where the owner does. If memory runs out, the moves that it committed stay, and nothing is
-/// judged ahead.
+/// Makes a turn beside a crew, which stands where the owner does, and keeps what the crew judges ahead meanwhile. If memory runs out, the
+/// moves that were committed stay, and nothing is judged ahead.
 fn make_turn<W: Words, G: Gate, S: Pursue, J: Naming + Boarding + Origin<S>, R: Wait>(
     given: &Given<'_, W>,
     state: &mut Pipeline,
-    followers: &mut Followers<S, J>,
+    followers: &mut Option<Followers<S, J>>,
     plan: &TurnPlan<'_, R, G>,
 ) -> Result<(), AllocError>
-    requires behind { (t : LastTurn) × IsBehind (run_for W.moves given.now) t state.old }
-    requires limits { plan.now.batch ≤ 4096 }
-    requires tied { IsTied S.run S.standing S.after J.start followers.old.0
-        (run_for W.moves given.now) (standing_of state.old.owner.state) }
-    ensures turned { TurnsOn (run_for W.moves given.now) plan.now.batch state.old state.new result }
+    requires behind { HasTurn (run_for W.moves given.now) state.old }
+    requires going { state.old.owner.state.ended ≡ false }
+    requires batch { (1 ≤ plan.now.batch) × (plan.now.batch ≤ 4096) }
+    requires tied { IfSome followers.old (λ f.
+        IsTied S.run S.standing S.after J.start f.0 (run_for W.moves given.now)
+        (standing_of state.old.owner.state)) }
+    ensures { TurnsOn (run_for W.moves given.now) plan.now.batch state.old state.new result }
 {
     let start = state.owner.state.done;
-    let left = moves_left(&given.schedule, &state.owner.state);
-    let moves = plan.batch.min(left);
-    state.owner.swaps.clear();
-    state.ahead.truncate(moves as usize);
-    let size = Size {
-        moves,
-        next: plan.batch.min(left - moves),
+    let course = Course {
+        ahead: OnBase {
+            base: state.base,
+            moves: state.ahead.len() as u64,
+        },
+        begun: false,
     };
-    let judged = make_moves(given, state, size, followers, plan);
+    let nothing = MoveRange {
+        first: start,
+        moves: 0,
+    };
+    let last = post_of(&state.owner.state, Vec::new(given.alloc), nothing);
+    let owner = &mut state.owner;
+    let kept = &state.foreseen;
+    let ready = &mut state.ready;
+    let turned = turn_of::<W, G, S, J, R, true>(given, owner, followers, kept, course, plan, ready);
     state.base = start;
     state.ahead.clear();
-    match judged {
-        Ok(ahead) => {
-            state.ahead = ahead;
-            Ok(())
-        }
-        Err(error) => Err(error),
-    }
+    state.foreseen.clear();
+    let next = match turned {
+        Ok(ahead) => MoveRange {
+            first: state.owner.state.done,
+            moves: ahead.moves,
+        },
+        Err(error) => return Err(error),
+    };
+    let judged = judged_ahead(plan.rt, given, followers, last, next)?;
+    let Judged { answers, foreseen } = judged;
+    state.ahead = answers;
+    state.foreseen = foreseen;
+    Ok(())
 }
 
-/// Makes a turn beside a crew whose name is `J`. If there is no memory for the crew, this makes no move: an owner alone would make all
-/// calls of the gate, and a gate that waits in one call for another would wait for ever.
+/// Ends a turn that has no memory for its crew, in a run that is not over. No move is made: an owner alone would make all calls of the gate,
+/// and a gate that waits in one call for another would wait for ever.
+fn refused<W: Words>(
+    given: &Given<'_, W>,
+    state: &mut Pipeline,
+    _batch: u64,
+) -> Result<(), AllocError>
+    requires behind { HasTurn (run_for W.moves given.now) state.old }
+    requires going { state.old.owner.state.ended ≡ false }
+    ensures { TurnsOn (run_for W.moves given.now) _batch state.old state.new result }
+{
+    cut_turn(given, state);
+    Err(AllocError)
+}
+
+/// Makes a turn beside a crew whose name is `J`. If there is no memory for the crew, this makes no move.
 fn turned_by<
     W: Words + Sync,
     G: Gate,
@@ -243,27 +155,30 @@ fn turned_by<
     requires many { length parts.claims.items ≡ length parts.others.items }
     requires run { S.run parts.first ≡ (run_for W.moves given.now) }
     requires stands { S.standing parts.first ≡ standing_of state.old.owner.state }
-    requires behind { (t : LastTurn) × IsBehind (run_for W.moves given.now) t state.old }
+    requires behind { HasTurn (run_for W.moves given.now) state.old }
     requires going { state.old.owner.state.ended ≡ false }
-    requires limits { plan.now.batch ≤ 4096 }
-    ensures turned { TurnsOn (run_for W.moves given.now) plan.now.batch state.old state.new result }
+    requires batch { (1 ≤ plan.now.batch) × (plan.now.batch ≤ 4096) }
+    ensures { TurnsOn (run_for W.moves given.now) plan.now.batch state.old state.new result }
 {
     let alloc = given.alloc;
     let Ok((crew, lead)) = new_crew::<S, Post, Foreseen, J>(alloc, opened, parts) else {
-        return refused_turn(given, state, plan.batch);
+        return refused(given, state, plan.batch);
     };
-    let Ok(mut followers) = Followers::new(alloc, lead) else {
-        return refused_turn(given, state, plan.batch);
+    let Ok(followers) = Followers::new(alloc, lead) else {
+        return refused(given, state, plan.batch);
     };
+    let mut followers = Some(followers);
     let turned = beside(
         plan.rt,
         &crew,
         &mut followers,
-        &mut |f: &mut Followers<S, J>| -> Result<(), AllocError>
-            requires { IsSync R.row × (plan.now.batch ≤ 4096) ×
-                ((t : LastTurn) × IsBehind (run_for W.moves given.now) t state.now) ×
-                IsTied S.run S.standing S.after J.start f.old.0 (run_for W.moves given.now)
-                (standing_of state.now.owner.state) }
+        &mut |f: &mut Option<Followers<S, J>>| -> Result<(), AllocError>
+            requires { IsSync R.row × HasTurn (run_for W.moves given.now) state.now ×
+                (state.now.owner.state.ended ≡ false) ×
+                ((1 ≤ plan.now.batch) × (plan.now.batch ≤ 4096)) ×
+                IfSome f.old (λ p.
+                IsTied S.run S.standing S.after J.start p.0 (run_for W.moves given.now)
+                (standing_of state.now.owner.state)) }
             ensures turned { TurnsOn (run_for W.moves given.entry.now) plan.entry.now.batch
                 state.entry.now
                 state.exit.now result }
@@ -283,9 +198,8 @@ pub(crate) fn turn_beside<'a, 'g, W: Words + Send + Sync + Drop, G: Gate, R: Thr
     workers: u64,
     gate: &'g G,
 ) -> Result<(), AllocError>
-    requires behind { (t : LastTurn) ×
-        IsBehind (run_for W.moves (arc_value given.now)) t state.old }
-    requires limits { batch ≤ 4096 }
+    requires behind { HasTurn (run_for W.moves (arc_value given.now)) state.old }
+    requires batch { (1 ≤ batch) × (batch ≤ 4096) }
     requires workers { (1 ≤ workers) × (workers ≤ 64) }
     ensures turned { TurnsOn (run_for W.moves (arc_value given.now)) batch state.old state.new
         result }
@@ -293,10 +207,11 @@ pub(crate) fn turn_beside<'a, 'g, W: Words + Send + Sync + Drop, G: Gate, R: Thr
     let lent: &Given<'a, W> = given;
     // If the run is over, no crew is needed.
     if state.owner.state.ended {
-        return idle_turn(lent, state, batch);
+        cut_turn(lent, state);
+        return Ok(());
     }
     let Ok(parts) = crew_parts(given, &state.owner.state, batch, workers, gate) else {
-        return refused_turn(lent, state, batch);
+        return refused(lent, state, batch);
     };
     let plan = TurnPlan { rt, batch, gate };
     turned_by::<W, G, Behind<'a, 'g, W, G>, Brand, R>(Opened::new(), parts, lent, state, &plan)

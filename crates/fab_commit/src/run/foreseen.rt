@@ -4,9 +4,8 @@ ghost use Rattle.std.specs.Prelude.{◌≡◌, pos, false, true, not};
 ghost use Rattle.fab_commit.specs.Run.Commits.{IsSound, run_for, standing_of};
 ghost use Rattle.fab_commit.specs.Run.Foreseen.{AreRejected, IsForeseen, decision_in};
 
-use crate::run::kept_nets::LargeNets;
 use crate::run::state::{Given, State, view_of};
-use fab_move::{Decision, Proposal, accepts};
+use fab_move::{Decision, LargeNets, Proposal, accepts};
 use fab_site::Words;
 
 /// The judgement of a move on the placement of a state that follows the owner. Its proposal names its footprint. The fields that the owner

@@ -1,30 +1,33 @@
 //! What an annealer keeps between turns.
 
-ghost use Rattle.std.specs.Prelude.{◌≡◌, ◌≤◌, [], false, true, IfOk, OnOk};
+ghost use Rattle.std.specs.Prelude.{◌≡◌, ◌≤◌, [], true, length, IfOk, OnOk};
 ghost use Rattle.fab_sched.specs.Annealing.{IsLawful};
 ghost use Rattle.fab_commit.specs.Serial.{Run};
 ghost use Rattle.fab_commit.specs.Run.Commits.{IsSound, run_for, standing_of};
 ghost use Rattle.fab_commit.specs.Run.Owners.{HasMade, HasRoom, IsOwned};
-ghost use Rattle.fab_commit.specs.Run.Pipelines.{HasTurned, IsBehind, TurnsOn};
+ghost use Rattle.fab_commit.specs.Run.Stages.{HasGone};
+ghost use Rattle.fab_commit.specs.Run.Pipelines.{IsAtTurn, IsAfter};
 ghost use Rattle.fab_commit.specs.Model.TurnEvents.{LastTurn, no_turn};
 
+use crate::run::alone::{AT_ONCE, Ready};
+use crate::run::foreseen::Foreseen;
 use crate::run::numbers::reserve_numbers;
 use crate::run::owner::Owner;
-use crate::run::stamps::Stamps;
 use crate::run::state::{Given, State};
-use fab_move::Verdict;
+use fab_move::{Stamps, Verdict};
 use fab_site::Words;
 use std::alloc::AllocError;
 
-/// What an annealer keeps: the live placement with its owner, and the verdicts that were judged ahead on the placement at the start of the
-/// last turn.
+/// What an annealer keeps: the live placement with its owner, and what was judged ahead on the placement at the start of the last turn.
 pub(crate) struct Pipeline {
     pub(crate) owner: Owner,
+    /// The verdicts that were judged ahead.
     pub(crate) ahead: Vec<Verdict>,
+    /// The same judgements as they were foreseen. The next single turn makes its first moves by them.
+    pub(crate) foreseen: Vec<Foreseen>,
     /// How many moves were made in the placement that `ahead` was judged on.
     pub(crate) base: u64,
-    /// What was read early. It has no meaning, and is kept so that the compiler keeps the reads.
-    pub(crate) read: u64,
+    pub(crate) ready: Ready,
 }
 
 impl Drop for Pipeline {
@@ -33,8 +36,9 @@ impl Drop for Pipeline {
         let Pipeline {
             owner: _,
             ahead: _,
+            foreseen: _,
             base: _,
-            read: _,
+            ready: _,
         } = self;
     }
 }
@@ -47,8 +51,9 @@ impl Pipeline {
         let Pipeline {
             owner,
             ahead: _,
+            foreseen: _,
             base: _,
-            read: _,
+            ready: _,
         } = self;
         owner
     }
@@ -62,7 +67,7 @@ pub(crate) fn first_pipeline<W: Words>(
     requires plan { IsLawful given.now.schedule }
     requires sound { IsSound (run_for W.moves given.now) live }
     ensures behind { IfOk result (λ s.
-        IsBehind (run_for W.moves given.now) (no_turn (standing_of live)) s) }
+        IsAfter (run_for W.moves given.now) (no_turn (standing_of live)) s) }
     ensures told { IfOk result (λ s.
         (s.ahead.items ≡ []) × (s.owner.swaps.items ≡ []) × (s.owner.state ≡ live) ×
         (s.owner.redone ≡ 0)) }
@@ -79,8 +84,12 @@ pub(crate) fn first_pipeline<W: Words>(
     Ok(Pipeline {
         owner,
         ahead: Vec::new(alloc),
+        foreseen: Vec::new(alloc),
         base,
-        read: 0,
+        ready: Ready {
+            words: [[0u32; 4]; AT_ONCE],
+            read: 0,
+        },
     })
 }
 
@@ -92,48 +101,25 @@ pub(crate) fn reserve(owner: &mut Owner, moves: u64) -> Result<(), AllocError>
     ensures stands { standing_of owner.new.state ≡ standing_of owner.old.state }
     ensures redone { owner.new.redone ≡ owner.old.redone }
     ensures stamps { owner.new.stamps ≡ owner.old.stamps }
-    ensures room { OnOk result (HasRoom owner.new moves) }
+    ensures room { OnOk result (HasRoom true owner.new moves) }
 {
     reserve_numbers(&mut owner.state.accepted, moves as usize)?;
     owner.swaps.reserve(moves as usize)?;
     Ok(())
 }
 
-/// Ends a turn for which memory ran out before its first move. Nothing is judged ahead afterwards.
+/// Ends a turn that makes no move: none is left, or memory ran out before the first one. Nothing is judged ahead afterwards.
 pub(crate) fn cut_turn<W: Words>(_given: &Given<'_, W>, pipeline: &mut Pipeline)
-    ensures cut { (t : LastTurn) → IsBehind (run_for W.moves _given.now) t pipeline.old →
-        HasTurned (run_for W.moves _given.now) t pipeline.old 0 0 pipeline.new }
-    ensures done { pipeline.new.owner.state ≡ pipeline.old.owner.state }
+    ensures gone { (t : LastTurn) →
+        IsAtTurn (run_for W.moves _given.now) t pipeline.old.owner
+        (record { base = pipeline.old.base; moves = length pipeline.old.ahead.items }) →
+        HasGone (run_for W.moves _given.now) t pipeline.old.owner 0 0 pipeline.new.owner
+        (record { base = pipeline.new.base; moves = 0 }) }
+    ensures same { pipeline.new.owner.state ≡ pipeline.old.owner.state }
+    ensures none { (pipeline.new.ahead.items ≡ []) × (pipeline.new.foreseen.items ≡ []) }
 {
     pipeline.base = pipeline.owner.state.done;
     pipeline.owner.swaps.clear();
     pipeline.ahead.clear();
-}
-
-/// Makes a turn of a run that is over, in which no move is left.
-pub(crate) fn idle_turn<W: Words>(
-    given: &Given<'_, W>,
-    pipeline: &mut Pipeline,
-    _batch: u64,
-) -> Result<(), AllocError>
-    requires behind { (t : LastTurn) × IsBehind (run_for W.moves given.now) t pipeline.old }
-    requires over { pipeline.old.owner.state.ended ≡ true }
-    ensures turned { TurnsOn (run_for W.moves given.now) _batch pipeline.old pipeline.new result }
-{
-    cut_turn(given, pipeline);
-    Ok(())
-}
-
-/// Ends a turn that has no memory for its crew, in a run that is not over. No move is made, and nothing is judged ahead afterwards.
-pub(crate) fn refused_turn<W: Words>(
-    given: &Given<'_, W>,
-    pipeline: &mut Pipeline,
-    _batch: u64,
-) -> Result<(), AllocError>
-    requires behind { (t : LastTurn) × IsBehind (run_for W.moves given.now) t pipeline.old }
-    requires going { pipeline.old.owner.state.ended ≡ false }
-    ensures turned { TurnsOn (run_for W.moves given.now) _batch pipeline.old pipeline.new result }
-{
-    cut_turn(given, pipeline);
-    Err(AllocError)
+    pipeline.foreseen.clear();
 }

@@ -12,7 +12,7 @@ ghost use Rattle.fab_commit.specs.Run.Commits.{IsAdvanced, IsSound, heat_of, run
 use crate::run::numbers::note;
 use fab_arch::Grid;
 use fab_cost::{EdgeBoxes, WireCost};
-use fab_move::{Decision, Verdict, View, decide, judge, weigh};
+use fab_move::{Decision, Verdict, View, judge, weigh};
 use fab_net::Design;
 use fab_sched::{Schedule, Stage};
 use fab_site::{Fixed, Placement, Swap, Words};
@@ -264,19 +264,8 @@ pub(crate) fn judge_on<W: Words>(
     judge(given.alloc, &view_of(given, state), number)
 }
 
-/// Decides a move of the running stage on the current placement: the result of [`judge_on`] without the footprint. Allocates nothing.
-pub(crate) fn decide_on<W: Words>(given: &Given<'_, W>, state: &State, number: u64) -> Decision
-    requires sound { IsSound (run_for W.moves given.now) state.now }
-    requires going { state.now.ended ≡ false }
-    ensures lawful { (s : Swap) → result.swap ≡ Some s →
-        IsSwapOf given.now.grid.now state.now.placement.sites s }
-    ensures decides { IsDecision result
-        (judged_here (run_for W.moves given.now) (standing_of state.now) number) }
-{
-    decide(&view_of(given, state), number)
-}
-
-/// Decides a move as [`decide_on`] does, from its words.
+/// Decides a move of the running stage on the current placement, from its words: the result of [`judge_on`] without the footprint. Allocates
+/// nothing.
 #[inline(always)]
 pub(crate) fn decide_by<W: Words>(
     given: &Given<'_, W>,

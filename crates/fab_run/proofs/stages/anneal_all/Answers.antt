@@ -112,7 +112,7 @@ loop-stage-smaller g c =
     let cooling = subst (λ p. IsCooling p.cooling) (sym c.loop-stage.invariant.same.plan) c.requires.plan.cooling in
     let pos = left_there r a.standing c.in-Some.stage c.in-Some.ensures one in
     let colder = colder_by_stage r a.standing (moves_left r a.standing) cooling pos refl in
-    subst (λ s. warmth s.heat < warmth a.standing.heat) (sym c.in_ok-line.ensures.stands) colder
+    subst (λ s. warmth s.heat < warmth a.standing.heat) (sym c.in_ok-line.ensures.made.stands) colder
 
 pub loop-stage-preserved : goal.loop-stage-preserved
 loop-stage-preserved g c =
@@ -121,14 +121,15 @@ loop-stage-preserved g c =
     let y = c.loop-stage.anneal.standing in
     let z = c.end_stage.new.anneal.standing in
     let inv = c.loop-stage.invariant in
-    let made = c.in_ok-line.ensures in
+    let lined = c.in_ok-line.ensures in
+    let made = lined.made in
     let same = same_run g.V.Words.moves c.args.anneal.now c.loop-stage.anneal inv.same in
     let n = y.done - x.done in
     let m = moves_left r y in
     let stands : z ≡ from r y m = made.stands ∙ (λ i. from (same i) y (moves_left (same i) y)) in
     let accepted = made.accepted ∙ (λ i. c.loop-stage.anneal.accepted ++ accepted_among (same i) y (moves_left (same i) y)) in
-    let costs = made.costs ∙ (λ i. c.loop-stage.costs.items ++ stage_costs (same i) y (moves_left (same i) y)) in
-    let line = c.deref.ensures.value ∙ made.line ∙ (λ i. stage_lines (same i) y (moves_left (same i) y)) in
+    let costs = lined.costs ∙ (λ i. c.loop-stage.costs.items ++ stage_costs (same i) y (moves_left (same i) y)) in
+    let line = c.deref.ensures.value ∙ lined.line ∙ (λ i. stage_lines (same i) y (moves_left (same i) y)) in
     let told = subst (λ l. Appends (g.W.Sink.contents c.loop-stage.report) (g.W.Sink.contents c.write_whole.new.out) l) line c.in_ok-write_whole.ensures.whole in
     let on = told_on r x y z c.args.anneal.now.accepted c.loop-stage.anneal.accepted c.end_stage.new.anneal.accepted c.args.costs.now.items c.loop-stage.costs.items c.end_stage.new.costs.items (g.W.Sink.contents c.args.report.now) (g.W.Sink.contents c.loop-stage.report) (g.W.Sink.contents c.write_whole.new.out) n m inv.at stands accepted costs told in
     let done : z.done ≡ y.done + m = made.done ∙ (λ i. y.done + moves_left (same i) y) in
@@ -140,11 +141,11 @@ loop-stage-preserved g c =
     let same_left : moves_left (run_of g.V.Words.moves c.loop-stage.anneal) y ≡ m = (λ i. moves_left (same i) y) in
     let count : n + m ≡ z.done - x.done = omega (arith, done, low) in
     let before = c.args.shower.now.shown in
-    let leads = subst (λ q. LeadsShown q c.args.pace.now.batch y z c.loop-stage.shower.shown c.end_stage.new.shower.shown) same made.shown in
+    let leads = subst (λ q. LeadsShown q c.args.pace.now.batch y z c.loop-stage.shower.shown c.end_stage.new.shower.shown) same (made.shown refl) in
     record {
-      dial = made.dial ∙ inv.dial;
+      dial = lined.dial ∙ inv.dial;
       shown = leads.on x before inv.shown;
-      turns = λ e. by_turns_then r c.args.pace.now.batch c.args.anneal.now c.loop-stage.anneal c.end_stage.new.anneal (inv.turns e) (subst (λ q. LeadsByTurns q c.args.pace.now.batch c.loop-stage.anneal c.end_stage.new.anneal) same (made.turns e));
+      turns = λ e. by_turns_then r c.args.pace.now.batch c.args.anneal.now c.loop-stage.anneal c.end_stage.new.anneal (inv.turns e) (subst (λ q. LeadsByTurns q c.args.pace.now.batch c.loop-stage.anneal c.end_stage.new.anneal) same (made.turns e refl));
       same = same_twice c.args.anneal.now c.loop-stage.anneal c.end_stage.new.anneal inv.same made.same;
       at = subst (λ k. HasTold r x z c.args.anneal.now.accepted c.end_stage.new.anneal.accepted c.args.costs.now.items c.end_stage.new.costs.items (g.W.Sink.contents c.args.report.now) (g.W.Sink.contents c.write_whole.new.out) k) count on;
       done = omega (arith, done, low);
@@ -152,8 +153,8 @@ loop-stage-preserved g c =
       sound = c.in_ok-write_whole.ensures.sound ∙ inv.sound;
     }
 
-pub returns-in_err-make_part-clause-cut : goal.returns-in_err-make_part-clause-cut
-returns-in_err-make_part-clause-cut g c =
+pub returns-in_err-make_moves-clause-cut : goal.returns-in_err-make_moves-clause-cut
+returns-in_err-make_moves-clause-cut g c =
     let r = run_of g.V.Words.moves c.args.anneal.now in
     let x = c.args.anneal.now.standing in
     let n = c.loop-stage.anneal.standing.done - x.done in
@@ -168,9 +169,9 @@ returns-in-Some-moves_before-clause-made g c =
     let r = run_of g.V.Words.moves c.args.anneal.now in
     let x = c.args.anneal.now.standing in
     let y = c.loop-stage.anneal.standing in
-    let z = c.make_part.new.anneal.standing in
+    let z = c.make_moves.new.anneal.standing in
     let inv = c.loop-stage.invariant in
-    let made = c.in_ok-make_part.ensures in
+    let made = c.in_ok-make_moves.ensures.made in
     let same = same_run g.V.Words.moves c.args.anneal.now c.loop-stage.anneal inv.same in
     let n = y.done - x.done in
     let rest = c.in-Some-moves_before.rest in
@@ -183,7 +184,7 @@ returns-in-Some-moves_before-clause-made g c =
     let accepted = made.accepted ∙ (λ i. c.loop-stage.anneal.accepted ++ accepted_among (same i) y rest) in
     let costs : c.loop-stage.costs.items ≡ c.loop-stage.costs.items ++ stage_costs r y rest = sym (append-nil c.loop-stage.costs.items) ∙ ap (λ l. c.loop-stage.costs.items ++ l) (sym (no_costs r y rest within)) in
     let told = subst (λ l. Appends (g.W.Sink.contents c.loop-stage.report) (g.W.Sink.contents c.loop-stage.report) l) (sym (no_lines r y rest within)) (appends_none (g.W.Sink.contents c.loop-stage.report)) in
-    let on = told_on r x y z c.args.anneal.now.accepted c.loop-stage.anneal.accepted c.make_part.new.anneal.accepted c.args.costs.now.items c.loop-stage.costs.items c.loop-stage.costs.items (g.W.Sink.contents c.args.report.now) (g.W.Sink.contents c.loop-stage.report) (g.W.Sink.contents c.loop-stage.report) n rest inv.at stands accepted costs told in
+    let on = told_on r x y z c.args.anneal.now.accepted c.loop-stage.anneal.accepted c.make_moves.new.anneal.accepted c.args.costs.now.items c.loop-stage.costs.items c.loop-stage.costs.items (g.W.Sink.contents c.args.report.now) (g.W.Sink.contents c.loop-stage.report) (g.W.Sink.contents c.loop-stage.report) n rest inv.at stands accepted costs told in
     let low = inv.done in
     let at = c.done.ensures.value in
     let done = made.done in
@@ -197,7 +198,7 @@ returns-in-Some-moves_before-clause-made g c =
       accepted = on.numbers;
       costs = on.values;
       told = on.told;
-      counted = λ e. counted_then r c.args.pace.now.batch c.args.anneal.now c.loop-stage.anneal c.make_part.new.anneal (inv.turns e) (subst (λ q. AreCountedOn q c.args.pace.now.batch c.loop-stage.anneal c.make_part.new.anneal) same (made.counted e));
+      counted = λ e. counted_then r c.args.pace.now.batch c.args.anneal.now c.loop-stage.anneal c.make_moves.new.anneal (inv.turns e) (subst (λ q. AreCountedOn q c.args.pace.now.batch c.loop-stage.anneal c.make_moves.new.anneal) same (made.counted e));
     }
 
 pub returns-clause-shown : goal.returns-clause-shown
@@ -210,19 +211,19 @@ returns-in-Some-moves_before-clause-shown g c =
     let inv = c.loop-stage.invariant in
     let same = same_run g.V.Words.moves c.args.anneal.now c.loop-stage.anneal inv.same in
     let y = c.loop-stage.anneal.standing in
-    let z = c.make_part.new.anneal.standing in
-    let ends = subst (λ q. EndsShown q c.args.pace.now.batch y z c.loop-stage.shower.shown c.make_part.new.shower.shown) same c.in_ok-make_part.ensures.shown in
+    let z = c.make_moves.new.anneal.standing in
+    let ends = subst (λ q. EndsShown q c.args.pace.now.batch y z c.loop-stage.shower.shown c.make_moves.new.shower.shown) same c.in_ok-make_moves.ensures.made.ends in
     ends.on c.args.anneal.now.standing c.args.shower.now.shown inv.shown
 
-pub returns-in_err-make_part-clause-shown_cut : goal.returns-in_err-make_part-clause-shown_cut
-returns-in_err-make_part-clause-shown_cut g c =
+pub returns-in_err-make_moves-clause-shown_cut : goal.returns-in_err-make_moves-clause-shown_cut
+returns-in_err-make_moves-clause-shown_cut g c =
     let r = run_of g.V.Words.moves c.args.anneal.now in
     let x = c.args.anneal.now.standing in
     let y = c.loop-stage.anneal.standing in
     let inv = c.loop-stage.invariant in
     let same = same_run g.V.Words.moves c.args.anneal.now c.loop-stage.anneal inv.same in
     let rest = c.in-Some-moves_before.rest in
-    let part = subst (λ q. LeadsShownWithin q c.args.pace.now.batch y rest c.loop-stage.shower.shown c.make_part.new.shower.shown) same c.in_err-make_part.ensures.shown_cut in
+    let part = subst (λ q. LeadsShownWithin q c.args.pace.now.batch y rest c.loop-stage.shower.shown c.make_moves.new.shower.shown) same c.in_err-make_moves.ensures.made.shown_cut in
     let at = c.done.ensures.value in
     let low = inv.done in
     let within : IsWithin r x c.args.pace.now.stop (y.done - x.done + rest) =
@@ -231,7 +232,7 @@ returns-in_err-make_part-clause-shown_cut g c =
     let one : c.done.result + rest ≡ x.done + m = (let k = both in cc) in
     omega (arith, one, at, low)
     ) in
-    let fact = begun_within r c.args.pace.now.batch x c.args.shower.now.shown y c.loop-stage.shower.shown rest c.args.pace.now.stop c.make_part.new.shower.shown inv.shown part within in
+    let fact = begun_within r c.args.pace.now.batch x c.args.shower.now.shown y c.loop-stage.shower.shown rest c.args.pace.now.stop c.make_moves.new.shower.shown inv.shown part within in
     search (rules, fact)
 
 pub returns-in_err-line-clause-shown_cut : goal.returns-in_err-line-clause-shown_cut
@@ -243,7 +244,7 @@ returns-in_err-line-clause-shown_cut g c =
     let same = same_run g.V.Words.moves c.args.anneal.now c.loop-stage.anneal inv.same in
     let m = moves_left r y in
     let n = y.done - x.done in
-    let part = subst (λ q. LeadsShownWithin q c.args.pace.now.batch y (moves_left q y) c.loop-stage.shower.shown c.end_stage.new.shower.shown) same c.in_err-line.ensures.shown_cut in
+    let part = subst (λ q. LeadsShownWithin q c.args.pace.now.batch y (moves_left q y) c.loop-stage.shower.shown c.end_stage.new.shower.shown) same c.in_err-line.ensures.made.shown_cut in
     let moves_are = c.requires.moves ∙ sym (ap (λ p. p.moves) inv.same.plan) in
     let done = c.done.ensures.value in
     let low = inv.done in
@@ -265,8 +266,8 @@ returns-in_err-write_whole-clause-shown_cut g c =
     let same = same_run g.V.Words.moves c.args.anneal.now c.loop-stage.anneal inv.same in
     let m = moves_left r y in
     let n = y.done - x.done in
-    let leads = subst (λ q. LeadsShown q c.args.pace.now.batch y z c.loop-stage.shower.shown c.end_stage.new.shower.shown) same c.in_ok-line.ensures.shown in
-    let made : z.done ≡ y.done + m = c.in_ok-line.ensures.done ∙ (λ i. y.done + moves_left (same i) y) in
+    let leads = subst (λ q. LeadsShown q c.args.pace.now.batch y z c.loop-stage.shower.shown c.end_stage.new.shower.shown) same (c.in_ok-line.ensures.made.shown refl) in
+    let made : z.done ≡ y.done + m = c.in_ok-line.ensures.made.done ∙ (λ i. y.done + moves_left (same i) y) in
     let part : LeadsShownWithin r c.args.pace.now.batch y m c.loop-stage.shower.shown c.end_stage.new.shower.shown = record { there = z; near = omega (arith, made); leads = leads } in
     let moves_are = c.requires.moves ∙ sym (ap (λ p. p.moves) inv.same.plan) in
     let done = c.done.ensures.value in
@@ -278,3 +279,11 @@ returns-in_err-write_whole-clause-shown_cut g c =
     λ j here going. (let before = inv.passed j here in let there : c.args.pace.now.stop ≡ Some (c.done.result + (j - n)) = here ∙ ap (λ i. Some i) (omega (arith, done, before, low)) in let far = none (j - n) there in omega (arith, before, far, left, same_left)) in
     let fact = begun_within r c.args.pace.now.batch x c.args.shower.now.shown y c.loop-stage.shower.shown m c.args.pace.now.stop c.end_stage.new.shower.shown inv.shown part within in
     search (rules, fact)
+
+pub make_moves-requires-clause-some : goal.make_moves-requires-clause-some
+make_moves-requires-clause-some g c κs within =
+    let y = c.loop-stage.anneal.standing in
+    let moves_are = c.requires.moves ∙ sym (ap (λ p. p.moves) c.loop-stage.invariant.same.plan) in
+    let left = left_is (run_of g.V.Words.moves c.loop-stage.anneal) y c.in-Some.stage c.args.pace.now.moves c.in-Some.ensures moves_are in
+    let less = c.in-Some-moves_before.ensures.1 in
+    (omega (arith, less, left), omega (arith, less, left))

@@ -3,7 +3,7 @@ use Rattle.std.specs.List.{list_any}
 use Rattle.fab_net.specs.declared.netlist_types.NetId.{NetId}
 use Rattle.fab_net.specs.Netlist.{nets_of}
 use Rattle.fab_move.specs.Judge.{block_marks, has_mark}
-use Rattle.fab_commit.proofs.ModelLemmas.Listing.{block_among, net_among, place_among}
+use Rattle.fab_move.proofs.Marked.{block_among, net_among, place_among}
 use Rattle.fab_commit.proofs.model.clashes.is_of_block.Goals as goal
 
 pub returns-in-Block : goal.returns-in-Block

@@ -1,4 +1,5 @@
 use Rattle.std.proofs.Common.{◌≡◌, sym, ap, subst, ◌∙◌, refl}
+use Rattle.std.proofs.lemmas.Bool.{false≢true}
 use Rattle.std.specs.Prelude.{nat_lt, slice_index}
 use Rattle.std.specs.List.{list_any}
 use Rattle.fab_move.specs.Judge.{IsDecision, Judged, footprint, judged, judged_as, problem}
@@ -6,9 +7,10 @@ use Rattle.fab_move.specs.Propose.{proposal}
 use Rattle.fab_move.proofs.Judgements.{decided_on, judged_on}
 use Rattle.fab_commit.specs.Serial.{or_zero}
 use Rattle.fab_commit.specs.Run.Commits.{heat_of}
-use Rattle.fab_commit.specs.Run.StampTables.{kept_stamp}
+use Rattle.fab_move.specs.StampTables.{kept_stamp}
 use Rattle.fab_commit.proofs.ModelLemmas.Noninterference.{judged_as-footprint}
-use Rattle.fab_commit.proofs.RunLemmas.LargeNets.{none_kept}
+use Rattle.fab_move.proofs.KeptLists.{none_kept}
+use Rattle.fab_commit.proofs.RunLemmas.Making.{is_off}
 use Rattle.fab_commit.proofs.RunLemmas.Owning.{within_of}
 use Rattle.fab_commit.proofs.run.alone.decided_alone.Goals as goal
 
@@ -32,7 +34,7 @@ pub is_touched-again-requires-clause-nets : goal.is_touched-again-requires-claus
 is_touched-again-requires-clause-nets g c s e = none_kept c.args.given.now.design.now s c.none-nets.result c.none-nets.ensures
 
 pub returns-clause-again : goal.returns-clause-again
-returns-clause-again g c =
+returns-clause-again g c e =
     let given = c.args.given.now in
     let state = c.args.owner.now.state in
     let p = problem given.design.now given.grid.now given.fixed (g.W.Words.moves given.words) in
@@ -66,3 +68,12 @@ returns-clause-decides g c =
     decided_on p state.placement.sites state.done state.stage.t state.stage.range (p.words state.done) w q d refl (λ i. slice_index (c.asked_again-used.ensures i) 3) is decided in
     let hot : or_zero (heat_of state.ended state.stage.t) ≡ state.stage.t = ap (λ b. or_zero (heat_of b state.stage.t)) c.requires.going in
     subst (λ t. IsDecision d (judged p state.placement.sites state.done t state.stage.range)) (sym hot) cold
+
+pub returns-then-not-this-clause-again : goal.returns-then-not-this-clause-again
+returns-then-not-this-clause-again g c e = absurd (false≢true (sym (is_off g.row.COUNTED c.if-not-this.true) ∙ e))
+
+pub returns-then-not-this-clause-lawful : goal.returns-then-not-this-clause-lawful
+returns-then-not-this-clause-lawful g c = c.decide_by.ensures.lawful
+
+pub returns-then-not-this-clause-decides : goal.returns-then-not-this-clause-decides
+returns-then-not-this-clause-decides g c = c.decide_by.ensures.decides

@@ -1,70 +1,139 @@
-use Rattle.std.proofs.Common.{◌≡◌, ◌+◌, ◌-◌, ◌≤◌, length, refl, sym, ap, subst, ◌∙◌, arith}
-use Rattle.fab_commit.specs.Serial.{moves_left}
-use Rattle.fab_commit.specs.Run.Commits.{run_for, standing_of}
-use Rattle.fab_commit.specs.Run.Owners.{AreAnswers}
+use Rattle.std.proofs.Common.{◌≡◌, ◌-◌, [], length, false, refl, sym, ap, subst, ◌∙◌, arith}
+use Rattle.std.proofs.lemmas.Bool.{false≢true}
+use Rattle.std.proofs.lemmas.Result.{err_from_is_err_and}
+use Rattle.std.specs.Prelude.{is_some, true}
+use Rattle.fab_commit.specs.declared.run.alone.OnBase.{OnBase}
 use Rattle.fab_commit.specs.declared.run.pipeline.Pipeline.{Pipeline}
-use Rattle.fab_commit.specs.Run.Pipelines.{HasTurned, IsBehind}
+use Rattle.fab_commit.specs.Serial.{Standing, moves_left}
+use Rattle.fab_commit.specs.Run.Commits.{heat_of, run_for, standing_of}
+use Rattle.fab_commit.specs.Run.Foreseen.{AreForeseen}
+use Rattle.fab_commit.specs.Run.Pipelines.{AreJudged, HasTurned, IsAfter}
 use Rattle.fab_commit.specs.Model.TurnEvents.{LastTurn, next_turn, stands}
-use Rattle.fab_commit.proofs.RunLemmas.Pipelining.{due_kept, made_by, no_answers, turned}
+use Rattle.fab_commit.proofs.ModelLemmas.Happening.{done_fits}
+use Rattle.fab_commit.proofs.RunLemmas.InTurns.{at_turn_after, turned, turned_cut}
+use Rattle.fab_commit.proofs.RunLemmas.Annealing.{some_left, some_moves}
+use Rattle.fab_commit.proofs.RunLemmas.Followed.{IsPostOf, may_follow}
 use Rattle.fab_commit.proofs.run.crew_turn.make_turn.Goals as goal
 
-pub make_moves-judged-requires-clause-due : goal.make_moves-judged-requires-clause-due
-make_moves-judged-requires-clause-due g c _ _ =
+pub turn_of-turned-requires-clause-at_turn : goal.turn_of-turned-requires-clause-at_turn
+turn_of-turned-requires-clause-at_turn g c κs within =
     let r = run_for g.W.Words.moves c.args.given.now in
-    due_kept r c.requires.behind.0 c.args.state.now _ c.min-moves.result _ c.requires.behind.1 refl refl c.truncate.ensures.items
+    let s = c.args.state.now in
+    let long = c.len.ensures in
+    let kept = s.ahead.ok.0 in
+    let all : c.len.result ≡ length s.ahead.items = omega (arith, long, kept) in
+    let ahead : OnBase = record { base = s.base; moves = c.len.result } in
+    let t = c.requires.behind.0 in
+    let b = c.requires.behind.1 in
+    (t, at_turn_after r t s ahead b refl all, ((λ _. c.requires.tied), (λ e. absurd (false≢true e)), (λ e. absurd (false≢true e))), subst (AreForeseen r t.start s.owner.state.done) (sym c.deref.ensures.value) b.judged.foreseen_are)
+
+pub turn_of-turned-requires-clause-few : goal.turn_of-turned-requires-clause-few
+turn_of-turned-requires-clause-few g c κs within =
+    let long = c.len.ensures in
+    let kept = c.args.state.now.ahead.ok.0 in
+    let same = c.requires.behind.1.judged.long in
+    let seen = ap (λ l. length l) c.deref.ensures.value in
+    omega (arith, long, kept, same, seen)
+
+pub judged_ahead-requires-clause-may : goal.judged_ahead-requires-clause-may
+judged_ahead-requires-clause-may g c =
+    let r = run_for g.W.Words.moves c.args.given.now in
+    let s = c.args.state.now.owner.state in
+    let x = standing_of s in
+    let p = c.post_of-last in
+    let is : IsPostOf s [] p.result = record { swaps_are = p.ensures.swaps ∙ c.new.ensures.items; stage = p.ensures.stage; rest = p.ensures.rest; cost = p.ensures.cost } in
+    (x, may_follow r x s [] p.result c.requires.behind.1.at_turn.owned.sound refl is, c.in-Ok.ensures.tied)
+
+pub judged_ahead-requires-clause-limits : goal.judged_ahead-requires-clause-limits
+judged_ahead-requires-clause-limits g c =
+    let r = run_for g.W.Words.moves c.args.given.now in
+    let s = c.args.state.now in
+    let long = c.len.ensures in
+    let kept = s.ahead.ok.0 in
+    let all : c.len.result ≡ length s.ahead.items = omega (arith, long, kept) in
+    let ahead : OnBase = record { base = s.base; moves = c.len.result } in
+    let t = c.requires.behind.0 in
+    let b = c.requires.behind.1 in
+    let gone = c.in-Ok.ensures.counted refl t (at_turn_after r t s ahead b refl all) in
+    let now = c.turn_of-turned.new.owner.state in
+    let few = done_fits r now now.ended b.at_turn.plan gone.at_turn.owned.sound refl in
+    let many = gone.at_turn.many in
+    let batch = c.requires.batch.1 in
+    (grind (arith, few), omega (arith, many, batch))
 
 pub returns-in-Err : goal.returns-in-Err
 returns-in-Err g c =
     let r = run_for g.W.Words.moves c.args.given.now in
     let s = c.args.state.now in
-    let within = c.make_moves-judged.ensures.within in
-    let n = c.make_moves-judged.new.state.owner.state.done - s.owner.state.done in
-    let moves = c.min-moves.ensures in
-    let left = c.moves_left-left.ensures in
-    let low : n ≤ c.min-moves.result = omega (arith, within) in
-    let now : Pipeline = record { owner = c.make_moves-judged.new.state.owner; ahead = c.clear-2.new.self; base = s.owner.state.done; read = c.make_moves-judged.new.state.read } in
-    let some = c.in-Err.ensures.some in
-    let ahead = c.min.ensures in
-    let all : (t : LastTurn) → IsBehind r t s → HasTurned r t s n 0 now = λ t b.
-    turned r t s now _ c.min-moves.result n 0 c.truncate.new.self.items b (record {
-      state = refl;
-      cleared = c.clear.ensures.items;
-      stamps = refl;
-      redone = refl;
-      made = c.make_moves-judged.ensures.made;
-      base_is = refl;
-      many = ap length c.clear-2.ensures.items;
-      answers_are = no_answers r (standing_of s.owner.state) c.make_moves-judged.new.state.owner.state.done _ c.clear-2.ensures.items;
-      left = omega (arith, low, moves, left);
-    }) low c.truncate.ensures.items c.make_moves-judged.ensures.redone in
-    record { turned = record { within = (within.0, omega (arith, within, moves, left)); ok = tt; err = all; some = omega (arith, some, moves, left, ahead) } }
+    let long = c.len.ensures in
+    let kept = s.ahead.ok.0 in
+    let all : c.len.result ≡ length s.ahead.items = omega (arith, long, kept) in
+    let ahead : OnBase = record { base = s.base; moves = c.len.result } in
+    let now : Pipeline = record { owner = c.turn_of-turned.new.owner; ahead = c.clear.new.self; foreseen = c.clear-2.new.self; base = s.owner.state.done; ready = c.turn_of-turned.new.ready } in
+    let t0 = c.requires.behind.0 in
+    let b0 = c.requires.behind.1 in
+    let done = (c.in-Err.ensures.counted refl t0 (at_turn_after r t0 s ahead b0 refl all)).further.done in
+    let none : 0 ≡ now.owner.state.done - s.owner.state.done = omega (arith, done) in
+    let hot : is_some (heat_of s.owner.state.ended s.owner.state.stage.t) ≡ true = ap (λ e. is_some (heat_of e s.owner.state.stage.t)) c.requires.going in
+    record {
+      within = (omega (arith, done), omega (arith, done));
+      ok = tt;
+      err = λ (t : LastTurn) (b : IsAfter r t s).
+          let gone = c.in-Err.ensures.counted refl t (at_turn_after r t s ahead b refl all) in
+          subst (λ n. HasTurned r t s n 0 now) none (turned_cut r t s now _ 0 0 gone refl c.clear.ensures.items c.clear-2.ensures.items);
+      some = some_left r (standing_of s.owner.state) (some_moves r t0 s b0) hot;
+    }
 
-pub returns-in-Ok : goal.returns-in-Ok
-returns-in-Ok g c =
+pub returns-in_err-judged : goal.returns-in_err-judged
+returns-in_err-judged g c =
     let r = run_for g.W.Words.moves c.args.given.now in
     let s = c.args.state.now in
-    let now = c.make_moves-judged.new.state.owner in
-    let ok = c.in-Ok.ensures.ok in
-    let within = c.make_moves-judged.ensures.within in
-    let moves = c.min-moves.ensures in
-    let ahead = c.min.ensures in
-    let left = c.moves_left-left.ensures in
-    let number : s.owner.state.done + c.min-moves.result ≡ now.state.done = sym ok in
-    let all = λ (t : LastTurn) (b : IsBehind r t s).
-    let next = next_turn r c.args.plan.now.batch t in
-    let same : moves_left r (standing_of s.owner.state) ≡ moves_left r (stands r t) = ap (moves_left r) b.here in
-    let made_is : c.min-moves.result ≡ next.made = omega (arith, moves, left, same) in
-    let ahead_is : c.min.result ≡ next.ahead = omega (arith, ahead, moves, left, same) in
-    let n : now.state.done - s.owner.state.done ≡ next.made = omega (arith, ok, made_is) in
-    turned r t s _ _ c.min-moves.result next.made next.ahead c.truncate.new.self.items b (record {
-      state = refl;
-      cleared = c.clear.ensures.items;
-      stamps = refl;
-      redone = refl;
-      made = made_by r _ now _ next.made n c.make_moves-judged.ensures.made;
-      base_is = refl;
-      many = c.in-Ok.ensures.many ∙ ahead_is;
-      answers_are = subst (λ k. AreAnswers r (standing_of s.owner.state) k c.in-Ok.ahead.items) number c.in-Ok.ensures.answers;
-      left = omega (arith, made_is, moves, left, same);
-    }) (omega (arith, made_is)) c.truncate.ensures.items c.make_moves-judged.ensures.redone in
-    record { turned = record { within = (within.0, omega (arith, within, moves, left)); ok = all; err = tt; some = tt } }
+    let long = c.len.ensures in
+    let kept = s.ahead.ok.0 in
+    let all : c.len.result ≡ length s.ahead.items = omega (arith, long, kept) in
+    let ahead : OnBase = record { base = s.base; moves = c.len.result } in
+    let now : Pipeline = record { owner = c.turn_of-turned.new.owner; ahead = c.clear.new.self; foreseen = c.clear-2.new.self; base = s.owner.state.done; ready = c.turn_of-turned.new.ready } in
+    let t0 = c.requires.behind.0 in
+    let b0 = c.requires.behind.1 in
+    let first = c.in-Ok.ensures.counted refl t0 (at_turn_after r t0 s ahead b0 refl all) in
+    let done = first.further.done in
+    let there : moves_left r (standing_of s.owner.state) ≡ moves_left r (stands r t0) = ap (moves_left r) b0.at_turn.led.here in
+    let hot : is_some (heat_of s.owner.state.ended s.owner.state.stage.t) ≡ true = ap (λ e. is_some (heat_of e s.owner.state.stage.t)) c.requires.going in
+    let p = err_from_is_err_and c.from_residual.result c.from_residual.ensures.1 in
+    rw (p.1) (record {
+      within = (omega (arith, done), omega (arith, done, there));
+      ok = tt;
+      err = λ (t : LastTurn) (b : IsAfter r t s).
+          let gone = c.in-Ok.ensures.counted refl t (at_turn_after r t s ahead b refl all) in
+          let made = gone.further.done in
+          let n : (next_turn r c.args.plan.now.batch t).made ≡ now.owner.state.done - s.owner.state.done = omega (arith, made) in
+          let base = gone.at_turn.led.base_is ∙ sym (ap (λ (x : Standing). x.done) b.at_turn.led.here) in
+          subst (λ n. HasTurned r t s n 0 now) n (turned_cut r t s now c.in-Ok.ahead (next_turn r c.args.plan.now.batch t).made (next_turn r c.args.plan.now.batch t).ahead gone base c.clear.ensures.items c.clear-2.ensures.items);
+      some = some_left r (standing_of s.owner.state) (some_moves r t0 s b0) hot;
+    })
+
+pub returns : goal.returns
+returns g c =
+    let r = run_for g.W.Words.moves c.args.given.now in
+    let s = c.args.state.now in
+    let long = c.len.ensures in
+    let kept = s.ahead.ok.0 in
+    let all : c.len.result ≡ length s.ahead.items = omega (arith, long, kept) in
+    let ahead : OnBase = record { base = s.base; moves = c.len.result } in
+    let now : Pipeline = record { owner = c.turn_of-turned.new.owner; ahead = c.in_ok-judged.judged.answers; foreseen = c.in_ok-judged.judged.foreseen; base = s.owner.state.done; ready = c.turn_of-turned.new.ready } in
+    let t0 = c.requires.behind.0 in
+    let b0 = c.requires.behind.1 in
+    let first = c.in-Ok.ensures.counted refl t0 (at_turn_after r t0 s ahead b0 refl all) in
+    let done = first.further.done in
+    let there : moves_left r (standing_of s.owner.state) ≡ moves_left r (stands r t0) = ap (moves_left r) b0.at_turn.led.here in
+    let judged = c.in_ok-judged.ensures.judged (standing_of s.owner.state) c.in-Ok.ensures.tied in
+    record {
+      within = (omega (arith, done), omega (arith, done, there));
+      ok = λ (t : LastTurn) (b : IsAfter r t s).
+          let gone = c.in-Ok.ensures.counted refl t (at_turn_after r t s ahead b refl all) in
+          let base = gone.at_turn.led.base_is ∙ sym (ap (λ (x : Standing). x.done) b.at_turn.led.here) in
+          turned r t s now c.in-Ok.ahead (next_turn r c.args.plan.now.batch t).made (next_turn r c.args.plan.now.batch t).ahead gone base (sym c.in_ok-judged.ensures.many)
+          (subst (λ x. AreJudged r x now.owner.state.done now.ahead.items now.foreseen.items) b.at_turn.led.here judged);
+      err = tt;
+      some = tt;
+    }

@@ -10,10 +10,11 @@ use Rattle.fab_move.specs.Accept.{is_accepted}
 use Rattle.fab_move.specs.declared.proposals.Proposal.TheVariants.{Move}
 use Rattle.fab_move.specs.Propose.{proposal}
 use Rattle.fab_commit.specs.Serial.{or_zero}
-use Rattle.fab_commit.specs.Model.Worlds.{IsBlock}
+use Rattle.fab_move.specs.StampTables.{IsBlock}
 use Rattle.fab_commit.specs.Run.Commits.{heat_of, run_for, standing_of}
-use Rattle.fab_commit.specs.Run.Foreseen.{AreKept, large_nets, swap_in}
-use Rattle.fab_commit.specs.Run.StampTables.{IsWithin}
+use Rattle.fab_move.specs.KeptNets.{AreKept, large_nets}
+use Rattle.fab_commit.specs.Run.Foreseen.{swap_in}
+use Rattle.fab_move.specs.StampTables.{IsWithin}
 use Rattle.fab_commit.proofs.RunLemmas.Foreseeing.{foreseen_by, foreseen_none, move_is}
 use Rattle.fab_commit.proofs.RunLemmas.Owning.{within_of}
 use Rattle.fab_commit.proofs.run.foreseen.foresee.Goals as goal

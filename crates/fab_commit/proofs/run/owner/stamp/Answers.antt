@@ -1,5 +1,5 @@
 use Rattle.std.proofs.Common.{◌≡◌, true, sym, ◌∙◌}
-use Rattle.fab_commit.specs.Run.StampTables.{kept_stamp}
+use Rattle.fab_move.specs.StampTables.{kept_stamp}
 use Rattle.fab_commit.proofs.RunLemmas.Owning.{stamped_now}
 use Rattle.fab_commit.proofs.run.owner.stamp.Goals as goal
 

@@ -1,4 +1,4 @@
-use Rattle.std.proofs.Common.{◌≡◌, to_z, of_z, w64, rules, sym, ap, ◌∙◌}
+use Rattle.std.proofs.Common.{◌≡◌, to_z, of_z, w64, rules, ap, ◌∙◌}
 use Rattle.fab_move.specs.declared.verdicts.Decision.{Decision}
 use Rattle.fab_commit.specs.Run.Commits.{run_for}
 use Rattle.fab_commit.proofs.run.verdicts.verdict_from.Goals as goal
@@ -19,7 +19,4 @@ returns g c = λ x f.
     let change = read ∙ ap (λ (d : Decision). d.delta) is ∙ f.decides.change in
     let accepted = ap (λ (d : Decision). d.accepted) is ∙ f.decides.accepted in
     let marks = c.in_ok-footprint.ensures ∙ f.marks in
-    record {
-      is = (λ i. record { worker = c.args.number; number = c.args.number; base = x.done; judged = record { swap = swap i; change = change i; accepted = accepted i; footprint = marks i } });
-      kind = λ s e. f.kind s (sym (ap (λ (d : Decision). d.swap) is) ∙ e);
-    }
+    (λ i. record { worker = c.args.number; number = c.args.number; base = x.done; judged = record { swap = swap i; change = change i; accepted = accepted i; footprint = marks i } })

@@ -23,7 +23,7 @@ pub returns-in-Ok : goal.returns-in-Ok
 returns-in-Ok g c =
     let live = c.args.live in
     let p = c.in_ok-pipeline.pipeline in
-    let stands = c.in_ok-pipeline.ensures.behind.here in
+    let stands = c.in_ok-pipeline.ensures.behind.at_turn.led.here in
     let told = c.in_ok-pipeline.ensures.told in
     let ahead = ap (map (verdict_of p.base)) told.0 in
     let given = c.in-Ok.ensures.ok in

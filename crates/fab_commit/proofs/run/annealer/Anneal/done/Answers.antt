@@ -10,4 +10,4 @@ returns-clause-lawful g c =
     let a = c.self.inside in
     let s = a.pipeline.owner.state in
     subst (λ m. IsStanding (run_of g.W.Words.moves m) m.standing) c.self.view_is
-    (standing_is (run_for g.W.Words.moves (arc_value a.given)) s s.ended c.self.invariant.0.1.owned.sound refl)
+    (standing_is (run_for g.W.Words.moves (arc_value a.given)) s s.ended c.self.invariant.0.1.at_turn.owned.sound refl)

@@ -1,20 +1,48 @@
-use Rattle.std.proofs.Common.{length, refl, subst}
+use Rattle.std.proofs.Common.{◌<◌, ◌≤◌, false, true, length, refl, sym, subst}
 use Rattle.std.specs.Arc.{arc_value}
-use Rattle.fab_commit.specs.declared.run.alone.Ahead.{Ahead}
+use Rattle.fab_commit.specs.declared.run.alone.OnBase.{OnBase}
 use Rattle.fab_commit.specs.declared.run.state.Given.{Given}
-use Rattle.fab_commit.specs.Run.Alone.{AreMadeAlone, IsMade, IsMadeByTurns, IsUnjudged}
-use Rattle.fab_commit.specs.Run.Commits.{run_for, standing_of}
-use Rattle.fab_commit.specs.Run.Pipelines.{HasTurn}
-use Rattle.fab_commit.specs.Run.Uncounted.{AreMadeUncounted}
-use Rattle.fab_commit.proofs.RunLemmas.Alone.{alone_behind}
-use Rattle.fab_commit.proofs.RunLemmas.Ended.{made_alone}
-use Rattle.fab_commit.proofs.RunLemmas.Further.{made_uncounted, since_further}
-use Rattle.fab_commit.proofs.RunLemmas.Since.{since_alone}
+use Rattle.fab_commit.specs.Run.Stages.{HasFinished, IsMade, IsMadeByTurns, MayFinish}
+use Rattle.fab_commit.specs.Serial.{moves_left}
+use Rattle.fab_commit.specs.Run.Commits.{run_for, run_of, standing_of}
+use Rattle.fab_commit.proofs.RunLemmas.InTurns.{at_turn_after}
+use Rattle.fab_commit.proofs.RunLemmas.Ended.{made_by_turns}
+use Rattle.fab_commit.proofs.RunLemmas.Further.{made_further, since_further}
 use Rattle.fab_commit.proofs.RunLemmas.Turned.{seen}
 use Rattle.fab_commit.proofs.run.annealer.Anneal.make_alone.Goals as goal
 
-pub invariant_of-self-2 : goal.invariant_of-self-2
-invariant_of-self-2 g c =
+pub invariant_of-self : goal.invariant_of-self
+invariant_of-self g c =
+    let a = c.self.inside in
+    let moves = g.W.Words.moves in
+    let s = a.pipeline in
+    let now = c.finish_alone.new.state in
+    let old = c.args.shower.now.shown in
+    let new = c.finish_alone.new.shower.shown in
+    let batch = c.args.plan.now.batch in
+    let h = subst (λ (v : Given g.row.W.Denot). HasFinished true (run_for moves v) batch c.args.count s now c.finish_alone.result old new) c.deref-given.ensures c.finish_alone.ensures.finished in
+    (h.left, since_further (run_for moves (arc_value a.given)) g.K.Keeping.numbers a.before (standing_of a.began.value) batch c.args.count s.owner.state now.owner.state c.finish_alone.result old new h.made c.self.invariant.1)
+
+pub returns-then-tells_redone-clause-made : goal.returns-then-tells_redone-clause-made
+returns-then-tells_redone-clause-made g c =
+    let a = c.self.inside in
+    let moves = g.W.Words.moves in
+    let given = arc_value a.given in
+    let s = a.pipeline in
+    let now = c.finish_alone.new.state in
+    let old = c.args.shower.now.shown in
+    let new = c.finish_alone.new.shower.shown in
+    let batch = c.args.plan.now.batch in
+    let count = c.args.count in
+    let answer = c.finish_alone.result in
+    let since = c.self.invariant.1 in
+    let x = standing_of a.began.value in
+    let h = subst (λ (v : Given g.row.W.Denot). HasFinished true (run_for moves v) batch count s now answer old new) c.deref-given.ensures c.finish_alone.ensures.finished in
+    subst (λ m. IsMade moves batch count m (seen moves given x now) answer old new) c.self.view_is
+    (made_further moves given x batch count s now answer old new since.after since.here h.made h.none h.left)
+
+pub returns-then-tells_redone-clause-counted : goal.returns-then-tells_redone-clause-counted
+returns-then-tells_redone-clause-counted g c = λ e.
     let a = c.self.inside in
     let moves = g.W.Words.moves in
     let given = arc_value a.given in
@@ -26,10 +54,24 @@ invariant_of-self-2 g c =
     let count = c.args.count in
     let answer = c.finish_alone.result in
     let b = c.self.invariant.0 in
-    let ahead : Ahead = record { base = s.base; moves = length s.ahead.items } in
-    let made = subst (λ (v : Given g.row.W.Denot). (due : Ahead) × IsUnjudged now due × AreMadeAlone (run_for moves v) batch count s.owner ahead now.owner due answer old new) c.deref-given.ensures c.finish_alone.ensures.made in
-    let alone = alone_behind (run_for moves given) b.0 s ahead b.1 refl refl in
-    (subst (λ (v : Given g.row.W.Denot). HasTurn (run_for moves v) now) c.deref-given.ensures c.finish_alone.ensures.left, since_alone (run_for moves given) g.K.Keeping.numbers a.before (standing_of a.began.value) batch count b.0 s.owner ahead now.owner made.0 answer old new alone made.2 c.self.invariant.1)
+    let since = c.self.invariant.1 in
+    let x = standing_of a.began.value in
+    let ahead : OnBase = record { base = s.base; moves = length s.ahead.items } in
+    let h = subst (λ (v : Given g.row.W.Denot). HasFinished true (run_for moves v) batch count s now answer old new) c.deref-given.ensures c.finish_alone.ensures.finished in
+    subst (λ m. IsMadeByTurns moves batch count m (seen moves given x now) answer old new) c.self.view_is
+    (made_by_turns moves given x batch count s now b.0 ahead answer old new b.1 since.after since.here (at_turn_after (run_for moves given) b.0 s ahead b.1 refl refl) h.made (h.told refl) h.none h.left)
+
+pub invariant_of-self-2 : goal.invariant_of-self-2
+invariant_of-self-2 g c =
+    let a = c.self.inside in
+    let moves = g.W.Words.moves in
+    let s = a.pipeline in
+    let now = c.finish_alone-2.new.state in
+    let old = c.args.shower.now.shown in
+    let new = c.finish_alone-2.new.shower.shown in
+    let batch = c.args.plan.now.batch in
+    let h = subst (λ (v : Given g.row.W.Denot). HasFinished false (run_for moves v) batch c.args.count s now c.finish_alone-2.result old new) c.deref-given.ensures c.finish_alone-2.ensures.finished in
+    (h.left, since_further (run_for moves (arc_value a.given)) g.K.Keeping.numbers a.before (standing_of a.began.value) batch c.args.count s.owner.state now.owner.state c.finish_alone-2.result old new h.made c.self.invariant.1)
 
 pub returns-clause-made : goal.returns-clause-made
 returns-clause-made g c =
@@ -37,69 +79,24 @@ returns-clause-made g c =
     let moves = g.W.Words.moves in
     let given = arc_value a.given in
     let s = a.pipeline in
-    let now = c.finish_alone.new.state in
+    let now = c.finish_alone-2.new.state in
     let old = c.args.shower.now.shown in
-    let new = c.finish_alone.new.shower.shown in
+    let new = c.finish_alone-2.new.shower.shown in
     let batch = c.args.plan.now.batch in
     let count = c.args.count in
-    let answer = c.finish_alone.result in
-    let b = c.self.invariant.0 in
+    let answer = c.finish_alone-2.result in
     let since = c.self.invariant.1 in
     let x = standing_of a.began.value in
-    let ahead : Ahead = record { base = s.base; moves = length s.ahead.items } in
-    let made = subst (λ (v : Given g.row.W.Denot). (due : Ahead) × IsUnjudged now due × AreMadeAlone (run_for moves v) batch count s.owner ahead now.owner due answer old new) c.deref-given.ensures c.finish_alone.ensures.made in
+    let h = subst (λ (v : Given g.row.W.Denot). HasFinished false (run_for moves v) batch count s now answer old new) c.deref-given.ensures c.finish_alone-2.ensures.finished in
     subst (λ m. IsMade moves batch count m (seen moves given x now) answer old new) c.self.view_is
-    (made_alone moves given x batch count s now b.0 ahead made.0 answer old new b.1 since.after since.here (alone_behind (run_for moves given) b.0 s ahead b.1 refl refl) made.2 made.1).made
+    (made_further moves given x batch count s now answer old new since.after since.here h.made h.none h.left)
 
-pub returns-clause-counted : goal.returns-clause-counted
-returns-clause-counted g c = λ e.
+pub finish_alone-requires-clause-may : goal.finish_alone-requires-clause-may
+finish_alone-requires-clause-may g c κs within =
     let a = c.self.inside in
-    let moves = g.W.Words.moves in
-    let given = arc_value a.given in
-    let s = a.pipeline in
-    let now = c.finish_alone.new.state in
-    let old = c.args.shower.now.shown in
-    let new = c.finish_alone.new.shower.shown in
-    let batch = c.args.plan.now.batch in
-    let count = c.args.count in
-    let answer = c.finish_alone.result in
-    let b = c.self.invariant.0 in
-    let since = c.self.invariant.1 in
-    let x = standing_of a.began.value in
-    let ahead : Ahead = record { base = s.base; moves = length s.ahead.items } in
-    let made = subst (λ (v : Given g.row.W.Denot). (due : Ahead) × IsUnjudged now due × AreMadeAlone (run_for moves v) batch count s.owner ahead now.owner due answer old new) c.deref-given.ensures c.finish_alone.ensures.made in
-    subst (λ m. IsMadeByTurns moves batch count m (seen moves given x now) answer old new) c.self.view_is
-    (made_alone moves given x batch count s now b.0 ahead made.0 answer old new b.1 since.after since.here (alone_behind (run_for moves given) b.0 s ahead b.1 refl refl) made.2 made.1)
+    subst (λ (v : Given g.row.W.Denot). MayFinish (run_for g.W.Words.moves v) c.args.plan.now.batch c.args.count a.pipeline) (sym c.deref-given.ensures) (record { behind = c.self.invariant.0; some = subst (λ m. (c.args.count ≤ moves_left (run_of g.W.Words.moves m) m.standing) × (0 < moves_left (run_of g.W.Words.moves m) m.standing)) (sym c.self.view_is) c.requires.some; batch_is = c.requires.batch })
 
-pub invariant_of-self : goal.invariant_of-self
-invariant_of-self g c =
+pub finish_alone-requires-2-clause-may : goal.finish_alone-requires-2-clause-may
+finish_alone-requires-2-clause-may g c κs within =
     let a = c.self.inside in
-    let moves = g.W.Words.moves in
-    let given = arc_value a.given in
-    let s = a.pipeline in
-    let now = c.finish_uncounted.new.state in
-    let old = c.args.shower.now.shown in
-    let new = c.finish_uncounted.new.shower.shown in
-    let batch = c.args.plan.now.batch in
-    let count = c.args.count in
-    let answer = c.finish_uncounted.result in
-    let made = subst (λ (v : Given g.row.W.Denot). AreMadeUncounted (run_for moves v) batch count s.owner.state now.owner.state answer old new) c.deref-given.ensures c.finish_uncounted.ensures.made in
-    (subst (λ (v : Given g.row.W.Denot). HasTurn (run_for moves v) now) c.deref-given.ensures c.finish_uncounted.ensures.left, since_further (run_for moves given) g.K.Keeping.numbers a.before (standing_of a.began.value) batch count s.owner.state now.owner.state answer old new made c.self.invariant.1)
-
-pub returns-then-not-tells_redone-clause-made : goal.returns-then-not-tells_redone-clause-made
-returns-then-not-tells_redone-clause-made g c =
-    let a = c.self.inside in
-    let moves = g.W.Words.moves in
-    let given = arc_value a.given in
-    let s = a.pipeline in
-    let now = c.finish_uncounted.new.state in
-    let old = c.args.shower.now.shown in
-    let new = c.finish_uncounted.new.shower.shown in
-    let batch = c.args.plan.now.batch in
-    let count = c.args.count in
-    let answer = c.finish_uncounted.result in
-    let since = c.self.invariant.1 in
-    let x = standing_of a.began.value in
-    let made = subst (λ (v : Given g.row.W.Denot). AreMadeUncounted (run_for moves v) batch count s.owner.state now.owner.state answer old new) c.deref-given.ensures c.finish_uncounted.ensures.made in
-    subst (λ m. IsMade moves batch count m (seen moves given x now) answer old new) c.self.view_is
-    (made_uncounted moves given x batch count s now answer old new since.after since.here made c.finish_uncounted.ensures.idle (subst (λ (v : Given g.row.W.Denot). HasTurn (run_for moves v) now) c.deref-given.ensures c.finish_uncounted.ensures.left))
+    subst (λ (v : Given g.row.W.Denot). MayFinish (run_for g.W.Words.moves v) c.args.plan.now.batch c.args.count a.pipeline) (sym c.deref-given.ensures) (record { behind = c.self.invariant.0; some = subst (λ m. (c.args.count ≤ moves_left (run_of g.W.Words.moves m) m.standing) × (0 < moves_left (run_of g.W.Words.moves m) m.standing)) (sym c.self.view_is) c.requires.some; batch_is = c.requires.batch })

@@ -15,7 +15,7 @@ returns-clause-tells g c =
     subst (λ m. TellsPoint m c.in_ok-point.point) c.self.view_is
     (record {
       schedule = c.in_ok-point.ensures.schedule ∙ ap (λ x. x.schedule) c.deref.ensures;
-      stage = ap Some c.in_ok-point.ensures.stage ∙ stage_told r s c.self.invariant.0.1.owned.sound c.if-self.false;
+      stage = ap Some c.in_ok-point.ensures.stage ∙ stage_told r s c.self.invariant.0.1.at_turn.owned.sound c.if-self.false;
       total = ap (λ (x : Standing). x.total) c.in_ok-point.ensures.stands;
       fixed = λ b. c.in_ok-point.ensures.fixed b ∙ ap (λ x. fixed_at x.fixed b) c.deref.ensures;
       array = c.in_ok-point.ensures.lawful.array ∙ ap (λ x. x.grid.now) c.deref.ensures;

@@ -16,7 +16,7 @@ returns-clause-tells g c =
     subst (λ m. TellsPoint m point) c.self.view_is
     (record {
       schedule = c.point_in.ensures.schedule ∙ ap (λ x. x.schedule) c.deref.ensures;
-      stage = ap Some c.point_in.ensures.stage ∙ stage_told r s c.self.invariant.0.1.owned.sound c.if-self.false;
+      stage = ap Some c.point_in.ensures.stage ∙ stage_told r s c.self.invariant.0.1.at_turn.owned.sound c.if-self.false;
       total = ap (λ (x : Standing). x.total) c.point_in.ensures.stands;
       fixed = λ b. c.point_in.ensures.fixed b ∙ ap (λ x. fixed_at x.fixed b) c.deref.ensures;
       array = c.point_in.ensures.lawful.array ∙ ap (λ x. x.grid.now) c.deref.ensures;
