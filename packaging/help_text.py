@@ -47,8 +47,8 @@ def help_of_text(name, text):
     for paragraph in paragraphs:
         title, *lines = paragraph.split("\n")
         rows = [ROW.match(line).groups() if ROW.match(line) else (line, None) for line in lines]
-        if title.startswith("Usage: ") and not lines:
-            found.usage = title.removeprefix("Usage: ")
+        if title.startswith("Usage: "):
+            found.usage = " ".join(paragraph.removeprefix("Usage: ").split())
         elif title == "Commands:":
             found.commands = rows
         elif title == "Options:":
