@@ -212,7 +212,7 @@ const BATCH: u64 = 10;
 
 // Holds the first commit of each batch until a judgement of the batch after it has begun, if that is of the same stage.
 #[derive(Drop)]
-struct OnBase<'a> {
+struct Ahead<'a> {
     rt: &'a HostRuntime,
     batch: u64,
     stage: u64,
@@ -221,7 +221,7 @@ struct OnBase<'a> {
     failed: AtomicU64,
 }
 
-impl<'a> OnBase<'a> {
+impl<'a> Ahead<'a> {
     // Nothing has begun yet in a run of so many moves.
     fn of(
         alloc: Global,
@@ -229,12 +229,12 @@ impl<'a> OnBase<'a> {
         batch: u64,
         stage: u64,
         moves: u64,
-    ) -> Result<OnBase<'a>, AllocError> {
+    ) -> Result<Ahead<'a>, AllocError> {
         let mut begun = Vec::new(alloc);
         for _batch in 0..moves / batch.max(1) {
             begun.push(AtomicU64::new(0))?;
         }
-        Ok(OnBase {
+        Ok(Ahead {
             rt,
             batch,
             stage,
@@ -249,7 +249,7 @@ impl<'a> OnBase<'a> {
     }
 }
 
-impl Gate for OnBase<'_> {
+impl Gate for Ahead<'_> {
     fn before_judge(&self, k: u64) {
         if let Some(begun) = self.begun(k) {
             begun.fetch_add(1, Ordering::SeqCst);
@@ -281,7 +281,7 @@ fn workers_judge_a_batch_while_the_one_before_is_committed(rt: HostRuntime) -> R
                         batch: BATCH,
                         workers,
                     };
-                    let gate = OnBase::of(rt.alloc(), &rt, BATCH, STAGE, MOVES)?;
+                    let gate = Ahead::of(rt.alloc(), &rt, BATCH, STAGE, MOVES)?;
                     let alone = random_end(&rt, rt.alloc(), 5, Maker::Alone, pace, &NoGate)?;
                     let beside = random_end(&rt, rt.alloc(), 5, maker, pace, &gate)?;
                     assert_eq!(rt;
@@ -631,7 +631,7 @@ fn all_accepted<R: Threads + Wait + Sync>(
     alloc: Global,
     maker: Maker,
     workers: u64,
-    gate: &OnBase<'_>,
+    gate: &Ahead<'_>,
 ) -> Result<(u64, u64, u64), Fail> {
     let of = read_setting(alloc, PAIR_ARCH, PAIR)?;
     let schedule = Schedule::new(1, 2, 500, 12_288)?;
@@ -651,7 +651,7 @@ fn turns_end_whose_moves_are_all_accepted(rt: HostRuntime) -> Result<(), Fail> {
         &mut || -> Result<(), Fail> {
             for maker in [Maker::Stages, Maker::Turns] {
                 for workers in [1, 3] {
-                    let gate = OnBase::of(rt.alloc(), &rt, 4096, 12_288, 12_288)?;
+                    let gate = Ahead::of(rt.alloc(), &rt, 4096, 12_288, 12_288)?;
                     let made = all_accepted(&rt, rt.alloc(), maker, workers, &gate)?;
                     assert_eq!(rt; made, (12_288, 12_288, 12_287), "{maker:?}, {workers}");
                     assert_eq!(rt;

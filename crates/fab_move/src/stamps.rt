@@ -15,9 +15,9 @@ ghost use Rattle.fab_move.specs.KeptNets.{AreKept};
 ghost use Rattle.fab_move.specs.StampTables.{IsBlock, IsQuiet, IsTable, IsWithin, kept_stamp, near_of};
 
 use crate::kept_nets::LargeNets;
+use crate::proposals::Proposal;
 use fab_arch::{Grid, Site};
 use fab_cost::{EdgeBoxes, has_many_terminals, lift_one};
-use crate::proposals::Proposal;
 use fab_net::{BlockId, Design, NetId};
 use fab_site::Swap;
 use fab_site::index::{index_of, site_count};
